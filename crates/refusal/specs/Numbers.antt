@@ -1,0 +1,48 @@
+-- The number and the place of each refusal, as the requirements' table has them.
+use Prim.Native.Nat.{ℕ}
+use Rattle.refusal.specs.declared.Refusal.{Refusal}
+use Rattle.refusal.specs.declared.Refusal.the-variants.{Header, TypeRecord, StreamEnded, Natural, Jet, CanonicalOrder, HiddenElsewhere, BothHidden, HiddenRepeated, Closing, OneChildDisconnect, Arrow, Hash, OverLimit, Witness, Input, StoreShort, FailReached, PrunedReached, NodeRecord}
+
+abbrev pub numberOf : Refusal → ℕ
+numberOf (Header at) = 1
+numberOf (TypeRecord at) = 2
+numberOf (StreamEnded at) = 3
+numberOf (Natural at) = 4
+numberOf (Jet at) = 5
+numberOf (CanonicalOrder at) = 6
+numberOf (HiddenElsewhere at) = 7
+numberOf (BothHidden at) = 8
+numberOf (HiddenRepeated at) = 9
+numberOf (Closing at) = 10
+numberOf (OneChildDisconnect at) = 11
+numberOf (Arrow at) = 12
+numberOf (Hash at) = 13
+numberOf (OverLimit at) = 14
+numberOf (Witness at) = 15
+numberOf (Input at) = 16
+numberOf (StoreShort at) = 17
+numberOf (FailReached at) = 18
+numberOf (PrunedReached at) = 19
+numberOf (NodeRecord at) = 26
+
+abbrev pub placeOf : Refusal → ℕ
+placeOf (Header at) = at
+placeOf (TypeRecord at) = at
+placeOf (StreamEnded at) = at
+placeOf (Natural at) = at
+placeOf (Jet at) = at
+placeOf (CanonicalOrder at) = at
+placeOf (HiddenElsewhere at) = at
+placeOf (BothHidden at) = at
+placeOf (HiddenRepeated at) = at
+placeOf (Closing at) = at
+placeOf (OneChildDisconnect at) = at
+placeOf (Arrow at) = at
+placeOf (Hash at) = at
+placeOf (OverLimit at) = at
+placeOf (Witness at) = at
+placeOf (Input at) = at
+placeOf (StoreShort at) = at
+placeOf (FailReached at) = at
+placeOf (PrunedReached at) = at
+placeOf (NodeRecord at) = at

@@ -1,0 +1,11 @@
+pub mod Bits
+pub mod Table
+pub mod Types
+pub mod Values
+pub mod Naturals
+pub mod Nodes
+pub mod Canonical
+pub mod Terms
+pub mod Typing
+pub mod Meaning
+pub mod Pins

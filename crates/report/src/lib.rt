@@ -1,0 +1,1 @@
+// The public report's definitions stand in specs/; this crate has no code.

@@ -1,0 +1,129 @@
+-- A disconnect with one child is refused (11). Then the arrows: one for each node (12 at the node count),
+-- and each node's arrow as the report's typing has it, on indices of the type table (12 at the first such node).
+use mathlib.Core.Bool.{Bool, true, false}
+use mathlib.Core.List.{List, [], _∷_}
+use Prim.Native.Nat.{ℕ, zero, suc, _+_, _*_, _-_, _/_}
+use lib.Dec.{ltb, eqb}
+use lib.ListN.{length, getD}
+use Rattle.limits.specs.Limits.{arrowBytes}
+use Rattle.refusal.specs.declared.Refusal.the-variants.{OneChildDisconnect, Arrow as BadArrow}
+use Rattle.report.specs.Nodes.{Node, comp, case, pair, disconnect, injl, injr, take, drop, disconnect1, iden, unit, witness, fail, hidden, word}
+use Rattle.scope.specs.Check.{Check, passed, refused, _>>=_, require, each}
+use Rattle.scope.specs.Numbers.{be16, tabulate, every}
+use Rattle.scope.specs.Types2.{TypeRecord, typeAt}
+use Rattle.scope.specs.Nodes.{nodeAt, onOneChild}
+use Rattle.scope.specs.Walk6to9.{hiddenAt}
+
+-- source and target as indices of the type table
+pub record Arrow : Type 0 where
+  pub source : ℕ
+  pub target : ℕ
+
+unfoldable pub arrowRecord : List ℕ → (i : ℕ) → Arrow
+arrowRecord bytes i = record { source = be16 bytes (arrowBytes * i); target = be16 bytes (arrowBytes * i + 2) }
+
+unfoldable pub arrowRecords : List ℕ → List Arrow
+unfolding tabulate arrowRecord
+arrowRecords bytes = tabulate (length bytes / arrowBytes) (arrowRecord bytes)
+
+abbrev pub noArrow : Arrow
+noArrow = record { source = 0; target = 0 }
+
+unfoldable pub source : List Arrow → (i : ℕ) → ℕ
+source arrows i = (getD arrows i noArrow) .source
+
+unfoldable pub target : List Arrow → (i : ℕ) → ℕ
+target arrows i = (getD arrows i noArrow) .target
+
+-- what record j of the type table is
+module _ (types : List TypeRecord) where
+  unfoldable pub isUnit : (j : ℕ) → Bool
+  unfolding typeAt
+  isUnit j = eqb ((typeAt types j) .tag) 0
+
+  -- the sum, or the product, of these two
+  unfoldable pub isSum : (j left right : ℕ) → Bool
+  unfolding typeAt every
+  isSum j left right = every (eqb ((typeAt types j) .tag) 1 ∷ eqb ((typeAt types j) .left) left ∷ eqb ((typeAt types j) .right) right ∷ [])
+
+  unfoldable pub isProduct : (j left right : ℕ) → Bool
+  unfolding typeAt every
+  isProduct j left right = every (eqb ((typeAt types j) .tag) 2 ∷ eqb ((typeAt types j) .left) left ∷ eqb ((typeAt types j) .right) right ∷ [])
+
+  unfoldable pub leftAt : (j : ℕ) → ℕ
+  unfolding typeAt
+  leftAt j = (typeAt types j) .left
+
+  unfoldable pub rightAt : (j : ℕ) → ℕ
+  unfolding typeAt
+  rightAt j = (typeAt types j) .right
+
+  -- the very type of words of 2 ^ k bits: a sum of units, or a product of a word type with itself
+  unfoldable pub isWord : (k j : ℕ) → Bool
+  unfolding isUnit isSum isProduct leftAt rightAt every
+  isWord zero j = every (isSum j (leftAt j) (rightAt j) ∷ isUnit (leftAt j) ∷ isUnit (rightAt j) ∷ [])
+  isWord (suc k) j = every (isProduct j (leftAt j) (leftAt j) ∷ isWord k (leftAt j) ∷ [])
+
+-- the arrow of each kind of node
+module _ (types : List TypeRecord) (nodes : List Node) (arrows : List Arrow) where
+  -- node j goes from this to that
+  unfoldable pub goes : (j from to : ℕ) → Bool
+  unfolding source target every
+  goes j from to = every (eqb (source arrows j) from ∷ eqb (target arrows j) to ∷ [])
+
+  -- a branch of a case goes from its part of the sum times the rest to the case's target; a hidden one is free
+  unfoldable pub branchRule : (j part rest to : ℕ) → Bool
+  unfolding hiddenAt source target isProduct every
+  branchRule j part rest to = elim (hiddenAt nodes j) [
+    | true ↦ true
+    | false ↦ every (isProduct types (source arrows j) part rest ∷ eqb (target arrows j) to ∷ [])
+  ]
+
+  -- a node from A to B
+  unfoldable pub kindRule : (A B : ℕ) → Node → Bool
+  unfolding goes branchRule source target isUnit isSum isProduct isWord leftAt rightAt every
+  kindRule A B (comp s t) = every (eqb (source arrows s) A ∷ goes t (target arrows s) B ∷ [])
+  kindRule A B (case s t) =
+      let sum = leftAt types A in
+      let rest = rightAt types A in
+      every (isProduct types A sum rest ∷ isSum types sum (leftAt types sum) (rightAt types sum)
+      ∷ branchRule s (leftAt types sum) rest B ∷ branchRule t (rightAt types sum) rest B ∷ [])
+  kindRule A B (pair s t) = every (eqb (source arrows s) A ∷ eqb (source arrows t) A ∷ isProduct types B (target arrows s) (target arrows t) ∷ [])
+  kindRule A B (disconnect s t) =
+      let word = leftAt types (source arrows s) in
+      let b = leftAt types (target arrows s) in
+      let c = rightAt types (target arrows s) in
+      every (isProduct types (source arrows s) word A ∷ isWord types 8 word ∷ isProduct types (target arrows s) b c
+      ∷ eqb (source arrows t) c ∷ isProduct types B b (target arrows t) ∷ [])
+  kindRule A B (injl s) = every (eqb (source arrows s) A ∷ isSum types B (target arrows s) (rightAt types B) ∷ [])
+  kindRule A B (injr s) = every (eqb (source arrows s) A ∷ isSum types B (leftAt types B) (target arrows s) ∷ [])
+  kindRule A B (take s) = every (isProduct types A (source arrows s) (rightAt types A) ∷ eqb (target arrows s) B ∷ [])
+  kindRule A B (drop s) = every (isProduct types A (leftAt types A) (source arrows s) ∷ eqb (target arrows s) B ∷ [])
+  kindRule A B (disconnect1 s) = false
+  kindRule A B iden = eqb A B
+  kindRule A B unit = isUnit types B
+  kindRule A B witness = true
+  kindRule A B (fail bytes) = true
+  kindRule A B (hidden bytes) = every (eqb A 0 ∷ eqb B 0 ∷ [])
+  kindRule A B (word n bits) = every (isUnit types A ∷ isWord types (n - 1) B ∷ [])
+
+  -- both ends of the arrow are in the type table, and it is the node's
+  unfoldable pub arrowRule : (i : ℕ) → Bool
+  unfolding source target kindRule nodeAt every
+  arrowRule i = every (
+      ltb (source arrows i) (length types)
+      ∷ ltb (target arrows i) (length types)
+      ∷ kindRule (source arrows i) (target arrows i) (nodeAt nodes i)
+      ∷ [])
+
+  -- node i is no disconnect with one child
+  unfoldable pub noOneChild : (i : ℕ) → Bool
+  unfolding nodeAt onOneChild
+  noOneChild i = onOneChild (nodeAt nodes i) (λ child. false) true
+
+  unfoldable pub checkArrows : Check (Unit {0})
+  unfolding _>>=_ require each noOneChild arrowRule
+  checkArrows = do
+    whole ← each (length nodes) noOneChild OneChildDisconnect
+    count ← require (eqb (length arrows) (length nodes)) (BadArrow (length nodes))
+    each (length nodes) arrowRule BadArrow

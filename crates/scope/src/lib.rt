@@ -1,0 +1,1 @@
+// The requirements as definitions stand in specs/; this crate has no code.
