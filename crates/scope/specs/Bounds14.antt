@@ -18,72 +18,36 @@ pub record Bound : Type 0 where
   pub cost : ℕ
 
 unfoldable pub unitRow : Bound
-unitRow = record {
-  cells = 0;
-  frames = 0;
-  cost = nodeCost;
-}
+unitRow = record { cells = 0; frames = 0; cost = nodeCost }
 
 -- iden and word of width w
 unfoldable pub copyRow : (w : ℕ) → Bound
-copyRow w = record {
-  cells = 0;
-  frames = 0;
-  cost = nodeCost + w;
-}
+copyRow w = record { cells = 0; frames = 0; cost = nodeCost + w }
 
 -- injl, injr, take, drop, assertions
 unfoldable pub childRow : Bound → Bound
-childRow child = record {
-  cells = child .cells;
-  frames = child .frames;
-  cost = nodeCost + child .cost;
-}
+childRow child = record { cells = child .cells; frames = child .frames; cost = nodeCost + child .cost }
 
 unfoldable pub pairRow : Bound → Bound → Bound
-pairRow left right = record {
-  cells = max (left .cells) (right .cells);
-  frames = max (left .frames) (right .frames);
-  cost = nodeCost + (left .cost + right .cost);
-}
+pairRow left right = record { cells = max (left .cells) (right .cells); frames = max (left .frames) (right .frames); cost = nodeCost + (left .cost + right .cost) }
 
 unfoldable pub caseRow : Bound → Bound → Bound
-caseRow left right = record {
-  cells = max (left .cells) (right .cells);
-  frames = max (left .frames) (right .frames);
-  cost = nodeCost + max (left .cost) (right .cost);
-}
+caseRow left right = record { cells = max (left .cells) (right .cells); frames = max (left .frames) (right .frames); cost = nodeCost + max (left .cost) (right .cost) }
 
 -- comp with a middle of width m
 unfoldable pub compRow : (m : ℕ) → Bound → Bound → Bound
-compRow m left right = record {
-  cells = m + max (left .cells) (right .cells);
-  frames = 1 + max (left .frames) (right .frames);
-  cost = nodeCost + m + (left .cost + right .cost);
-}
+compRow m left right = record { cells = m + max (left .cells) (right .cells); frames = 1 + max (left .frames) (right .frames); cost = nodeCost + m + (left .cost + right .cost) }
 
 -- disconnect with left source s, left target t and B of width b
 unfoldable pub disconnectRow : (s t b : ℕ) → Bound → Bound → Bound
-disconnectRow s t b left right = record {
-  cells = s + t + max (left .cells) (right .cells);
-  frames = 2 + max (left .frames) (right .frames);
-  cost = nodeCost + (2 * s + t + b) + (left .cost + right .cost);
-}
+disconnectRow s t b left right = record { cells = s + t + max (left .cells) (right .cells); frames = 2 + max (left .frames) (right .frames); cost = nodeCost + (2 * s + t + b) + (left .cost + right .cost) }
 
 -- witness of width w
 unfoldable pub witnessRow : (w : ℕ) → Bound
-witnessRow w = record {
-  cells = w;
-  frames = 0;
-  cost = nodeCost + w;
-}
+witnessRow w = record { cells = w; frames = 0; cost = nodeCost + w }
 
 unfoldable pub failRow : Bound
-failRow = record {
-  cells = 0;
-  frames = 0;
-  cost = 0;
-}
+failRow = record { cells = 0; frames = 0; cost = 0 }
 
 -- a node that stands for no term has no row; nothing runs it
 unfoldable pub noRow : Bound
@@ -123,9 +87,14 @@ unfolding whole bounds
 wholeCost P = (bounds (whole P)) .cost
 
 -- cells, frames, cost over their limit: the first of these
+unfoldable pub checkLimits : (cells frames cost : ℕ) → Check (Unit {0})
+unfolding _>>=_ require
+checkLimits cells frames cost = do
+  first ← require (leb cells cellCount) (OverLimit 0)
+  second ← require (leb frames frameCount) (OverLimit 1)
+  require (leb cost costLimit) (OverLimit 2)
+
+-- the limits on the whole program
 unfoldable pub checkBounds : Program → Check (Unit {0})
-unfolding _>>=_ require wholeCells wholeFrames wholeCost
-checkBounds P = do
-  cells ← require (leb (wholeCells P) cellCount) (OverLimit 0)
-  frames ← require (leb (wholeFrames P) frameCount) (OverLimit 1)
-  require (leb (wholeCost P) costLimit) (OverLimit 2)
+unfolding checkLimits wholeCells wholeFrames wholeCost
+checkBounds P = checkLimits (wholeCells P) (wholeFrames P) (wholeCost P)

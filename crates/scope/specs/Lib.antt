@@ -19,3 +19,6 @@ pub mod Run
 pub mod Stages26
 pub mod Rows
 pub mod Dossiers
+pub mod Known
+pub mod BoundsTable
+pub mod StageRows

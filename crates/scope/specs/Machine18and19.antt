@@ -148,6 +148,20 @@ peek s = elim (s .reads) [
   | f ∷ rs ↦ need (inFrame 1 f) (done (s .cells (f .cursor)))
 ]
 
+-- an input of width above 0 gets a read frame at cell 0, its padding written as 0; an output of width above 0 a write frame after it
+unfoldable pub input : (size most : ℕ) → (n : ℕ) → List Bit → State → Step
+unfolding _>>=_ newFrame writeBits moveFrame
+input size most zero bits s = done s
+input size most (suc n) bits s = do
+  s ← newFrame size most (suc n) s
+  s ← writeBits bits s
+  moveFrame s
+
+unfoldable pub output : (size most : ℕ) → (n : ℕ) → State → Step
+unfolding newFrame
+output size most zero s = done s
+output size most (suc n) s = newFrame size most (suc n) s
+
 -- a term on a machine with `size` cells and room for `most` frames
 unfoldable pub exec : (size most : ℕ) → Term → State → Step
 unfolding _>>=_ newFrame moveFrame dropFrame writeBits skip copy fwd back peek padded padL padR width wordTy
@@ -222,20 +236,6 @@ exec size most (disconnect A B C h f g) s = do
   s ← dropFrame s
   dropFrame s
 exec size most bad s = stuck
-
--- an input of width above 0 gets a read frame at cell 0, its padding written as 0; an output of width above 0 a write frame after it
-unfoldable pub input : (size most : ℕ) → (n : ℕ) → List Bit → State → Step
-unfolding _>>=_ newFrame writeBits moveFrame
-input size most zero bits s = done s
-input size most (suc n) bits s = do
-  s ← newFrame size most (suc n) s
-  s ← writeBits bits s
-  moveFrame s
-
-unfoldable pub output : (size most : ℕ) → (n : ℕ) → State → Step
-unfolding newFrame
-output size most zero s = done s
-output size most (suc n) s = newFrame size most (suc n) s
 
 -- a whole run of a term from A to B on an input value, on cells with any old bits
 unfoldable pub machine : (size most : ℕ) → Term → (A B : Ty) → Val → Cells → Step
