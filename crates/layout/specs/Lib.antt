@@ -1,0 +1,14 @@
+pub mod Mach
+pub mod Rules
+pub mod Exec
+pub mod Safe
+pub mod Layout
+pub mod Follow
+pub mod Match
+pub mod Children
+pub mod Join
+pub mod Heights
+pub mod Whole
+pub mod Stores
+pub mod Theorems
+pub mod Examples
