@@ -1,0 +1,228 @@
+// Reading a lent byte slice at a bit position: a bit, two bits, a natural, 32 and 64 whole bytes, and whether the slice closes there.
+// A reader takes the position by value and answers with the next one. The bits of a slice are `streamOf` of the requirements:
+// from the top bit of each byte on, and none at all above the dossier's limit, so that no position wraps.
+ghost use mathlib.Core.Path.{_≡_};
+ghost use Prim.Native.Nat.{_+_, _*_, _<_, _≤_};
+ghost use lib.Dec.{leb};
+ghost use lib.ListN.{length, take, drop};
+ghost use Rattle.limits.specs.Limits.{naturalLength, hashBytes, failBytes};
+ghost use Rattle.report.specs.Bits.{bitsOf, numberFrom};
+ghost use Rattle.scope.specs.Numbers.{streamOf};
+ghost use Rattle.scope.specs.Reading3to5.{code, naturalUpTo, octets};
+ghost use Rattle.scope.specs.Closing10.{closes};
+ghost use Rattle.bititer.specs.Answers.{gotCode, gotNatural, gotBytes, stored, storing};
+ghost use Rattle.bititer.specs.Parts.{OnesMean, BitsMean};
+
+// One or two bits: their number and the position after them.
+pub enum CodeRead {
+    Read(u8, usize),
+    Ended,
+}
+
+// What can be wrong with a natural: the stream ended in it, a length above 31 was read, or it is over its bound.
+pub enum NaturalFault {
+    Ended,
+    TooLong,
+    OverBound,
+}
+
+// A natural and the position after it.
+pub enum NaturalRead {
+    Read(u32, usize),
+    Fault(NaturalFault),
+}
+
+// Why bytes are not read into a store: the stream ended in them, or the store has no room for them.
+pub enum BytesFault {
+    Ended,
+    NoRoom,
+}
+
+// Whole bytes that stand in the store: the position after them.
+pub enum BytesRead {
+    Read(usize),
+    Fault(BytesFault),
+}
+
+// A part of a natural's code, as a number, with the position after it.
+enum Part {
+    Number(u32, usize),
+    Cut,
+}
+
+// How many bits the slice's stream has.
+fn stream_length(s: &[u8]) -> usize
+    ensures { λ r. ⌜ r ≡ length (streamOf (now (s .entry))) ⌝ }
+{
+    if limits::DOSSIER_BYTES < s.len() {
+        return 0;
+    }
+    s.len() * 8
+}
+
+// The bit at p.
+pub fn bit(s: &[u8], p: usize) -> CodeRead
+    ensures { λ r. ⌜ gotCode r ≡ code (streamOf (now (s .entry))) 1 p ⌝ }
+{
+    if stream_length(s) <= p {
+        return CodeRead::Ended;
+    }
+    let i = p / 8;
+    let place = 7 - p % 8;
+    CodeRead::Read((s[i] >> place) % 2, p + 1)
+}
+
+// The two bits from p on, as a number.
+pub fn two_bits(s: &[u8], p: usize) -> CodeRead
+    ensures { λ r. ⌜ gotCode r ≡ code (streamOf (now (s .entry))) 2 p ⌝ }
+{
+    let CodeRead::Read(high, middle) = bit(s, p) else {
+        return CodeRead::Ended;
+    };
+    let CodeRead::Read(low, next) = bit(s, middle) else {
+        return CodeRead::Ended;
+    };
+    CodeRead::Read(high * 2 + low, next)
+}
+
+// How many ones stand from p on, and the position after the zero that ends them.
+fn ones(s: &[u8], p: usize) -> Part
+    ensures { λ r. ⌜ OnesMean (streamOf (now (s .entry))) p r ⌝ }
+{
+    let mut at = p;
+    let mut count: u32 = 0;
+    loop {
+        let CodeRead::Read(b, next) = bit(s, at) else {
+            return Part::Cut;
+        };
+        at = next;
+        if b == 0 {
+            return Part::Number(count, at);
+        }
+        count += 1;
+    }
+}
+
+// The number that is 1 followed by the next `count` bits.
+fn bits_after_one(s: &[u8], p: usize, count: u32) -> Part
+    requires { ⌜ count ≤ naturalLength ⌝ }
+    ensures { λ r. ⌜ BitsMean (streamOf (now (s .entry))) p count r ⌝ }
+{
+    let mut at = p;
+    let mut n: u32 = 1;
+    let mut left = count;
+    while 0 < left {
+        let CodeRead::Read(b, next) = bit(s, at) else {
+            return Part::Cut;
+        };
+        n = n * 2 + b as u32;
+        at = next;
+        left -= 1;
+    }
+    Part::Number(n, at)
+}
+
+// The natural from p on, which is at most `bound`. A length is refused before its bits are asked for.
+pub fn natural(s: &[u8], p: usize, bound: u32) -> NaturalRead
+    ensures { λ r. ⌜ gotNatural r ≡ naturalUpTo (streamOf (now (s .entry))) bound p ⌝ }
+{
+    let Part::Number(count, first) = ones(s, p) else {
+        return NaturalRead::Fault(NaturalFault::Ended);
+    };
+    let mut lengths = count;
+    let mut at = first;
+    let mut n: u32 = 1;
+    while 0 < lengths {
+        if limits::NATURAL_LENGTH < n {
+            return NaturalRead::Fault(NaturalFault::TooLong);
+        }
+        let Part::Number(longer, next) = bits_after_one(s, at, n) else {
+            return NaturalRead::Fault(NaturalFault::Ended);
+        };
+        n = longer;
+        at = next;
+        lengths -= 1;
+    }
+    if n <= bound {
+        NaturalRead::Read(n, at)
+    } else {
+        NaturalRead::Fault(NaturalFault::OverBound)
+    }
+}
+
+// Whether n places from `at` on lie among `all`.
+fn has_room(all: usize, at: usize, n: usize) -> bool
+    ensures { λ r. ⌜ r ≡ leb (at + n) all ⌝ }
+{
+    if all < n {
+        return false;
+    }
+    at <= all - n
+}
+
+// The byte whose top bit is bit k of byte i: what is left of that byte, and the beginning of the next.
+fn byte_from(s: &[u8], i: usize, k: usize) -> u8
+    requires { ⌜ (k < 8) × (8 * i + k + 8 ≤ 8 * length (now s)) ⌝ }
+    ensures { λ r. ⌜ r ≡ numberFrom 0 (take 8 (drop (8 * i + k) (bitsOf (now (s .entry))))) ⌝ }
+{
+    if k == 0 {
+        return s[i];
+    }
+    (s[i] << k) + (s[i + 1] >> (8 - k))
+}
+
+// n bytes from p on, into the store from the index `at` on.
+fn bytes(s: &[u8], p: usize, store: &mut [u8], at: usize, n: usize) -> BytesRead
+    requires { ⌜ n ≤ failBytes ⌝ }
+    ensures { λ r. ⌜ stored (gotBytes r) (now (store .exit)) ≡ storing (octets (streamOf (now (s .entry))) n p) (now (store .entry)) at ⌝ }
+{
+    if !has_room(stream_length(s), p, 8 * n) {
+        return BytesRead::Fault(BytesFault::Ended);
+    }
+    if !has_room(store.len(), at, n) {
+        return BytesRead::Fault(BytesFault::NoRoom);
+    }
+    let first = p / 8;
+    let k = p % 8;
+    let mut j: usize = 0;
+    while j < n {
+        let b = byte_from(s, first + j, k);
+        store[at + j] = b;
+        j += 1;
+    }
+    BytesRead::Read(p + 8 * n)
+}
+
+// The 32 bytes of a hash.
+pub fn hash_bytes(s: &[u8], p: usize, store: &mut [u8], at: usize) -> BytesRead
+    ensures { λ r. ⌜ stored (gotBytes r) (now (store .exit)) ≡ storing (octets (streamOf (now (s .entry))) hashBytes p) (now (store .entry)) at ⌝ }
+{
+    bytes(s, p, store, at, limits::HASH_BYTES)
+}
+
+// The 64 bytes of a fail node.
+pub fn fail_bytes(s: &[u8], p: usize, store: &mut [u8], at: usize) -> BytesRead
+    ensures { λ r. ⌜ stored (gotBytes r) (now (store .exit)) ≡ storing (octets (streamOf (now (s .entry))) failBytes p) (now (store .entry)) at ⌝ }
+{
+    bytes(s, p, store, at, limits::FAIL_BYTES)
+}
+
+// Whether the stream ends at p, but for fewer than eight zeros.
+pub fn closes(s: &[u8], p: usize) -> bool
+    ensures { λ r. ⌜ r ≡ closes (streamOf (now (s .entry))) p ⌝ }
+{
+    let all = stream_length(s);
+    if all < p {
+        return false;
+    }
+    if 8 <= all - p {
+        return false;
+    }
+    if all == p {
+        return true;
+    }
+    let i = p / 8;
+    let k = p % 8;
+    let rest = s[i] << k;
+    rest == 0
+}

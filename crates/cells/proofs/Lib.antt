@@ -1,0 +1,5 @@
+-- Laws for callers, of a cell in its byte, of copies, and of the machine's cells; and the pins of the public calls.
+pub mod Bytes
+pub mod Copies
+pub mod Machine
+pub mod Pins

@@ -1,0 +1,10 @@
+-- Copying in a list of bits, as the machine copies its cells: one bit after the other, each from the list as it then is.
+-- A place past the end reads as 0, and a write there does nothing.
+use mathlib.Core.List.{List}
+use Prim.Native.Nat.{ℕ, zero, suc}
+use lib.ListN.{getD, set}
+use Rattle.report.specs.Bits.{Bit}
+
+unfoldable pub copyBits : List Bit → (from to n : ℕ) → List Bit
+copyBits l from to zero = l
+copyBits l from to (suc n) = copyBits (set l to (getD l from 0)) (suc from) (suc to) n

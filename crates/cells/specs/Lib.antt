@@ -1,0 +1,2 @@
+-- Copying in a list of bits.
+pub mod Copying

@@ -1,0 +1,81 @@
+// The machine's cells, packed in lent bytes from the top bit of each: one is read or written, a run is copied or cleared.
+// Past the end a cell reads as 0 and a write does nothing. A position and a count are u32, so that a usize holds their sum.
+// Each promise is over the list of bits; bytes are told by their bits (bititer's law bits-tell).
+ghost use mathlib.Core.Path.{_≡_};
+ghost use Prim.Native.Nat.{_%_, _<_};
+ghost use lib.ListN.{getD, set};
+ghost use lib.Seq.{sets};
+ghost use Rattle.report.specs.Bits.{byteBits, bitsOf};
+ghost use Rattle.scope.specs.Numbers.{zeros};
+ghost use Rattle.cells.specs.Copying.{copyBits};
+
+// The byte x with its bit k, from the top, set to b.
+fn with_bit(x: u8, k: usize, b: u8) -> u8
+    requires { ⌜ (k < 8) × (b < 2) ⌝ }
+    ensures { λ r. ⌜ byteBits r ≡ set (byteBits x) k b ⌝ }
+{
+    let place = 7 - k;
+    let unit = 1u8 << place;
+    let old = (x >> place) % 2;
+    x - old * unit + b * unit
+}
+
+// The cell at p.
+fn cell(cells: &[u8], p: usize) -> u8
+    ensures { λ r. ⌜ r ≡ getD (bitsOf (now (cells .entry))) p 0 ⌝ }
+{
+    let i = p / 8;
+    if i < cells.len() {
+        let place = 7 - p % 8;
+        (cells[i] >> place) % 2
+    } else {
+        0
+    }
+}
+
+// The cell at p set to b % 2.
+fn put_cell(cells: &mut [u8], p: usize, b: u8)
+    ensures { λ _. ⌜ bitsOf (now (cells .exit)) ≡ set (bitsOf (now (cells .entry))) p (b % 2) ⌝ }
+{
+    let i = p / 8;
+    if i < cells.len() {
+        cells[i] = with_bit(cells[i], p % 8, b % 2);
+    }
+}
+
+// The cell at p; 0 past the end.
+pub fn read_cell(cells: &[u8], p: u32) -> u8
+    ensures { λ r. ⌜ r ≡ getD (bitsOf (now (cells .entry))) p 0 ⌝ }
+{
+    cell(cells, p as usize)
+}
+
+// The cell at p set to b % 2; nothing past the end.
+pub fn write_cell(cells: &mut [u8], p: u32, b: u8)
+    ensures { λ _. ⌜ bitsOf (now (cells .exit)) ≡ set (bitsOf (now (cells .entry))) p (b % 2) ⌝ }
+{
+    put_cell(cells, p as usize, b);
+}
+
+// n cells from `from` on copied to `to` on, one after the other.
+pub fn copy_cells(cells: &mut [u8], from: u32, to: u32, n: u32)
+    ensures { λ _. ⌜ bitsOf (now (cells .exit)) ≡ copyBits (bitsOf (now (cells .entry))) from to n ⌝ }
+{
+    let mut i: u32 = 0;
+    while i < n {
+        let b = cell(cells, from as usize + i as usize);
+        put_cell(cells, to as usize + i as usize, b);
+        i += 1;
+    }
+}
+
+// n cells from `at` on set to 0.
+pub fn zero_cells(cells: &mut [u8], at: u32, n: u32)
+    ensures { λ _. ⌜ bitsOf (now (cells .exit)) ≡ sets (bitsOf (now (cells .entry))) at (zeros n) ⌝ }
+{
+    let mut done: u32 = 0;
+    while done < n {
+        put_cell(cells, at as usize + done as usize, 0);
+        done += 1;
+    }
+}

@@ -1,0 +1,68 @@
+# make_steps.py OUT: writes data/steps, steps on packed cells with what each leaves, by a list of bits that knows nothing of bytes.
+# A cell past the end reads as 0 and is not written; a copy goes bit by bit from the first cell on, each from the list as it then is.
+import random
+import sys
+
+READ, WRITE, COPY, ZERO = range(4)
+
+
+def unpacked(data):
+    return [int(c) for b in data for c in f"{b:08b}"]
+
+
+def packed(bits):
+    return bytes(int("".join(map(str, bits[i:i + 8])), 2) for i in range(0, len(bits), 8))
+
+
+def read(bits, p):
+    return bits[p] if p < len(bits) else 0
+
+
+def write(bits, p, b):
+    if p < len(bits):
+        bits[p] = b
+
+
+# What a step leaves in the list; and its answer, 0 where it has none.
+def step(bits, op, x, y, z):
+    if op == READ:
+        return read(bits, x)
+    if op == WRITE:
+        write(bits, x, y % 2)
+    if op == COPY:
+        for i in range(z):
+            write(bits, y + i, read(bits, x + i))
+    if op == ZERO:
+        for i in range(y):
+            write(bits, x + i, 0)
+    return 0
+
+
+def record(data, op, x, y, z):
+    bits = unpacked(data)
+    answer = step(bits, op, x, y, z)
+    numbers = b"".join(n.to_bytes(4, "big") for n in (x, y, z))
+    return bytes([len(data), op]) + numbers + bytes([answer]) + data + packed(bits)
+
+
+def place(rng, cells):
+    return rng.choice([rng.randrange(cells + 1), rng.randrange(cells + 20), 2**32 - 1 - rng.randrange(9)][: rng.choice((1, 1, 1, 2, 3))])
+
+
+def count(rng, cells):
+    return rng.choice([rng.randrange(4), rng.randrange(cells + 1), rng.randrange(cells + 20)])
+
+
+def made(rng):
+    for n in list(range(13)) * 90:
+        data, cells = rng.randbytes(n), 8 * n
+        op = rng.choice((READ, WRITE, COPY, COPY, ZERO))
+        x = place(rng, cells)
+        y = {WRITE: rng.randrange(256), COPY: place(rng, cells), ZERO: count(rng, cells)}.get(op, 0)
+        yield record(data, op, x, y, count(rng, cells) if op == COPY else 0)
+
+
+if __name__ == "__main__":
+    steps = list(made(random.Random(1)))
+    open(sys.argv[1], "wb").write(b"".join(steps))
+    print({op: sum(s[1] == op for s in steps) for op in range(4)}, sum(map(len, steps)), "bytes")

@@ -1,0 +1,130 @@
+-- What a test that holds or a check that passed tells, and when one holds or passes: of `every`, `anyBelow`, `same`, `require`, `each` and of checks in a row.
+-- `clash` takes two unlike constructors that are equal to any statement.
+use mathlib.Core.Path.{_≡_, refl, ap, ap₂, _∙_}
+use mathlib.Core.Bool.{Bool, true, false}
+use mathlib.Core.List.{List, [], _∷_}
+use Prim.Native.Nat.{ℕ, zero, suc, _+_, _≤_, _<_}
+use native.Mathlib.Nat.{not-suc-le-zero}
+use native.Mathlib.Omega.{arith}
+use native.Mathlib.Decide.{decLt}
+use lib.Dec.{eqb}
+use borrow.Author.Tests.{eqb-true, eq-eqb}
+use Rattle.refusal.specs.declared.Refusal.{Refusal}
+use Rattle.scope.specs.Check.{Check, passed, refused, _>>=_, require, firstFailing, each}
+use Rattle.scope.specs.Numbers.{every, anyBelow, same}
+
+pub clash : {X : Type 0} → _≡_ {A = ℕ} 0 1 → X
+clash e = absurd (omega arith)
+
+-- each test of a list holds
+abbrev pub AllTrue : List Bool → Type 0
+AllTrue [] = Unit {0}
+AllTrue (b ∷ bs) = (b ≡ true) × AllTrue bs
+
+-- all of them hold exactly if each does
+pub every-all : (bs : List Bool) → every bs ≡ true → AllTrue bs
+unfolding every
+every-all [] e = tt
+every-all (true ∷ bs) e = (refl, every-all bs e)
+every-all (false ∷ bs) e = clash (cc)
+
+pub all-every : (bs : List Bool) → AllTrue bs → every bs ≡ true
+unfolding every
+all-every [] h = refl
+all-every (b ∷ bs) h = rw (h .0, every) (all-every bs (h .1))
+
+-- no number below n passes the test, exactly if none of them does
+none-at : (n : ℕ) (test : ℕ → Bool) (b : Bool) → test n ≡ b → elim b [ true ↦ true | false ↦ anyBelow n test ] ≡ false
+    → (anyBelow n test ≡ false → (j : ℕ) → j < n → test j ≡ false) → (j : ℕ) → j < suc n → test j ≡ false
+none-at n test true p e below j l = clash (cc)
+none-at n test false p e below j l =
+    elim (decLt j n) [ yes k ↦ below e j k | no m ↦ (let q : j ≡ n = omega arith in ap test q ∙ p) ]
+
+pub none-below : (n : ℕ) (test : ℕ → Bool) → anyBelow n test ≡ false → (j : ℕ) → j < n → test j ≡ false
+unfolding anyBelow
+none-below zero test e j l = absurd (not-suc-le-zero l)
+none-below (suc n) test e j l = none-at n test (test n) refl e (none-below n test) j l
+
+pub below-none : (n : ℕ) (test : ℕ → Bool) → ((j : ℕ) → j < n → test j ≡ false) → anyBelow n test ≡ false
+unfolding anyBelow
+below-none zero test h = refl
+below-none (suc n) test h = rw (h n (omega arith), anyBelow) (below-none n test (λ j l. h j (omega arith)))
+
+-- two lists of numbers pass the test exactly if they are equal
+pub same-equal : (xs ys : List ℕ) → same xs ys ≡ true → xs ≡ ys
+unfolding same
+same-equal [] [] e = refl
+same-equal [] (y ∷ ys) e = clash (cc)
+same-equal (x ∷ xs) [] e = clash (cc)
+same-equal (x ∷ xs) (y ∷ ys) e = go (eqb x y) refl e (same-equal xs ys)
+  where
+    go : (b : Bool) → eqb x y ≡ b → elim b [ true ↦ same xs ys | false ↦ false ] ≡ true → (same xs ys ≡ true → xs ≡ ys) → x ∷ xs ≡ y ∷ ys
+    go true p e h = ap₂ _∷_ (eqb-true x y p) (h e)
+    go false p e h = clash (cc)
+
+pub equal-same : (xs : List ℕ) → same xs xs ≡ true
+unfolding same
+equal-same [] = refl
+equal-same (x ∷ xs) = rw (eq-eqb x x refl, same) (equal-same xs)
+
+-- a requirement passes exactly if its test holds
+pub require-holds : (b : Bool) (r : Refusal) (x : Unit {0}) → require b r ≡ passed x → b ≡ true
+unfolding require
+require-holds true r x e = refl
+require-holds false r x e = clash (cc)
+
+pub holds-require : (b : Bool) (r : Refusal) → b ≡ true → require b r ≡ passed tt
+unfolding require
+holds-require true r e = refl
+holds-require false r e = clash (cc)
+
+-- two checks in a row pass exactly if the first does and the second does with its result
+pub both-passed : {X Y : Type 0} (m : Check X) (f : X → Check Y) (y : Y) → (m >>= f) ≡ passed y → (x : X) × (m ≡ passed x) × (f x ≡ passed y)
+unfolding _>>=_
+both-passed (passed x) f y e = (x, refl, e)
+both-passed (refused r) f y e = clash (cc)
+
+pub then-passes : {X Y : Type 0} (m : Check X) (f : X → Check Y) (x : X) → m ≡ passed x → (m >>= f) ≡ f x
+unfolding _>>=_
+then-passes m f x e = rw e
+
+-- the test holds of each number below n exactly if the first failing one is n
+first-after : (test : ℕ → Bool) (k i : ℕ) → i ≤ firstFailing test k i
+unfolding firstFailing
+first-after test zero i = omega arith
+first-after test (suc k) i = go (test i) (first-after test k (suc i))
+  where
+    go : (b : Bool) → suc i ≤ firstFailing test k (suc i) → i ≤ elim b [ true ↦ firstFailing test k (suc i) | false ↦ i ]
+    go true h = omega arith
+    go false h = omega arith
+
+first-holds : (test : ℕ → Bool) (k i : ℕ) → firstFailing test k i ≡ i + k → (j : ℕ) → i ≤ j → j < i + k → test j ≡ true
+unfolding firstFailing
+first-holds test zero i e j l m = absurd (omega arith)
+first-holds test (suc k) i e j l m = go (test i) refl e (first-holds test k (suc i))
+  where
+    go : (b : Bool) → test i ≡ b → elim b [ true ↦ firstFailing test k (suc i) | false ↦ i ] ≡ i + suc k
+        → (firstFailing test k (suc i) ≡ suc i + k → (j : ℕ) → suc i ≤ j → j < suc i + k → test j ≡ true) → test j ≡ true
+    go true p e h =
+        elim (decLt i j) [ yes n ↦ h (omega arith) j n (omega arith) | no n ↦ (let q : j ≡ i = omega arith in ap test q ∙ p) ]
+    go false p e h = absurd (omega arith)
+
+holds-first : (test : ℕ → Bool) (k i : ℕ) → ((j : ℕ) → i ≤ j → j < i + k → test j ≡ true) → firstFailing test k i ≡ i + k
+unfolding firstFailing
+holds-first test zero i h = omega arith
+holds-first test (suc k) i h =
+    let e = holds-first test k (suc i) (λ j l m. h j (omega arith) (omega arith)) in
+    rw (h i (omega arith) (omega arith), firstFailing) (omega arith)
+
+-- a test of each number passes exactly if it holds of each
+pub each-holds : (n : ℕ) (test : ℕ → Bool) (refusal : ℕ → Refusal) (x : Unit {0}) → each n test refusal ≡ passed x → (i : ℕ) → i < n → test i ≡ true
+unfolding each
+each-holds n test refusal x e i l =
+    let p = eqb-true (firstFailing test n 0) n (require-holds (eqb (firstFailing test n 0) n) (refusal (firstFailing test n 0)) x e) in
+    first-holds test n 0 (omega arith) i (omega arith) (omega arith)
+
+pub holds-each : (n : ℕ) (test : ℕ → Bool) (refusal : ℕ → Refusal) → ((i : ℕ) → i < n → test i ≡ true) → each n test refusal ≡ passed tt
+unfolding each
+holds-each n test refusal h =
+    let p = holds-first test n 0 (λ j l m. h j (omega arith)) in
+    holds-require _ _ (eq-eqb (firstFailing test n 0) n (omega arith))

@@ -1,0 +1,17 @@
+pub mod Table
+pub mod Checks
+pub mod Bits
+pub mod Naturals
+pub mod Values
+pub mod Walk
+pub mod Hidden
+pub mod Canonical
+pub mod Types
+pub mod TypeTests
+pub mod Arrows
+pub mod Nodes
+pub mod Stream
+pub mod Coding
+pub mod Reading
+pub mod Decoding
+pub mod Theorems

@@ -1,0 +1,130 @@
+-- The tests of a record of the type table tell types: a unit, a sum or a product of two types, the type of words.
+-- Each holds of a record exactly if the record stands for such a type.
+use mathlib.Core.Path.{_≡_, refl, sym, ap₂, _∙_, subst}
+use mathlib.Core.Bool.{Bool, true}
+use mathlib.Core.List.{List, [], _∷_}
+use Prim.Native.Nat.{ℕ, zero, suc, _<_}
+use native.Mathlib.Nat.{not-suc-le-zero}
+use native.Mathlib.Omega.{arith}
+use lib.Dec.{eqb}
+use lib.ListN.{length}
+use borrow.Author.Tests.{eqb-true, eq-eqb}
+use Rattle.report.specs.Types.{Ty, one, sum, prod, wordTy}
+use Rattle.scope.specs.Numbers.{every}
+use Rattle.scope.specs.Types2.{TypeRecord, typeFrom, tyAt}
+use Rattle.scope.specs.Arrows11and12.{isUnit, isSum, isProduct, leftAt, rightAt, isWord}
+use Rattle.exactness.specs.Checks.{clash, every-all, all-every}
+use Rattle.exactness.specs.Types.{TypesPass, Parts, OfUnit, OfSum, OfProduct, tagAt, parts-at, type-step, same-index}
+
+module _ (types : List TypeRecord) where
+  -- record j has this tag and these parts: what `isSum` tests with the tag 1 and `isProduct` with the tag 2
+  abbrev pub joins : (tag j l r : ℕ) → Bool
+  joins tag j l r = every (eqb (tagAt types j) tag ∷ eqb (leftAt types j) l ∷ eqb (rightAt types j) r ∷ [])
+
+  -- a record with this tag whose parts are in the table and stand for these types
+  pub record Joined (tag j : ℕ) (A B : Ty) : Type 0 where
+    pub tagged : tagAt types j ≡ tag
+    pub left-in : leftAt types j < length types
+    pub right-in : rightAt types j < length types
+    pub left-is : tyAt types (leftAt types j) ≡ A
+    pub right-is : tyAt types (rightAt types j) ≡ B
+
+  module _ (pass : TypesPass types) where
+    -- equal types pass the test of indices
+    pub same-test : (i j : ℕ) → i < length types → j < length types → tyAt types i ≡ tyAt types j → eqb i j ≡ true
+    same-test i j h k e = eq-eqb i j (same-index types pass i j h k e)
+
+    pub unit-type : (j : ℕ) → j < length types → isUnit types j ≡ true → tyAt types j ≡ one
+    unfolding isUnit typeFrom
+    unit-type j h e = type-step types pass j h ∙ rw (eqb-true (tagAt types j) 0 e)
+
+    pub type-unit : (j : ℕ) → j < length types → tyAt types j ≡ one → isUnit types j ≡ true
+    unfolding isUnit typeFrom
+    type-unit j h e =
+        eq-eqb (tagAt types j) 0 (go (tagAt types j) (leftAt types j) (rightAt types j) (parts-at types pass j h) (sym (type-step types pass j h) ∙ e))
+      where
+        go : (t l r : ℕ) → Parts j t l r → typeFrom t (tyAt types l) (tyAt types r) ≡ one → t ≡ 0
+        go _ _ _ OfUnit e = refl
+        go _ _ _ (OfSum l r p q) e = clash (cc)
+        go _ _ _ (OfProduct l r p q) e = clash (cc)
+
+    pub joins-type : (tag j l r : ℕ) → j < length types → joins tag j l r ≡ true → tyAt types j ≡ typeFrom tag (tyAt types l) (tyAt types r)
+    joins-type tag j l r h e =
+        let p = every-all (eqb (tagAt types j) tag ∷ eqb (leftAt types j) l ∷ eqb (rightAt types j) r ∷ []) e in
+        type-step types pass j h ∙ rw (eqb-true (tagAt types j) tag (p .0), eqb-true (leftAt types j) l (p .1 .0), eqb-true (rightAt types j) r (p .1 .1 .0))
+
+    -- a sum's type is a sum's record, a product's a product's
+    pub type-joins : (k j : ℕ) (A B : Ty) → k < 2 → j < length types → tyAt types j ≡ typeFrom (suc k) A B → Joined (suc k) j A B
+    unfolding typeFrom
+    type-joins k j A B b h e =
+        let r = go k (tagAt types j) (leftAt types j) (rightAt types j) b (parts-at types pass j h) (sym (type-step types pass j h) ∙ e) in
+        record { tagged = r .0; left-in = r .1; right-in = r .2; left-is = r .3; right-is = r .4 }
+      where
+        go : (k t l r : ℕ) → k < 2 → Parts j t l r → typeFrom t (tyAt types l) (tyAt types r) ≡ typeFrom (suc k) A B
+            → (t ≡ suc k) × (l < length types) × (r < length types) × (tyAt types l ≡ A) × (tyAt types r ≡ B)
+        go zero _ _ _ b OfUnit e = clash (cc)
+        go zero _ _ _ b (OfSum l r p q) e = (refl, omega arith, omega arith, (let x : tyAt types l ≡ A = cc in x), (let x : tyAt types r ≡ B = cc in x))
+        go zero _ _ _ b (OfProduct l r p q) e = clash (cc)
+        go (suc zero) _ _ _ b OfUnit e = clash (cc)
+        go (suc zero) _ _ _ b (OfSum l r p q) e = clash (cc)
+        go (suc zero) _ _ _ b (OfProduct l r p q) e = (refl, omega arith, omega arith, (let x : tyAt types l ≡ A = cc in x), (let x : tyAt types r ≡ B = cc in x))
+        go (suc (suc k)) _ _ _ b _ e = absurd (omega arith)
+
+    -- the test holds of indices with those types
+    pub joined-test : (tag j l r : ℕ) (A B : Ty) → Joined tag j A B → l < length types → r < length types → tyAt types l ≡ A → tyAt types r ≡ B → joins tag j l r ≡ true
+    joined-test tag j l r A B h m n p q =
+        all-every (eqb (tagAt types j) tag ∷ eqb (leftAt types j) l ∷ eqb (rightAt types j) r ∷ []) (
+          eq-eqb (tagAt types j) tag (h .tagged),
+          (
+            same-test (leftAt types j) l (h .left-in) m (h .left-is ∙ sym p),
+            (same-test (rightAt types j) r (h .right-in) n (h .right-is ∙ sym q), tt),
+          ),
+        )
+
+    -- the parts of a sum or a product are in the table
+    pub joins-in : (k j l r : ℕ) → k < 2 → j < length types → joins (suc k) j l r ≡ true → (l < length types) × (r < length types)
+    joins-in k j l r b h e =
+        let p = every-all (eqb (tagAt types j) (suc k) ∷ eqb (leftAt types j) l ∷ eqb (rightAt types j) r ∷ []) e in
+        let parts = type-joins k j (tyAt types l) (tyAt types r) b h (joins-type (suc k) j l r h e) in (
+          subst (λ (i : ℕ). i < length types) (eqb-true (leftAt types j) l (p .1 .0)) (parts .left-in),
+          subst (λ (i : ℕ). i < length types) (eqb-true (rightAt types j) r (p .1 .1 .0)) (parts .right-in),
+        )
+
+    -- the test of a word type holds of that very type
+    pub word-type : (k j : ℕ) → j < length types → isWord types k j ≡ true → tyAt types j ≡ wordTy k
+    unfolding isWord wordTy isSum isProduct leftAt rightAt typeFrom
+    word-type zero j h e =
+        let p = every-all (isSum types j (leftAt types j) (rightAt types j) ∷ isUnit types (leftAt types j) ∷ isUnit types (rightAt types j) ∷ []) e in
+        let i = joins-in 0 j (leftAt types j) (rightAt types j) (omega arith) h (p .0) in
+        joins-type 1 j (leftAt types j) (rightAt types j) h (p .0)
+        ∙ ap₂ sum (unit-type (leftAt types j) (i .0) (p .1 .0)) (unit-type (rightAt types j) (i .1) (p .1 .1 .0))
+    word-type (suc k) j h e =
+        let p = every-all (isProduct types j (leftAt types j) (leftAt types j) ∷ isWord types k (leftAt types j) ∷ []) e in
+        let i = joins-in 1 j (leftAt types j) (leftAt types j) (omega arith) h (p .0) in
+        let w = word-type k (leftAt types j) (i .0) (p .1 .0) in
+        joins-type 2 j (leftAt types j) (leftAt types j) h (p .0) ∙ ap₂ prod w w
+
+    pub type-word : (k j : ℕ) → j < length types → tyAt types j ≡ wordTy k → isWord types k j ≡ true
+    unfolding isWord wordTy isSum isProduct leftAt rightAt typeFrom
+    type-word zero j h e =
+        let p = type-joins 0 j one one (omega arith) h e in
+        all-every (isSum types j (leftAt types j) (rightAt types j) ∷ isUnit types (leftAt types j) ∷ isUnit types (rightAt types j) ∷ []) (
+          joined-test 1 j (leftAt types j) (rightAt types j) one one p (p .left-in) (p .right-in) (p .left-is) (p .right-is),
+          (type-unit (leftAt types j) (p .left-in) (p .left-is), (type-unit (rightAt types j) (p .right-in) (p .right-is), tt)),
+        )
+    type-word (suc k) j h e =
+        let p = type-joins 1 j (wordTy k) (wordTy k) (omega arith) h e in
+        all-every (isProduct types j (leftAt types j) (leftAt types j) ∷ isWord types k (leftAt types j) ∷ []) (
+          joined-test 2 j (leftAt types j) (leftAt types j) (wordTy k) (wordTy k) p (p .left-in) (p .left-in) (p .left-is) (p .left-is),
+          (type-word k (leftAt types j) (p .left-in) (p .left-is), tt),
+        )
+
+    -- record 0 is unit
+    pub first-unit : 0 < length types → tyAt types 0 ≡ one
+    unfolding typeFrom
+    first-unit h = type-step types pass 0 h ∙ go (tagAt types 0) (leftAt types 0) (rightAt types 0) (parts-at types pass 0 h)
+      where
+        go : (t l r : ℕ) → Parts 0 t l r → typeFrom t (tyAt types l) (tyAt types r) ≡ one
+        go _ _ _ OfUnit = refl
+        go _ _ _ (OfSum l r p q) = absurd (not-suc-le-zero p)
+        go _ _ _ (OfProduct l r p q) = absurd (not-suc-le-zero p)
