@@ -19,7 +19,7 @@ pub enum CodeRead {
     Ended,
 }
 
-// What can be wrong with a natural: the stream ended in it, a length above 31 was read, or it is over its bound.
+// What can be wrong with a natural: the stream ended in it, a length was too long, or it is over its bound.
 pub enum NaturalFault {
     Ended,
     TooLong,

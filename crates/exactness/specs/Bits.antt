@@ -4,7 +4,7 @@ use mathlib.Core.Path.{_≡_, refl, ap, ap₂}
 use mathlib.Core.List.{List, [], _∷_, _++_}
 use Prim.Native.Nat.{ℕ, zero, suc, _+_, _*_, _/_, _%_, _<_}
 use native.Mathlib.Omega.{arith}
-use lib.ListN.{length, take, drop}
+use lib.ListN.{length, drop}
 use Rattle.report.specs.Bits.{Bit, byteBits, bitsOf, numberFrom, bytesOf}
 
 -- every number of the list is below the bound
@@ -18,29 +18,21 @@ AreBits bs = AllBelow 2 bs
 abbrev pub AreBytes : List ℕ → Type 0
 AreBytes bytes = AllBelow 256 bytes
 
-pub below-append : (m : ℕ) (xs ys : List ℕ) → AllBelow m xs → AllBelow m ys → AllBelow m (xs ++ ys)
-below-append m [] ys h k = k
-below-append m (x ∷ xs) ys h k = (h .0, below-append m xs ys (h .1) k)
-
+-- so is every number of its parts
 pub below-front : (m : ℕ) (xs ys : List ℕ) → AllBelow m (xs ++ ys) → AllBelow m xs
 below-front m [] ys h = tt
 below-front m (x ∷ xs) ys h = (h .0, below-front m xs ys (h .1))
-
-pub below-take : (m k : ℕ) (xs : List ℕ) → AllBelow m xs → AllBelow m (take k xs)
-below-take m zero xs h = tt
-below-take m (suc k) [] h = tt
-below-take m (suc k) (x ∷ xs) h = (h .0, below-take m k xs (h .1))
 
 pub below-drop : (m k : ℕ) (xs : List ℕ) → AllBelow m xs → AllBelow m (drop k xs)
 below-drop m zero xs h = h
 below-drop m (suc k) [] h = tt
 below-drop m (suc k) (x ∷ xs) h = below-drop m k xs (h .1)
 
--- the bits of a string of bytes: eight a byte, each 0 or 1
+-- a string of bytes has eight bits a byte, each 0 or 1
 pub length-bits : (bytes : List ℕ) → length (bitsOf bytes) ≡ 8 * length bytes
 unfolding bitsOf
 length-bits [] = refl
-length-bits (b ∷ bytes) = let h : length (bitsOf bytes) ≡ 8 * length bytes = length-bits bytes in omega arith
+length-bits (b ∷ bytes) = let h = length-bits bytes in omega arith
 
 pub are-bits : (bytes : List ℕ) → AreBits (bitsOf bytes)
 unfolding bitsOf
@@ -48,23 +40,26 @@ are-bits [] = tt
 are-bits (b ∷ bytes) =
     (omega arith, (omega arith, (omega arith, (omega arith, (omega arith, (omega arith, (omega arith, (omega arith, are-bits bytes))))))))
 
--- the bits of the number of eight bits are those bits
-byte-of-bits : (a b c d e f g h : Bit) → a < 2 → b < 2 → c < 2 → d < 2 → e < 2 → f < 2 → g < 2 → h < 2
-    → byteBits (numberFrom 0 (a ∷ b ∷ c ∷ d ∷ e ∷ f ∷ g ∷ h ∷ [])) ≡ a ∷ b ∷ c ∷ d ∷ e ∷ f ∷ g ∷ h ∷ []
+-- eight bits as a number: a byte, whose bits they are
+byte-of-bits : (a b c d e f g h : Bit) → AreBits (a ∷ b ∷ c ∷ d ∷ e ∷ f ∷ g ∷ h ∷ [])
+    → (byteBits (numberFrom 0 (a ∷ b ∷ c ∷ d ∷ e ∷ f ∷ g ∷ h ∷ [])) ≡ a ∷ b ∷ c ∷ d ∷ e ∷ f ∷ g ∷ h ∷ [])
+    × (numberFrom 0 (a ∷ b ∷ c ∷ d ∷ e ∷ f ∷ g ∷ h ∷ []) < 256)
 unfolding numberFrom
-byte-of-bits a b c d e f g h la lb lc ld le lf lg lh =
+byte-of-bits a b c d e f g h are =
     let n : ℕ = numberFrom 0 (a ∷ b ∷ c ∷ d ∷ e ∷ f ∷ g ∷ h ∷ []) in
-    let pa : n / 128 % 2 ≡ a = omega arith in
-    let pb : n / 64 % 2 ≡ b = omega arith in
-    let pc : n / 32 % 2 ≡ c = omega arith in
-    let pd : n / 16 % 2 ≡ d = omega arith in
-    let pe : n / 8 % 2 ≡ e = omega arith in
-    let pf : n / 4 % 2 ≡ f = omega arith in
-    let pg : n / 2 % 2 ≡ g = omega arith in
-    let ph : n % 2 ≡ h = omega arith in
-    ap₂ _∷_ pa (ap₂ _∷_ pb (ap₂ _∷_ pc (ap₂ _∷_ pd (ap₂ _∷_ pe (ap₂ _∷_ pf (ap₂ _∷_ pg (ap₂ _∷_ ph (refl))))))))
+    let is-a : n / 128 % 2 ≡ a = omega arith in
+    let is-b : n / 64 % 2 ≡ b = omega arith in
+    let is-c : n / 32 % 2 ≡ c = omega arith in
+    let is-d : n / 16 % 2 ≡ d = omega arith in
+    let is-e : n / 8 % 2 ≡ e = omega arith in
+    let is-f : n / 4 % 2 ≡ f = omega arith in
+    let is-g : n / 2 % 2 ≡ g = omega arith in
+    let is-h : n % 2 ≡ h = omega arith in (
+      ap₂ _∷_ is-a (ap₂ _∷_ is-b (ap₂ _∷_ is-c (ap₂ _∷_ is-d (ap₂ _∷_ is-e (ap₂ _∷_ is-f (ap₂ _∷_ is-g (ap₂ _∷_ is-h refl))))))),
+      omega arith,
+    )
 
--- and the number of a byte's bits is that byte
+-- a byte's bits as a number: the byte
 bits-of-byte : (b : ℕ) → b < 256 → numberFrom 0 (byteBits b) ≡ b
 unfolding numberFrom
 bits-of-byte b l =
@@ -78,12 +73,7 @@ bits-of-byte b l =
     let e₈ : b / 2 * 2 + b % 2 ≡ b = omega arith in
     rw (e₁, e₂, e₃, e₄, e₅, e₆, e₇, e₈)
 
-small-byte : (a b c d e f g h : Bit) → a < 2 → b < 2 → c < 2 → d < 2 → e < 2 → f < 2 → g < 2 → h < 2
-    → numberFrom 0 (a ∷ b ∷ c ∷ d ∷ e ∷ f ∷ g ∷ h ∷ []) < 256
-unfolding numberFrom
-small-byte a b c d e f g h la lb lc ld le lf lg lh = omega arith
-
--- whole bytes of bits: as many as told, each a byte, and their bits are the bits
+-- k whole bytes of 8 * k bits: their bits are those bits
 pub length-bytes : (k : ℕ) (bs : List Bit) → length (bytesOf k bs) ≡ k
 unfolding bytesOf
 length-bytes zero bs = refl
@@ -91,23 +81,22 @@ length-bytes (suc k) bs = ap suc (length-bytes k (drop 8 bs))
 
 pub bits-of-bytes : (k : ℕ) (bs : List Bit) → length bs ≡ 8 * k → AreBits bs → (bitsOf (bytesOf k bs) ≡ bs) × AreBytes (bytesOf k bs)
 unfolding bytesOf bitsOf
-bits-of-bytes zero [] e h = (refl, tt)
-bits-of-bytes zero (b ∷ bs) e h = absurd (omega arith)
-bits-of-bytes (suc k) [] n p = absurd (omega arith)
-bits-of-bytes (suc k) (a ∷ []) n p = absurd (omega arith)
-bits-of-bytes (suc k) (a ∷ b ∷ []) n p = absurd (omega arith)
-bits-of-bytes (suc k) (a ∷ b ∷ c ∷ []) n p = absurd (omega arith)
-bits-of-bytes (suc k) (a ∷ b ∷ c ∷ d ∷ []) n p = absurd (omega arith)
-bits-of-bytes (suc k) (a ∷ b ∷ c ∷ d ∷ e ∷ []) n p = absurd (omega arith)
-bits-of-bytes (suc k) (a ∷ b ∷ c ∷ d ∷ e ∷ f ∷ []) n p = absurd (omega arith)
-bits-of-bytes (suc k) (a ∷ b ∷ c ∷ d ∷ e ∷ f ∷ g ∷ []) n p = absurd (omega arith)
-bits-of-bytes (suc k) (a ∷ b ∷ c ∷ d ∷ e ∷ f ∷ g ∷ h ∷ bs) n p =
-    let q = p .1 .1 .1 .1 in
-    let rest = bits-of-bytes k bs (omega arith) (q .1 .1 .1 .1) in (
-      ap₂ _++_ (byte-of-bits a b c d e f g h (p .0) (p .1 .0) (p .1 .1 .0) (p .1 .1 .1 .0) (q .0) (q .1 .0) (q .1 .1 .0) (q .1 .1 .1 .0)) (rest .0),
-      (small-byte a b c d e f g h (p .0) (p .1 .0) (p .1 .1 .0) (p .1 .1 .1 .0) (q .0) (q .1 .0) (q .1 .1 .0) (q .1 .1 .1 .0), rest .1),
-    )
+bits-of-bytes zero [] n are = (refl, tt)
+bits-of-bytes zero (b ∷ bs) n are = absurd (omega arith)
+bits-of-bytes (suc k) [] n are = absurd (omega arith)
+bits-of-bytes (suc k) (a ∷ []) n are = absurd (omega arith)
+bits-of-bytes (suc k) (a ∷ b ∷ []) n are = absurd (omega arith)
+bits-of-bytes (suc k) (a ∷ b ∷ c ∷ []) n are = absurd (omega arith)
+bits-of-bytes (suc k) (a ∷ b ∷ c ∷ d ∷ []) n are = absurd (omega arith)
+bits-of-bytes (suc k) (a ∷ b ∷ c ∷ d ∷ e ∷ []) n are = absurd (omega arith)
+bits-of-bytes (suc k) (a ∷ b ∷ c ∷ d ∷ e ∷ f ∷ []) n are = absurd (omega arith)
+bits-of-bytes (suc k) (a ∷ b ∷ c ∷ d ∷ e ∷ f ∷ g ∷ []) n are = absurd (omega arith)
+bits-of-bytes (suc k) (a ∷ b ∷ c ∷ d ∷ e ∷ f ∷ g ∷ h ∷ bs) n are =
+    let byte = byte-of-bits a b c d e f g h (below-front 2 (a ∷ b ∷ c ∷ d ∷ e ∷ f ∷ g ∷ h ∷ []) bs are) in
+    let rest = bits-of-bytes k bs (omega arith) (below-drop 2 8 (a ∷ b ∷ c ∷ d ∷ e ∷ f ∷ g ∷ h ∷ bs) are) in
+    (ap₂ _++_ (byte .0) (rest .0), (byte .1, rest .1))
 
+-- the bytes of a string's bits are the string
 pub bytes-of-bits : (bytes : List ℕ) → AreBytes bytes → bytesOf (length bytes) (bitsOf bytes) ≡ bytes
 unfolding bytesOf bitsOf
 bytes-of-bits [] h = refl

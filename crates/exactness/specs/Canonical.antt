@@ -20,7 +20,8 @@ use Rattle.scope.specs.Nodes.{nodeAt}
 use Rattle.scope.specs.Walk6to9.{hiddenAt, allowed, walkEach, walkMake, walkFrom, checkWalk}
 use Rattle.exactness.specs.Table.{length-entries, entries-at, before-none}
 use Rattle.exactness.specs.Checks.{clash, require-holds, holds-require, both-passed, then-passes}
-use Rattle.exactness.specs.Walk.{length-upFrom, upFrom-more, Counted, Upto, arrive, walk-node, walks-before, arrive-passed, arrive-passes, each-counted, walk-node-counted, walk-at, walk-past, walk-counted, upto-count, walk-passed}
+use Rattle.exactness.specs.Walk.{Counted, Upto, arrive, Walks, walkIn, walkNode, walksBefore}
+use Rattle.exactness.specs.Walk.{length-upFrom, upFrom-more, upto-count, arrive-passed, arrive-passes, each-counted, walk-node-counted, walk-at, walk-past, walk-counted, walk-passed}
 use Rattle.exactness.specs.Hidden.{HiddenPlaces, allowed-places, places-allowed, places-last}
 
 -- a part of 0, 1, .. from the front is one itself
@@ -37,26 +38,33 @@ front-upFrom a (suc m) (x ∷ d) more e =
 same-last : (xs : List ℕ) (x y : ℕ) → xs ++ x ∷ [] ≡ xs ++ y ∷ [] → x ≡ y
 same-last xs x y e = sym (getD-append-seam xs x [] 0) ∙ ap (λ (l : List ℕ). getD l (length xs) 0) e ∙ getD-append-seam xs y [] 0
 
+-- plain walks, by the node that they start from, and the one from node j
+abbrev Plains : Type 0
+Plains = List (List ℕ → List ℕ)
+
+abbrev plainIn : Plains → (j : ℕ) → List ℕ → List ℕ
+plainIn walks j = getD walks j (λ d. d)
+
 -- a plain walk only adds to the nodes done
 Grows : (List ℕ → List ℕ) → Type 0
 Grows walk = (d : List ℕ) → (more : List ℕ) × (walk d ≡ d ++ more)
 
-each-grows : (walks : List (List ℕ → List ℕ)) → ((j : ℕ) → Grows (getD walks j (λ d. d))) → (js : List ℕ) → Grows (plainEach walks js)
+each-grows : (walks : Plains) → ((j : ℕ) → Grows (plainIn walks j)) → (js : List ℕ) → Grows (plainEach walks js)
 unfolding plainEach Grows
 each-grows walks h [] d = ([], sym (append-nil d))
 each-grows walks h (j ∷ js) d =
     let one = h j d in
-    let rest = each-grows walks h js ((getD walks j (λ d. d)) d) in
+    let rest = each-grows walks h js (plainIn walks j d) in
     (one .0 ++ rest .0, rest .1 ∙ ap (λ (l : List ℕ). l ++ rest .0) (one .1) ∙ append-assoc d (one .0) (rest .0))
 
 -- the plain walk from node i
-plain-node : Bool → (i : ℕ) → List (List ℕ → List ℕ) → Node → List ℕ → List ℕ
-plain-node true i walks n d = d
-plain-node false i walks n d = plainEach walks (children n) d ++ i ∷ []
+plainNode : Bool → (i : ℕ) → Plains → Node → List ℕ → List ℕ
+plainNode true i walks n d = d
+plainNode false i walks n d = plainEach walks (children n) d ++ i ∷ []
 
-node-grows : (b : Bool) (i : ℕ) (walks : List (List ℕ → List ℕ)) → ((j : ℕ) → Grows (getD walks j (λ d. d))) → (n : Node) (d : List ℕ)
-    → (more : List ℕ) × (plain-node b i walks n d ≡ d ++ more)
-unfolding Grows plain-node
+node-grows : (b : Bool) (i : ℕ) (walks : Plains) → ((j : ℕ) → Grows (plainIn walks j)) → (n : Node) (d : List ℕ)
+    → (more : List ℕ) × (plainNode b i walks n d ≡ d ++ more)
+unfolding Grows plainNode
 node-grows true i walks h n d = ([], sym (append-nil d))
 node-grows false i walks h n d =
     let e = each-grows walks h (children n) d in
@@ -91,17 +99,18 @@ module _ (nodes : List Node) where
   }
 
   -- a plain walk that comes to the nodes below m was at those below some count on its way
-  front-count : (k m : ℕ) (d more : List ℕ) → (rest : List ℕ) × (d ≡ upFrom 0 k ++ rest) → d ++ more ≡ upFrom 0 m → (c : ℕ) × (k ≤ c) × (c ≤ m) × (d ≡ upFrom 0 c)
+  front-count : (k m : ℕ) (d more : List ℕ) → (rest : List ℕ) × (d ≡ upFrom 0 k ++ rest) → d ++ more ≡ upFrom 0 m
+      → (c : ℕ) × (k ≤ c) × (c ≤ m) × (d ≡ upFrom 0 c)
   front-count k m d more g e =
       let f = front-upFrom 0 m d more e in
       (length d, omega (arith, ap length (g .1), length-append (upFrom 0 k) (g .0), length-upFrom 0 k), f .1, f .0)
 
-  module _ (walks : List (List ℕ → Check (List ℕ))) (plains : List (List ℕ → List ℕ)) (match : (j : ℕ) → Matches (getD walks j (λ d. passed d)) (getD plains j (λ d. d))) where
+  module _ (walks : Walks) (plains : Plains) (match : (j : ℕ) → Matches (walkIn walks j) (plainIn plains j)) where
     each-there : (js : List ℕ) (k m : ℕ) → walkEach nodes walks js (upFrom 0 k) ≡ passed (upFrom 0 m) → Plain k m (plainEach plains js (upFrom 0 k))
     unfolding walkEach plainEach Plain
     each-there [] k m e = stays .there k m e
     each-there (j ∷ js) k m e =
-        let p = both-passed ((getD walks j (λ d. passed d)) (upFrom 0 k)) (walkEach nodes walks js) (upFrom 0 m) e in
+        let p = both-passed (walkIn walks j (upFrom 0 k)) (walkEach nodes walks js) (upFrom 0 m) e in
         let c = upto-count nodes k _ (p .0) (match j .counted k) (p .1) in
         let one = match j .there k (c .0) (p .1 ∙ ap {B = Check (List ℕ)} passed (c .2)) in
         let rest = each-there js (c .0) m (ap (walkEach nodes walks js) (sym (c .2)) ∙ p .2) in (
@@ -113,7 +122,7 @@ module _ (nodes : List Node) where
     unfolding walkEach plainEach Plain Grows
     each-back [] k m h = ap passed (h .0)
     each-back (j ∷ js) k m h =
-        let one : List ℕ = (getD plains j (λ d. d)) (upFrom 0 k) in
+        let one : List ℕ = plainIn plains j (upFrom 0 k) in
         let g = each-grows plains (λ i. match i .grows) js one in
         let c = front-count k m one (g .0) (match j .grows (upFrom 0 k)) (sym (g .1) ∙ h .0) in
         let first = match j .back k (c .0) (c .3, λ i l u. h .1 i l (omega arith)) in
@@ -121,7 +130,8 @@ module _ (nodes : List Node) where
         ∙ each-back js (c .0) m (ap (plainEach plains js) (sym (c .3)) ∙ h .0, λ i l u. h .1 i (omega arith) u)
 
     -- a node that is not done: its children first, then itself
-    arrive-there : (i k c m : ℕ) (d : List ℕ) → Plain k c d → arrive nodes i (nodeAt nodes i) (upFrom 0 c) ≡ passed (upFrom 0 m) → Plain k m (d ++ i ∷ [])
+    arrive-there : (i k c m : ℕ) (d : List ℕ) → Plain k c d → arrive nodes i (nodeAt nodes i) (upFrom 0 c) ≡ passed (upFrom 0 m)
+        → Plain k m (d ++ i ∷ [])
     unfolding Plain Allowed
     arrive-there i k c m d h e =
         let a = arrive-passed nodes i (nodeAt nodes i) c m e in
@@ -130,9 +140,9 @@ module _ (nodes : List Node) where
           λ j l u. elim (decLt j c) [ yes v ↦ h .1 j l v | no v ↦ (let q : i ≡ j = omega arith in subst Allowed q (a .2)) ],
         )
 
-    node-there : (b : Bool) (i : ℕ) (k m : ℕ) → walk-node nodes b i walks (nodeAt nodes i) (upFrom 0 k) ≡ passed (upFrom 0 m)
-        → Plain k m (plain-node b i plains (nodeAt nodes i) (upFrom 0 k))
-    unfolding walk-node plain-node
+    node-there : (b : Bool) (i : ℕ) (k m : ℕ) → walkNode nodes b i walks (nodeAt nodes i) (upFrom 0 k) ≡ passed (upFrom 0 m)
+        → Plain k m (plainNode b i plains (nodeAt nodes i) (upFrom 0 k))
+    unfolding walkNode plainNode
     node-there true i k m e = stays .there k m e
     node-there false i k m e =
         let p = both-passed (walkEach nodes walks (children (nodeAt nodes i)) (upFrom 0 k)) (arrive nodes i (nodeAt nodes i)) (upFrom 0 m) e in
@@ -149,12 +159,13 @@ module _ (nodes : List Node) where
         ap (λ (l : List ℕ). l ++ i ∷ []) (sym e) ∙ h .0 ∙ ap (upFrom 0) (sym size) ∙ sym (upFrom-more 0 c) in
         let next : i ≡ c = same-last (upFrom 0 c) i (0 + c) both ∙ zero-add c in (
           (e, λ j l u. h .1 j l (omega arith)),
-          ap (λ (j : ℕ). arrive nodes j (nodeAt nodes j) (upFrom 0 c)) next ∙ arrive-passes nodes (nodeAt nodes c) c (h .1 c b (omega arith)) ∙ ap (λ (j : ℕ). passed (upFrom 0 j)) size,
+          ap (λ (j : ℕ). arrive nodes j (nodeAt nodes j) (upFrom 0 c)) next
+              ∙ arrive-passes nodes (nodeAt nodes c) c (h .1 c b (omega arith)) ∙ ap (λ (j : ℕ). passed (upFrom 0 j)) size,
         )
 
-    node-back : (b : Bool) (i : ℕ) (k m : ℕ) → Plain k m (plain-node b i plains (nodeAt nodes i) (upFrom 0 k))
-        → walk-node nodes b i walks (nodeAt nodes i) (upFrom 0 k) ≡ passed (upFrom 0 m)
-    unfolding walk-node plain-node Plain Grows
+    node-back : (b : Bool) (i : ℕ) (k m : ℕ) → Plain k m (plainNode b i plains (nodeAt nodes i) (upFrom 0 k))
+        → walkNode nodes b i walks (nodeAt nodes i) (upFrom 0 k) ≡ passed (upFrom 0 m)
+    unfolding walkNode plainNode Plain Grows
     node-back true i k m h = ap passed (h .0)
     node-back false i k m h =
         let one : List ℕ = plainEach plains (children (nodeAt nodes i)) (upFrom 0 k) in
@@ -162,60 +173,64 @@ module _ (nodes : List Node) where
         let r = arrive-back i k (c .0) m one (c .1) (c .3) h in
         then-passes _ (arrive nodes i (nodeAt nodes i)) (upFrom 0 (c .0)) (each-back (children (nodeAt nodes i)) k (c .0) (r .0)) ∙ r .1
 
-  plains-before : (i : ℕ) → List (List ℕ → List ℕ)
-  plains-before i = take i (entries plainMake nodes)
+  plainsBefore : (i : ℕ) → Plains
+  plainsBefore i = take i (entries plainMake nodes)
 
   -- the plain walk from node i
-  plain-from : (i : ℕ) → List ℕ → List ℕ
-  plain-from i = getD (entries plainMake nodes) i (λ d. d)
+  plainFrom : (i : ℕ) → List ℕ → List ℕ
+  plainFrom i = getD (entries plainMake nodes) i (λ d. d)
 
-  plain-make : (walks : List (List ℕ → List ℕ)) (n : Node) (d : List ℕ) → plainMake walks n d ≡ plain-node (isDone (length walks) d) (length walks) walks n d
-  unfolding plainMake plain-node
+  plain-make : (walks : Plains) (n : Node) (d : List ℕ) → plainMake walks n d ≡ plainNode (isDone (length walks) d) (length walks) walks n d
+  unfolding plainMake plainNode
   plain-make walks n d = go (isDone (length walks) d)
     where
-      go : (b : Bool) → elim b [ true ↦ d | false ↦ plainEach walks (children n) d ++ length walks ∷ [] ] ≡ plain-node b (length walks) walks n d
+      go : (b : Bool) → elim b [ true ↦ d | false ↦ plainEach walks (children n) d ++ length walks ∷ [] ] ≡ plainNode b (length walks) walks n d
       go true = refl
       go false = refl
 
-  plain-at : (i : ℕ) → i < length nodes → (d : List ℕ) → plain-from i d ≡ plain-node (isDone i d) i (plains-before i) (nodeAt nodes i) d
-  unfolding plain-from nodeAt plains-before
+  plain-at : (i : ℕ) → i < length nodes → (d : List ℕ) → plainFrom i d ≡ plainNode (isDone i d) i (plainsBefore i) (nodeAt nodes i) d
+  unfolding plainFrom nodeAt plainsBefore
   plain-at i h d =
       ap (λ (w : List ℕ → List ℕ). w d) (entries-at plainMake nodes i (λ d. d) (hidden []) h)
-      ∙ plain-make (plains-before i) (nodeAt nodes i) d
-      ∙ ap (λ (l : ℕ). plain-node (isDone l d) l (plains-before i) (nodeAt nodes i) d)
+      ∙ plain-make (plainsBefore i) (nodeAt nodes i) d
+      ∙ ap (λ (l : ℕ). plainNode (isDone l d) l (plainsBefore i) (nodeAt nodes i) d)
       (length-take-le i (entries plainMake nodes) (omega (arith, length-entries plainMake nodes)))
 
-  plain-past : (i : ℕ) → length nodes ≤ i → (d : List ℕ) → plain-from i d ≡ d
-  unfolding plain-from
+  plain-past : (i : ℕ) → length nodes ≤ i → (d : List ℕ) → plainFrom i d ≡ d
+  unfolding plainFrom
   plain-past i h d =
       ap (λ (w : List ℕ → List ℕ). w d) (List·getD-eq-default (entries plainMake nodes) (λ d. d) (omega (arith, length-entries plainMake nodes)))
 
   -- walks that go alike match where one of them does
-  alike : (w w′ : List ℕ → Check (List ℕ)) (p p′ : List ℕ → List ℕ) → ((d : List ℕ) → w d ≡ w′ d) → ((d : List ℕ) → p d ≡ p′ d) → Matches w′ p′ → Matches w p
+  alike : (w w′ : List ℕ → Check (List ℕ)) (p p′ : List ℕ → List ℕ) → ((d : List ℕ) → w d ≡ w′ d) → ((d : List ℕ) → p d ≡ p′ d)
+      → Matches w′ p′ → Matches w p
   alike w w′ p p′ e f h = subst₂ Matches (fun-ext (λ d. sym (e d))) (fun-ext (λ d. sym (f d))) h
 
-  node-matches : (i : ℕ) → i < length nodes → ((j : ℕ) → Matches (getD (walks-before nodes i) j (λ d. passed d)) (getD (plains-before i) j (λ d. d)))
-      → Matches (walkFrom nodes i) (plain-from i)
+  node-matches : (i : ℕ) → i < length nodes → ((j : ℕ) → Matches (walkIn (walksBefore nodes i) j) (plainIn (plainsBefore i) j))
+      → Matches (walkFrom nodes i) (plainFrom i)
   unfolding Grows
   node-matches i h match =
-      alike _ (λ d. walk-node nodes (isDone i d) i (walks-before nodes i) (nodeAt nodes i) d) _ (λ d. plain-node (isDone i d) i (plains-before i) (nodeAt nodes i) d)
+      alike _ (λ d. walkNode nodes (isDone i d) i (walksBefore nodes i) (nodeAt nodes i) d) _
+      (λ d. plainNode (isDone i d) i (plainsBefore i) (nodeAt nodes i) d)
       (walk-at nodes i h) (plain-at i h) (record {
-        counted = λ k. walk-node-counted nodes (isDone i (upFrom 0 k)) i (walks-before nodes i) (λ j. match j .counted) (nodeAt nodes i) k;
-        grows = λ d. node-grows (isDone i d) i (plains-before i) (λ j. match j .grows) (nodeAt nodes i) d;
-        there = λ k m. node-there (walks-before nodes i) (plains-before i) match (isDone i (upFrom 0 k)) i k m;
-        back = λ k m. node-back (walks-before nodes i) (plains-before i) match (isDone i (upFrom 0 k)) i k m;
+        counted = λ k. walk-node-counted nodes (isDone i (upFrom 0 k)) i (walksBefore nodes i) (λ j. match j .counted) (nodeAt nodes i) k;
+        grows = λ d. node-grows (isDone i d) i (plainsBefore i) (λ j. match j .grows) (nodeAt nodes i) d;
+        there = λ k m. node-there (walksBefore nodes i) (plainsBefore i) match (isDone i (upFrom 0 k)) i k m;
+        back = λ k m. node-back (walksBefore nodes i) (plainsBefore i) match (isDone i (upFrom 0 k)) i k m;
       })
 
-  before-matches : (i : ℕ) → i ≤ length nodes → ((j : ℕ) → j < i → Matches (walkFrom nodes j) (plain-from j))
-      → (j : ℕ) → Matches (getD (walks-before nodes i) j (λ d. passed d)) (getD (plains-before i) j (λ d. d))
-  unfolding walks-before plains-before walkFrom plain-from
+  before-matches : (i : ℕ) → i ≤ length nodes → ((j : ℕ) → j < i → Matches (walkFrom nodes j) (plainFrom j))
+      → (j : ℕ) → Matches (walkIn (walksBefore nodes i) j) (plainIn (plainsBefore i) j)
+  unfolding walksBefore plainsBefore walkFrom plainFrom
   before-matches i h below j =
       elim (decLt j i) [
-        | yes l ↦ subst₂ Matches (sym (getD-take i (entries (walkMake nodes) nodes) j (λ d. passed d) l)) (sym (getD-take i (entries plainMake nodes) j (λ d. d) l)) (below j l)
-        | no m ↦ subst₂ Matches (sym (before-none (walkMake nodes) nodes i j (λ d. passed d) h (omega arith))) (sym (before-none plainMake nodes i j (λ d. d) h (omega arith))) stays
+        | yes l ↦ subst₂ Matches (sym (getD-take i (entries (walkMake nodes) nodes) j (λ d. passed d) l))
+            (sym (getD-take i (entries plainMake nodes) j (λ d. d) l)) (below j l)
+        | no m ↦ subst₂ Matches (sym (before-none (walkMake nodes) nodes i j (λ d. passed d) h (omega arith)))
+            (sym (before-none plainMake nodes i j (λ d. d) h (omega arith))) stays
       ]
 
-  matches-upto : (n i : ℕ) → i < n → Matches (walkFrom nodes i) (plain-from i)
+  matches-upto : (n i : ℕ) → i < n → Matches (walkFrom nodes i) (plainFrom i)
   matches-upto zero i l = absurd (not-suc-le-zero l)
   matches-upto (suc n) i l =
       elim (decLt i (length nodes)) [
@@ -224,12 +239,12 @@ module _ (nodes : List Node) where
       ]
 
   -- every walk passes exactly as the plain one goes
-  walk-matches : (i : ℕ) → Matches (walkFrom nodes i) (plain-from i)
+  walk-matches : (i : ℕ) → Matches (walkFrom nodes i) (plainFrom i)
   walk-matches i = matches-upto (suc i) i (omega arith)
 
   -- the whole walk passes exactly if the table is canonical and hidden nodes stand where they may
   pub walk-canonical : 1 ≤ length nodes → checkWalk nodes ≡ passed tt → Canonical nodes × HiddenPlaces nodes
-  unfolding checkWalk order plain-from Plain Allowed upFrom
+  unfolding checkWalk order plainFrom Plain Allowed upFrom
   walk-canonical h e =
       let last : ℕ = length nodes - 1 in
       let p = both-passed (walkFrom nodes last []) (λ all. require (not (hiddenAt nodes last)) (HiddenElsewhere last)) tt e in
@@ -243,9 +258,10 @@ module _ (nodes : List Node) where
       )
 
   pub canonical-walk : Canonical nodes → HiddenPlaces nodes → checkWalk nodes ≡ passed tt
-  unfolding checkWalk order plain-from Plain Allowed upFrom
+  unfolding checkWalk order plainFrom Plain Allowed upFrom
   canonical-walk c h =
       let last : ℕ = length nodes - 1 in
-      let done : walkFrom nodes last [] ≡ passed (upFrom 0 (length nodes)) = walk-matches last .back 0 (length nodes) (c, λ j l u. places-allowed nodes h j u) in
+      let done : walkFrom nodes last [] ≡ passed (upFrom 0 (length nodes)) =
+      walk-matches last .back 0 (length nodes) (c, λ j l u. places-allowed nodes h j u) in
       then-passes _ (λ all. require (not (hiddenAt nodes last)) (HiddenElsewhere last)) (upFrom 0 (length nodes)) done
       ∙ holds-require _ _ (ap not (places-last nodes h))

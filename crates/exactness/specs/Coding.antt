@@ -3,7 +3,7 @@
 use mathlib.Core.Path.{_≡_, refl, sym, ap, _∙_, subst}
 use mathlib.Core.Bool.{true, false}
 use mathlib.Core.List.{List, [], _∷_, _++_}
-use Prim.Native.Nat.{ℕ, zero, suc, _+_, _-_, _^_, _<_}
+use Prim.Native.Nat.{ℕ, zero, suc, _+_, _-_, _^_, _≤_, _<_}
 use native.Mathlib.Omega.{arith}
 use lib.Dec.{eqb}
 use lib.ListN.{length}
@@ -17,7 +17,9 @@ use Rattle.exactness.specs.Checks.{clash}
 use Rattle.exactness.specs.Bits.{AllBelow, AreBits, AreBytes}
 use Rattle.exactness.specs.Naturals.{naturalBound}
 use Rattle.exactness.specs.Nodes.{ContentFits, NodeFits, storedBy, recordWith, recordOf}
-use Rattle.exactness.specs.Stream.{both-got, then-reads, Stands, stands-none, stands-then, stands-split, next-stands, stands-next, natural-stands, stands-natural, child-stands, stands-child, octets-stand, stand-octets, stands-bits, one-stands, two-stand, stands-code}
+use Rattle.exactness.specs.Stream.{both-got, then-reads, Stands, stands-none, stands-then, stands-split, stands-bits}
+use Rattle.exactness.specs.Stream.{next-stands, natural-stands, child-stands, octets-stand, one-stands, two-stand}
+use Rattle.exactness.specs.Stream.{stands-next, stands-natural, stands-child, stand-octets, stands-code}
 
 abbrev pub itemWith : (kind first second : ℕ) → List ℕ → Item
 itemWith kind first second stored = record { node = recordWith kind first second; stored = stored }
@@ -50,9 +52,15 @@ module _ (bits : List Bit) (are : AreBits bits) (i held : ℕ) where
     read-as = q;
   }
 
+  -- nothing stands between a position and itself
+  ended : (m p : ℕ) → m ≤ length bits → m ≡ p → Stands bits m p []
+  ended m p l e = subst (λ (n : ℕ). Stands bits m n []) e (stands-none bits m l)
+
   -- two children: comp, case, pair, disconnect
-  two-children : (at m m₁ p d e sub a b : ℕ) (x : Item) → d < 2 → e < 2 → numberFrom 0 (d ∷ e ∷ []) ≡ sub → AllBelow i (a ∷ b ∷ []) → x ≡ itemWith sub a b []
-      → Stands bits at m (0 ∷ 0 ∷ 0 ∷ []) → Stands bits m m₁ (d ∷ e ∷ []) → Stands bits m₁ p (codeNatural (i - a) ++ codeNatural (i - b)) → IsNode bits i held at x p
+  two-children : (at m m₁ p d e sub a b : ℕ) (x : Item) → d < 2 → e < 2 → numberFrom 0 (d ∷ e ∷ []) ≡ sub → AllBelow i (a ∷ b ∷ [])
+      → x ≡ itemWith sub a b []
+      → Stands bits at m (0 ∷ 0 ∷ 0 ∷ []) → Stands bits m m₁ (d ∷ e ∷ []) → Stands bits m₁ p (codeNatural (i - a) ++ codeNatural (i - b))
+      → IsNode bits i held at x p
   unfolding numberFrom itemOf codeNode children
   two-children at m m₁ p zero zero sub a b x ld le n f q h k l =
       three-parts (comp a b) at m m₁ p _ _ _ x (record { below = f; content = tt }) refl h k l (q ∙ ap (λ (k : ℕ). itemWith k a b []) (sym n))
@@ -80,7 +88,8 @@ module _ (bits : List Bit) (are : AreBits bits) (i held : ℕ) where
       h (s .2) (stands-then bits (r .1) (l .1) p _ _ (a .0) (subst (λ (k : ℕ). Stands bits (l .1) k (codeNatural (i - t .0))) (q .1) (b .0)))
 
   -- one child: injl, injr, take, drop
-  one-child : (at m m₁ p d e sub a : ℕ) (x : Item) → d < 2 → e < 2 → numberFrom 0 (d ∷ e ∷ []) ≡ sub → AllBelow i (a ∷ []) → x ≡ itemWith (4 + sub) a 0 []
+  one-child : (at m m₁ p d e sub a : ℕ) (x : Item) → d < 2 → e < 2 → numberFrom 0 (d ∷ e ∷ []) ≡ sub → AllBelow i (a ∷ [])
+      → x ≡ itemWith (4 + sub) a 0 []
       → Stands bits at m (0 ∷ 0 ∷ 1 ∷ []) → Stands bits m m₁ (d ∷ e ∷ []) → Stands bits m₁ p (codeNatural (i - a)) → IsNode bits i held at x p
   unfolding numberFrom itemOf codeNode children
   one-child at m m₁ p zero zero sub a x ld le n f q h k l =
@@ -107,21 +116,21 @@ module _ (bits : List Bit) (are : AreBits bits) (i held : ℕ) where
       h (s .2) (subst (λ (k : ℕ). Stands bits (r .1) k (codeNatural (i - l .0))) (q .1) (a .0))
 
   -- after the third code: iden, unit, a fail node's bytes, or the one child of a disconnect
-  third : (sub : ℕ) → Reader Item
-  third sub = elim (eqb sub 3) [
+  afterThird : (sub : ℕ) → Reader Item
+  afterThird sub = elim (eqb sub 3) [
     | true ↦ child bits i >>= λ only. item 11 only 0 []
     | false ↦ elim (eqb sub 2) [ true ↦ octets bits failBytes >>= λ bytes. item 10 held 0 bytes | false ↦ item (8 + sub) 0 0 [] ]
   ]
 
   third-kind : (at m m₁ p d e : ℕ) (x : Item) → d < 2 → e < 2 → Stands bits at m (0 ∷ 1 ∷ 0 ∷ []) → Stands bits m m₁ (d ∷ e ∷ [])
-      → third (numberFrom 0 (d ∷ e ∷ [])) m₁ ≡ got x p → IsNode bits i held at x p
-  unfolding third numberFrom itemOf codeNode children
+      → afterThird (numberFrom 0 (d ∷ e ∷ [])) m₁ ≡ got x p → IsNode bits i held at x p
+  unfolding afterThird numberFrom itemOf codeNode children
   third-kind at m m₁ p zero zero x ld le h k e =
       let q = is-item 8 0 0 [] m₁ x p e in
-      three-parts iden at m m₁ p _ _ [] x (record { below = tt; content = tt }) refl h k (subst (λ (n : ℕ). Stands bits m₁ n []) (q .1) (stands-none bits m₁ (k .inside))) (q .0)
+      three-parts iden at m m₁ p _ _ [] x (record { below = tt; content = tt }) refl h k (ended m₁ p (k .inside) (q .1)) (q .0)
   third-kind at m m₁ p zero (suc zero) x ld le h k e =
       let q = is-item 9 0 0 [] m₁ x p e in
-      three-parts unit at m m₁ p _ _ [] x (record { below = tt; content = tt }) refl h k (subst (λ (n : ℕ). Stands bits m₁ n []) (q .1) (stands-none bits m₁ (k .inside))) (q .0)
+      three-parts unit at m m₁ p _ _ [] x (record { below = tt; content = tt }) refl h k (ended m₁ p (k .inside) (q .1)) (q .0)
   third-kind at m m₁ p (suc zero) zero x ld le h k e =
       let r = both-got (octets bits failBytes) (λ bytes. item 10 held 0 bytes) m₁ x p e in
       let o = octets-stand bits are failBytes m₁ (r .0) (r .1) (r .2) in
@@ -139,18 +148,19 @@ module _ (bits : List Bit) (are : AreBits bits) (i held : ℕ) where
   third-kind at m m₁ p (suc (suc c)) d x ld le h k e = absurd (omega arith)
 
   third-read : (at m p : ℕ) (x : Item) → Stands bits at m (0 ∷ 1 ∷ 0 ∷ []) → combinator bits i held 2 m ≡ got x p → IsNode bits i held at x p
-  unfolding combinator third
+  unfolding combinator afterThird
   third-read at m p x h e =
-      let r = both-got (code bits 2) third m x p e in
+      let r = both-got (code bits 2) afterThird m x p e in
       let s = two-stand bits are m (r .0) (r .1) (r .2) in
-      third-kind at m (r .1) p (s .0) (s .1) x (s .3) (s .4) h (s .2) (ap (λ (k : ℕ). third k (r .1)) (s .5) ∙ r .3)
+      third-kind at m (r .1) p (s .0) (s .1) x (s .3) (s .4) h (s .2) (ap (λ (k : ℕ). afterThird k (r .1)) (s .5) ∙ r .3)
 
   -- after the fourth code: a witness, or a hidden node's bytes
-  fourth : (sub : ℕ) → Reader Item
-  fourth sub = elim (eqb sub 1) [ true ↦ item 12 0 0 [] | false ↦ octets bits hashBytes >>= λ bytes. item 13 held 0 bytes ]
+  afterFourth : (sub : ℕ) → Reader Item
+  afterFourth sub = elim (eqb sub 1) [ true ↦ item 12 0 0 [] | false ↦ octets bits hashBytes >>= λ bytes. item 13 held 0 bytes ]
 
-  fourth-kind : (at m m₁ p d : ℕ) (x : Item) → d < 2 → Stands bits at m (0 ∷ 1 ∷ 1 ∷ []) → Stands bits m m₁ (d ∷ []) → fourth d m₁ ≡ got x p → IsNode bits i held at x p
-  unfolding fourth itemOf codeNode children
+  fourth-kind : (at m m₁ p d : ℕ) (x : Item) → d < 2 → Stands bits at m (0 ∷ 1 ∷ 1 ∷ []) → Stands bits m m₁ (d ∷ [])
+      → afterFourth d m₁ ≡ got x p → IsNode bits i held at x p
+  unfolding afterFourth itemOf codeNode children
   fourth-kind at m m₁ p zero x l h k e =
       let r = both-got (octets bits hashBytes) (λ bytes. item 13 held 0 bytes) m₁ x p e in
       let o = octets-stand bits are hashBytes m₁ (r .0) (r .1) (r .2) in
@@ -159,13 +169,13 @@ module _ (bits : List Bit) (are : AreBits bits) (i held : ℕ) where
       (subst (λ (n : ℕ). Stands bits m₁ n (bitsOf (r .0))) (q .1) (o .0)) (q .0)
   fourth-kind at m m₁ p (suc zero) x l h k e =
       let q = is-item 12 0 0 [] m₁ x p e in
-      three-parts witness at m m₁ p _ _ [] x (record { below = tt; content = tt }) refl h k (subst (λ (n : ℕ). Stands bits m₁ n []) (q .1) (stands-none bits m₁ (k .inside))) (q .0)
+      three-parts witness at m m₁ p _ _ [] x (record { below = tt; content = tt }) refl h k (ended m₁ p (k .inside) (q .1)) (q .0)
   fourth-kind at m m₁ p (suc (suc d)) x l h k e = absurd (omega arith)
 
   fourth-read : (at m p : ℕ) (x : Item) → Stands bits at m (0 ∷ 1 ∷ 1 ∷ []) → combinator bits i held 3 m ≡ got x p → IsNode bits i held at x p
-  unfolding combinator fourth
+  unfolding combinator afterFourth
   fourth-read at m p x h e =
-      let r = both-got (code bits 1) fourth m x p e in
+      let r = both-got (code bits 1) afterFourth m x p e in
       let s = one-stands bits are m (r .0) (r .1) (r .2) in
       fourth-kind at m (r .1) p (r .0) x (s .1) h (s .0) (r .3)
 
@@ -184,7 +194,8 @@ module _ (bits : List Bit) (are : AreBits bits) (i held : ℕ) where
       h (n .0) (subst (λ (k : ℕ). Stands bits (r .1) k (s .0)) (q .1) (w .0)) (q .0 ∙ ap (λ (k : ℕ). itemWith 14 (r .0) k []) first)
 
   -- the four codes of combinators
-  combinator-read : (at m p d e : ℕ) (x : Item) → d < 2 → e < 2 → Stands bits at m (0 ∷ d ∷ e ∷ []) → combinator bits i held (numberFrom 0 (d ∷ e ∷ [])) m ≡ got x p
+  combinator-read : (at m p d e : ℕ) (x : Item) → d < 2 → e < 2 → Stands bits at m (0 ∷ d ∷ e ∷ [])
+      → combinator bits i held (numberFrom 0 (d ∷ e ∷ [])) m ≡ got x p
       → IsNode bits i held at x p
   unfolding numberFrom
   combinator-read at m p zero zero x ld le h q = two-read at m p x h q
@@ -196,36 +207,36 @@ module _ (bits : List Bit) (are : AreBits bits) (i held : ℕ) where
   combinator-read at m p (suc (suc d)) e x ld le h q = absurd (omega arith)
 
   -- after the first bit: a combinator, or a word or a jet
-  jet-or-word : (jet : ℕ) → Reader Item
-  jet-or-word jet = elim (eqb jet 1) [ true ↦ stop aJet | false ↦ wordItem bits ]
+  jetOrWord : (jet : ℕ) → Reader Item
+  jetOrWord jet = elim (eqb jet 1) [ true ↦ stop aJet | false ↦ wordItem bits ]
 
-  after-first : (other : ℕ) → Reader Item
-  after-first other = elim (eqb other 0) [ true ↦ code bits 2 >>= combinator bits i held | false ↦ code bits 1 >>= jet-or-word ]
+  afterFirst : (other : ℕ) → Reader Item
+  afterFirst other = elim (eqb other 0) [ true ↦ code bits 2 >>= combinator bits i held | false ↦ code bits 1 >>= jetOrWord ]
 
-  word-or-jet : (at m p v : ℕ) (x : Item) → v < 2 → Stands bits at m (1 ∷ v ∷ []) → jet-or-word v m ≡ got x p → IsNode bits i held at x p
-  unfolding jet-or-word stop
+  word-or-jet : (at m p v : ℕ) (x : Item) → v < 2 → Stands bits at m (1 ∷ v ∷ []) → jetOrWord v m ≡ got x p → IsNode bits i held at x p
+  unfolding jetOrWord stop
   word-or-jet at m p zero x l h e = word-read at m p x h e
   word-or-jet at m p (suc zero) x l h e = clash (cc)
   word-or-jet at m p (suc (suc v)) x l h e = absurd (omega arith)
 
-  first-read : (at m p v : ℕ) (x : Item) → v < 2 → Stands bits at m (v ∷ []) → after-first v m ≡ got x p → IsNode bits i held at x p
-  unfolding after-first
+  first-read : (at m p v : ℕ) (x : Item) → v < 2 → Stands bits at m (v ∷ []) → afterFirst v m ≡ got x p → IsNode bits i held at x p
+  unfolding afterFirst
   first-read at m p zero x l h e =
       let r = both-got (code bits 2) (combinator bits i held) m x p e in
       let s = two-stand bits are m (r .0) (r .1) (r .2) in
       combinator-read at (r .1) p (s .0) (s .1) x (s .3) (s .4) (stands-then bits at m (r .1) (0 ∷ []) (s .0 ∷ s .1 ∷ []) h (s .2))
       (ap (λ (k : ℕ). combinator bits i held k (r .1)) (s .5) ∙ r .3)
   first-read at m p (suc zero) x l h e =
-      let r = both-got (code bits 1) jet-or-word m x p e in
+      let r = both-got (code bits 1) jetOrWord m x p e in
       let s = one-stands bits are m (r .0) (r .1) (r .2) in
       word-or-jet at (r .1) p (r .0) x (s .1) (stands-then bits at m (r .1) (1 ∷ []) (r .0 ∷ []) h (s .0)) (r .3)
   first-read at m p (suc (suc v)) x l h e = absurd (omega arith)
 
   -- what is read is the code of a node
   pub node-is-code : (at : ℕ) (x : Item) (p : ℕ) → node bits i held at ≡ got x p → IsNode bits i held at x p
-  unfolding node after-first jet-or-word
+  unfolding node afterFirst jetOrWord
   node-is-code at x p e =
-      let r = both-got (code bits 1) after-first at x p e in
+      let r = both-got (code bits 1) afterFirst at x p e in
       let s = one-stands bits are at (r .0) (r .1) (r .2) in
       first-read at (r .1) p (r .0) x (s .1) (s .0) (r .3)
 
@@ -238,9 +249,12 @@ module _ (bits : List Bit) (are : AreBits bits) (i held : ℕ) where
         let sub : ℕ = numberFrom 0 (d ∷ e ∷ []) in
         let s = stands-split bits m p (d ∷ e ∷ []) (codeNatural (i - a) ++ codeNatural (i - b)) h in
         let t = stands-split bits (m + 2) p (codeNatural (i - a)) (codeNatural (i - b)) (s .1) in
-        then-reads (code bits 2) (λ sub. child bits i >>= λ left. child bits i >>= λ right. item sub left right []) m sub (m + 2) (stands-code bits are m (m + 2) (d ∷ e ∷ []) (s .0))
-        ∙ then-reads (child bits i) (λ left. child bits i >>= λ right. item sub left right []) (m + 2) a (m + 2 + length (codeNatural (i - a))) (stands-child bits are i (m + 2) a _ bound (f .0) (t .0))
-        ∙ then-reads (child bits i) (λ right. item sub a right []) (m + 2 + length (codeNatural (i - a))) b p (stands-child bits are i _ b p bound (f .1 .0) (t .1))
+        then-reads (code bits 2) (λ sub. child bits i >>= λ left. child bits i >>= λ right. item sub left right []) m sub (m + 2)
+        (stands-code bits are m (m + 2) (d ∷ e ∷ []) (s .0))
+        ∙ then-reads (child bits i) (λ left. child bits i >>= λ right. item sub left right []) (m + 2) a
+        (m + 2 + length (codeNatural (i - a))) (stands-child bits are i (m + 2) a _ bound (f .0) (t .0))
+        ∙ then-reads (child bits i) (λ right. item sub a right []) (m + 2 + length (codeNatural (i - a))) b p
+        (stands-child bits are i _ b p bound (f .1 .0) (t .1))
 
     one-reads : (m p d e a : ℕ) → AllBelow i (a ∷ []) → Stands bits m p (d ∷ e ∷ codeNatural (i - a))
         → combinator bits i held 1 m ≡ got (itemWith (4 + numberFrom 0 (d ∷ e ∷ [])) a 0 []) p
@@ -248,47 +262,50 @@ module _ (bits : List Bit) (are : AreBits bits) (i held : ℕ) where
     one-reads m p d e a f h =
         let sub : ℕ = numberFrom 0 (d ∷ e ∷ []) in
         let s = stands-split bits m p (d ∷ e ∷ []) (codeNatural (i - a)) h in
-        then-reads (code bits 2) (λ sub. child bits i >>= λ only. item (4 + sub) only 0 []) m sub (m + 2) (stands-code bits are m (m + 2) (d ∷ e ∷ []) (s .0))
+        then-reads (code bits 2) (λ sub. child bits i >>= λ only. item (4 + sub) only 0 []) m sub (m + 2)
+        (stands-code bits are m (m + 2) (d ∷ e ∷ []) (s .0))
         ∙ then-reads (child bits i) (λ only. item (4 + sub) only 0 []) (m + 2) a p (stands-child bits are i (m + 2) a p bound (f .0) (s .1))
 
     third-reads : (m p d e : ℕ) (rest : List Bit) → Stands bits m p (d ∷ e ∷ rest)
-        → (combinator bits i held 2 m ≡ third (numberFrom 0 (d ∷ e ∷ [])) (m + 2)) × Stands bits (m + 2) p rest
-    unfolding combinator third
+        → (combinator bits i held 2 m ≡ afterThird (numberFrom 0 (d ∷ e ∷ [])) (m + 2)) × Stands bits (m + 2) p rest
+    unfolding combinator afterThird
     third-reads m p d e rest h =
         let s = stands-split bits m p (d ∷ e ∷ []) rest h in
-        (then-reads (code bits 2) third m (numberFrom 0 (d ∷ e ∷ [])) (m + 2) (stands-code bits are m (m + 2) (d ∷ e ∷ []) (s .0)), s .1)
+        (then-reads (code bits 2) afterThird m (numberFrom 0 (d ∷ e ∷ [])) (m + 2) (stands-code bits are m (m + 2) (d ∷ e ∷ []) (s .0)), s .1)
 
     fourth-reads : (m p d : ℕ) (rest : List Bit) → Stands bits m p (d ∷ rest)
-        → (combinator bits i held 3 m ≡ fourth (numberFrom 0 (d ∷ [])) (m + 1)) × Stands bits (m + 1) p rest
-    unfolding combinator fourth
+        → (combinator bits i held 3 m ≡ afterFourth (numberFrom 0 (d ∷ [])) (m + 1)) × Stands bits (m + 1) p rest
+    unfolding combinator afterFourth
     fourth-reads m p d rest h =
         let s = stands-split bits m p (d ∷ []) rest h in
-        (then-reads (code bits 1) fourth m (numberFrom 0 (d ∷ [])) (m + 1) (stands-code bits are m (m + 1) (d ∷ []) (s .0)), s .1)
+        (then-reads (code bits 1) afterFourth m (numberFrom 0 (d ∷ [])) (m + 1) (stands-code bits are m (m + 1) (d ∷ []) (s .0)), s .1)
 
     combinator-reads : (at p d e : ℕ) (rest : List Bit) → Stands bits at p (0 ∷ d ∷ e ∷ rest)
         → (node bits i held at ≡ combinator bits i held (numberFrom 0 (d ∷ e ∷ [])) (at + 1 + 2)) × Stands bits (at + 1 + 2) p rest
-    unfolding node after-first jet-or-word numberFrom
+    unfolding node afterFirst jetOrWord numberFrom
     combinator-reads at p d e rest h =
         let s = stands-split bits at p (0 ∷ []) (d ∷ e ∷ rest) h in
         let t = stands-split bits (at + 1) p (d ∷ e ∷ []) rest (s .1) in (
-          then-reads (code bits 1) after-first at 0 (at + 1) (stands-code bits are at (at + 1) (0 ∷ []) (s .0))
-              ∙ then-reads (code bits 2) (combinator bits i held) (at + 1) (numberFrom 0 (d ∷ e ∷ [])) (at + 1 + 2) (stands-code bits are (at + 1) (at + 1 + 2) (d ∷ e ∷ []) (t .0)),
+          then-reads (code bits 1) afterFirst at 0 (at + 1) (stands-code bits are at (at + 1) (0 ∷ []) (s .0))
+              ∙ then-reads (code bits 2) (combinator bits i held) (at + 1) (numberFrom 0 (d ∷ e ∷ [])) (at + 1 + 2)
+              (stands-code bits are (at + 1) (at + 1 + 2) (d ∷ e ∷ []) (t .0)),
           t .1,
         )
 
     word-reads : (at p n : ℕ) (bs : List Bit) → ContentFits (word n bs) → Stands bits at p (1 ∷ 0 ∷ (codeNatural n ++ bs))
         → node bits i held at ≡ got (itemWith 14 n (at + 2 + length (codeNatural n)) []) p
-    unfolding node after-first jet-or-word numberFrom wordItem here item give
+    unfolding node afterFirst jetOrWord numberFrom wordItem here item give
     word-reads at p n bs f h =
         let s = stands-split bits at p (1 ∷ []) (0 ∷ (codeNatural n ++ bs)) h in
         let t = stands-split bits (at + 1) p (0 ∷ []) (codeNatural n ++ bs) (s .1) in
         let u = stands-split bits (at + 1 + 1) p (codeNatural n) bs (t .1) in
         let first : ℕ = at + 1 + 1 + length (codeNatural n) in
-        then-reads (code bits 1) after-first at 1 (at + 1) (stands-code bits are at (at + 1) (1 ∷ []) (s .0))
-        ∙ then-reads (code bits 1) jet-or-word (at + 1) 0 (at + 1 + 1) (stands-code bits are (at + 1) (at + 1 + 1) (0 ∷ []) (t .0))
+        then-reads (code bits 1) afterFirst at 1 (at + 1) (stands-code bits are at (at + 1) (1 ∷ []) (s .0))
+        ∙ then-reads (code bits 1) jetOrWord (at + 1) 0 (at + 1 + 1) (stands-code bits are (at + 1) (at + 1 + 1) (0 ∷ []) (t .0))
         ∙ then-reads (naturalUpTo bits wordMost) (λ n. here >>= λ first. next bits (2 ^ (n - 1)) >>= λ bs. item 14 n first []) (at + 1 + 1) n first
         (stands-natural bits are wordMost (at + 1 + 1) n first (omega arith) (f .0) (f .1) (u .0))
-        ∙ then-reads (next bits (2 ^ (n - 1))) (λ bs. item 14 n first []) first bs p (ap (λ (k : ℕ). next bits k first) (sym (f .2)) ∙ stands-next bits first p bs (u .1))
+        ∙ then-reads (next bits (2 ^ (n - 1))) (λ bs. item 14 n first []) first bs p
+        (ap (λ (k : ℕ). next bits k first) (sym (f .2)) ∙ stands-next bits first p bs (u .1))
         ∙ ap (λ (k : ℕ). got (itemWith 14 n k []) p) (let e : first ≡ at + 2 + length (codeNatural n) = omega arith in e)
 
     none-left : (at p : ℕ) → Stands bits at p [] → at ≡ p
@@ -299,7 +316,7 @@ module _ (bits : List Bit) (are : AreBits bits) (i held : ℕ) where
 
     -- the code of a node is read as that node
     pub code-is-node : (n : Node) → NodeFits i n → (at p : ℕ) → Stands bits at p (codeNode i n) → node bits i held at ≡ got (itemOf held at n) p
-    unfolding itemOf codeNode children numberFrom third fourth item give
+    unfolding itemOf codeNode children numberFrom afterThird afterFourth item give
     code-is-node (comp a b) f at p h = let c = combinator-reads at p 0 0 _ h in c .0 ∙ two-reads (at + 1 + 2) p 0 0 a b (f .below) (c .1)
     code-is-node (case a b) f at p h = let c = combinator-reads at p 0 0 _ h in c .0 ∙ two-reads (at + 1 + 2) p 0 1 a b (f .below) (c .1)
     code-is-node (pair a b) f at p h = let c = combinator-reads at p 0 0 _ h in c .0 ∙ two-reads (at + 1 + 2) p 1 0 a b (f .below) (c .1)
@@ -311,7 +328,8 @@ module _ (bits : List Bit) (are : AreBits bits) (i held : ℕ) where
     code-is-node (disconnect1 a) f at p h =
         let c = combinator-reads at p 1 0 _ h in
         let t = third-reads (at + 1 + 2) p 1 1 _ (c .1) in
-        c .0 ∙ t .0 ∙ then-reads (child bits i) (λ only. item 11 only 0 []) (at + 1 + 2 + 2) a p (stands-child bits are i (at + 1 + 2 + 2) a p bound (f .below .0) (t .1))
+        c .0 ∙ t .0 ∙ then-reads (child bits i) (λ only. item 11 only 0 []) (at + 1 + 2 + 2) a p
+        (stands-child bits are i (at + 1 + 2 + 2) a p bound (f .below .0) (t .1))
     code-is-node iden f at p h =
         let c = combinator-reads at p 1 0 _ h in
         let t = third-reads (at + 1 + 2) p 0 0 _ (c .1) in
@@ -327,9 +345,11 @@ module _ (bits : List Bit) (are : AreBits bits) (i held : ℕ) where
     code-is-node (fail bytes) f at p h =
         let c = combinator-reads at p 1 0 _ h in
         let t = third-reads (at + 1 + 2) p 1 0 _ (c .1) in
-        c .0 ∙ t .0 ∙ then-reads (octets bits failBytes) (λ bytes. item 10 held 0 bytes) (at + 1 + 2 + 2) bytes p (octets-read failBytes (at + 1 + 2 + 2) p bytes (f .content .0) (f .content .1) (t .1))
+        c .0 ∙ t .0 ∙ then-reads (octets bits failBytes) (λ bytes. item 10 held 0 bytes) (at + 1 + 2 + 2) bytes p
+        (octets-read failBytes (at + 1 + 2 + 2) p bytes (f .content .0) (f .content .1) (t .1))
     code-is-node (hidden bytes) f at p h =
         let c = combinator-reads at p 1 1 _ h in
         let t = fourth-reads (at + 1 + 2) p 0 _ (c .1) in
-        c .0 ∙ t .0 ∙ then-reads (octets bits hashBytes) (λ bytes. item 13 held 0 bytes) (at + 1 + 2 + 1) bytes p (octets-read hashBytes (at + 1 + 2 + 1) p bytes (f .content .0) (f .content .1) (t .1))
+        c .0 ∙ t .0 ∙ then-reads (octets bits hashBytes) (λ bytes. item 13 held 0 bytes) (at + 1 + 2 + 1) bytes p
+        (octets-read hashBytes (at + 1 + 2 + 1) p bytes (f .content .0) (f .content .1) (t .1))
     code-is-node (word n bs) f at p h = word-reads at p n bs (f .content) h

@@ -14,7 +14,8 @@ use Rattle.limits.specs.Limits.{dossierBytes}
 use Rattle.refusal.specs.declared.Refusal.the-variants.{Header, Closing}
 use Rattle.report.specs.Bits.{Bit, bitsOf}
 use Rattle.report.specs.Naturals.{codeNatural}
-use Rattle.report.specs.Nodes.{Node, comp, case, pair, disconnect, injl, injr, take, drop, disconnect1, iden, unit, witness, fail, hidden, word, codeNode, codeNodes, codeProgram}
+use Rattle.report.specs.Nodes.{Node, comp, case, pair, disconnect, injl, injr, take, drop, disconnect1, iden, unit, witness, fail, hidden, word}
+use Rattle.report.specs.Nodes.{codeNode, codeNodes, codeProgram}
 use Rattle.report.specs.Canonical.{Canonical}
 use Rattle.scope.specs.Check.{Check, passed, _>>=_, require}
 use Rattle.scope.specs.Numbers.{zeros, streamOf, allZero}
@@ -61,10 +62,12 @@ module _ (bits : List Bit) (hashes : List ℕ) where
       let s = stands-split bits at p (1 ∷ 0 ∷ codeNatural n) bs h in
       let from : at + length (1 ∷ 0 ∷ codeNatural n) ≡ at + 2 + length (codeNatural n) = omega arith in
       ap (word n)
-      (ap (λ (k : ℕ). takeL (2 ^ (n - 1)) (dropL k bits)) (sym from) ∙ ap (takeL (2 ^ (n - 1))) (s .1 .bits-there) ∙ take-at bs _ (2 ^ (n - 1)) (f .content .2))
+      (ap (λ (k : ℕ). takeL (2 ^ (n - 1)) (dropL k bits)) (sym from) ∙ ap (takeL (2 ^ (n - 1))) (s .1 .bits-there)
+      ∙ take-at bs _ (2 ^ (n - 1)) (f .content .2))
 
   -- the records of a table stand for its nodes
-  records-nodes : (i held at p : ℕ) (ns : List Node) (more : List ℕ) → NodesFit i ns → Stands bits at p (codeNodes i ns) → dropL held hashes ≡ hashesOf ns ++ more
+  records-nodes : (i held at p : ℕ) (ns : List Node) (more : List ℕ) → NodesFit i ns → Stands bits at p (codeNodes i ns)
+      → dropL held hashes ≡ hashesOf ns ++ more
       → nodesOf bits hashes (recordsFrom i held at ns) ≡ ns
   unfolding nodesOf recordsFrom hashesOf codeNodes
   records-nodes i held at p [] more f h e = refl
@@ -72,18 +75,21 @@ module _ (bits : List Bit) (hashes : List ℕ) where
       let s = stands-split bits at p (codeNode i n) (codeNodes (suc i) ns) h in
       let stored : dropL held hashes ≡ storedBy n ++ (hashesOf ns ++ more) = e ∙ append-assoc (storedBy n) (hashesOf ns) more in
       let later : dropL (held + length (storedBy n)) hashes ≡ hashesOf ns ++ more =
-      sym (drop-drop (length (storedBy n)) held hashes) ∙ ap (dropL (length (storedBy n))) stored ∙ drop-at (storedBy n) (hashesOf ns ++ more) (length (storedBy n)) refl in
+      sym (drop-drop (length (storedBy n)) held hashes) ∙ ap (dropL (length (storedBy n))) stored
+      ∙ drop-at (storedBy n) (hashesOf ns ++ more) (length (storedBy n)) refl in
       ap₂ _∷_ (record-node i held at (at + length (codeNode i n)) n (hashesOf ns ++ more) (f .0) (s .0) stored)
       (records-nodes (suc i) (held + length (storedBy n)) (at + length (codeNode i n)) p ns more (f .1) (s .1) later)
 
 -- the layout of a table stands for its nodes
-pub layout-nodes : (bits : List Bit) (records bytes : ℕ) (ns : List Node) → IsTable bits records bytes ns → nodesOf bits (layout ns .hashes) (layout ns .records) ≡ ns
+pub layout-nodes : (bits : List Bit) (records bytes : ℕ) (ns : List Node) → IsTable bits records bytes ns
+    → nodesOf bits (layout ns .hashes) (layout ns .records) ≡ ns
 unfolding layout codeProgram
 layout-nodes bits records bytes ns h =
     let s = stands-split bits 0 (length (codeProgram ns)) (codeNatural (length ns)) (codeNodes 0 ns) (h .stands) in
     let front : Stands bits (length (codeNatural (length ns))) (length (codeProgram ns)) (codeNodes 0 ns) =
     subst (λ (k : ℕ). Stands bits k (length (codeProgram ns)) (codeNodes 0 ns)) (zero-add (length (codeNatural (length ns)))) (s .1) in
-    records-nodes bits (hashesOf ns) 0 0 (length (codeNatural (length ns))) (length (codeProgram ns)) ns [] (h .formed .fit) front (sym (append-nil (hashesOf ns)))
+    records-nodes bits (hashesOf ns) 0 0 (length (codeNatural (length ns))) (length (codeProgram ns)) ns [] (h .formed .fit) front
+    (sym (append-nil (hashesOf ns)))
 
 -- a list of zeros
 zeros-all : (n : ℕ) → allZero (zeros n) ≡ true
@@ -125,7 +131,8 @@ module _ (bits x : List Bit) where
   stands-closed some c =
       let at : ℕ = length x in
       let rest : dropL at bits ≡ zeros (c .padding) = ap (dropL at) (c .whole) ∙ drop-at x (zeros (c .padding)) at refl in
-      let size : length bits ≡ at + c .padding = ap length (c .whole) ∙ length-append x (zeros (c .padding)) ∙ ap (λ (k : ℕ). at + k) (length-zeros (c .padding)) in
+      let size : length bits ≡ at + c .padding =
+      ap length (c .whole) ∙ length-append x (zeros (c .padding)) ∙ ap (λ (k : ℕ). at + k) (length-zeros (c .padding)) in
       let few = c .short in (
         subst (λ (k : ℕ). Stands bits 0 k x) (zero-add at) (front-stands bits 0 x (zeros (c .padding)) some (c .whole)),
         all-every (leb at (length bits) ∷ ltb (length bits - at) 8 ∷ allZero (dropL at bits) ∷ []) (
@@ -174,11 +181,12 @@ module _ (program : List ℕ) (records bytes : ℕ) where
   closing : Table → Check Table
   closing t = require (closes (streamOf program) (t .end)) (Closing (length (t .records))) >>= λ closed. passed t
 
-  after-reading : Table → Check Table
-  after-reading t = checkWalk (nodesOf (streamOf program) (t .hashes) (t .records)) >>= λ walked. closing t
+  afterReading : Table → Check Table
+  afterReading t = checkWalk (nodesOf (streamOf program) (t .hashes) (t .records)) >>= λ walked. closing t
 
   table-program : (ns : List Node) → length program ≤ dossierBytes → IsTable (streamOf program) records bytes ns
-      → checkWalk (nodesOf (streamOf program) (layout ns .hashes) (layout ns .records)) ≡ passed tt → closes (streamOf program) (layout ns .end) ≡ true
+      → checkWalk (nodesOf (streamOf program) (layout ns .hashes) (layout ns .records)) ≡ passed tt
+      → closes (streamOf program) (layout ns .end) ≡ true
       → IsProgram program records bytes ns
   unfolding layout
   table-program ns l h w c =
@@ -193,9 +201,10 @@ module _ (program : List ℕ) (records bytes : ℕ) where
         bytes-fit = h .bytes-fit;
       }
 
-  read-program : (t u : Table) (ns : List Node) → length program ≤ dossierBytes → IsTable (streamOf program) records bytes ns → u ≡ layout ns → after-reading u ≡ passed t
+  read-program : (t u : Table) (ns : List Node) → length program ≤ dossierBytes → IsTable (streamOf program) records bytes ns
+      → u ≡ layout ns → afterReading u ≡ passed t
       → (ns : List Node) × IsProgram program records bytes ns × (t ≡ layout ns)
-  unfolding after-reading closing
+  unfolding afterReading closing
   read-program t u ns l h q e =
       let w = both-passed (checkWalk (nodesOf (streamOf program) (u .hashes) (u .records))) (λ walked. closing u) t e in
       let c = both-passed (require (closes (streamOf program) (u .end)) (Closing (length (u .records)))) (λ closed. passed u) t (w .2) in
@@ -208,23 +217,27 @@ module _ (program : List ℕ) (records bytes : ℕ) where
       )
 
   -- a program that decodes is the code of a table, and what is decoded is its layout
-  pub decoded-is-program : (t : Table) → decode program records bytes ≡ passed t → (ns : List Node) × IsProgram program records bytes ns × (t ≡ layout ns)
-  unfolding decode after-reading closing
+  pub decoded-is-program : (t : Table) → decode program records bytes ≡ passed t
+      → (ns : List Node) × IsProgram program records bytes ns × (t ≡ layout ns)
+  unfolding decode afterReading closing
   decoded-is-program t e =
-      let a = both-passed (require (leb (length program) dossierBytes) (Header 0)) (λ fits. readNodes (streamOf program) records bytes >>= after-reading) t e in
-      let b = both-passed (readNodes (streamOf program) records bytes) after-reading t (a .2) in
+      let a = both-passed (require (leb (length program) dossierBytes) (Header 0))
+      (λ fits. readNodes (streamOf program) records bytes >>= afterReading) t e in
+      let b = both-passed (readNodes (streamOf program) records bytes) afterReading t (a .2) in
       let r = read-is-table (streamOf program) (stream-bits program) records bytes (b .0) (b .1) in
-      read-program t (b .0) (r .0) (leb-true (length program) dossierBytes (require-holds (leb (length program) dossierBytes) (Header 0) (a .0) (a .1))) (r .1) (r .2) (b .2)
+      read-program t (b .0) (r .0) (leb-true (length program) dossierBytes
+      (require-holds (leb (length program) dossierBytes) (Header 0) (a .0) (a .1))) (r .1) (r .2) (b .2)
 
   -- and such a program decodes
   pub program-is-decoded : (ns : List Node) → IsProgram program records bytes ns → decode program records bytes ≡ passed (layout ns)
-  unfolding decode after-reading closing layout
+  unfolding decode afterReading closing layout
   program-is-decoded ns h =
       let t : Table = layout ns in
       let s = stands-closed (streamOf program) (codeProgram ns) (program-some ns) (h .coded) in
-      then-passes (require (leb (length program) dossierBytes) (Header 0)) (λ fits. readNodes (streamOf program) records bytes >>= after-reading) tt
+      then-passes (require (leb (length program) dossierBytes) (Header 0)) (λ fits. readNodes (streamOf program) records bytes >>= afterReading) tt
       (holds-require (leb (length program) dossierBytes) (Header 0) (le-leb (length program) dossierBytes (h .within)))
-      ∙ then-passes (readNodes (streamOf program) records bytes) after-reading t (table-is-read (streamOf program) (stream-bits program) records bytes ns (program-table ns h))
+      ∙ then-passes (readNodes (streamOf program) records bytes) afterReading t
+      (table-is-read (streamOf program) (stream-bits program) records bytes ns (program-table ns h))
       ∙ then-passes (checkWalk (nodesOf (streamOf program) (t .hashes) (t .records))) (λ walked. closing t) tt
       (ap checkWalk (decoded-nodes ns h) ∙ canonical-walk ns (h .canonical) (h .hidden-places))
       ∙ then-passes (require (closes (streamOf program) (t .end)) (Closing (length (t .records)))) (λ closed. passed t) tt

@@ -17,11 +17,11 @@ use Rattle.scope.specs.Walk6to9.{hiddenAt, hides, noneHidden, allowed}
 use Rattle.exactness.specs.Checks.{clash, all-every, none-below, below-none, same-equal, equal-same, require-holds, holds-require, both-passed}
 
 -- node j is hidden
-pub IsHidden : List Node → (j : ℕ) → Type 0
+abbrev pub IsHidden : List Node → (j : ℕ) → Type 0
 IsHidden nodes j = (hash : List ℕ) × (nodeAt nodes j ≡ hidden hash)
 
 -- the node is a case
-pub IsCase : Node → Type 0
+abbrev pub IsCase : Node → Type 0
 IsCase n = (a : ℕ) × (b : ℕ) × (n ≡ case a b)
 
 -- where hidden nodes may stand
@@ -50,6 +50,7 @@ hidden-holds f (fail bytes) e = clash (cc)
 hidden-holds f (hidden bytes) e = (bytes, refl, e)
 hidden-holds f (word n bits) e = clash (cc)
 
+-- a test is true or false, and not both
 not-true-false : (b : Bool) → (b ≡ true → ⊥) → b ≡ false
 not-true-false true h = absurd (h refl)
 not-true-false false h = refl
@@ -57,7 +58,7 @@ not-true-false false h = refl
 true-not-false : (b : Bool) → b ≡ true → b ≡ false → ⊥
 true-not-false b p q = clash (cc)
 
--- i is one of a list that begins with it, and of a longer list
+-- a number is one of a list that begins with it, and of a longer list
 done-first : (j : ℕ) (js : List ℕ) → isDone j (j ∷ js) ≡ true
 unfolding isDone
 done-first j js = rw (eq-eqb j j refl, isDone)
@@ -71,12 +72,13 @@ done-later j k js d = go (eqb j k)
     go false = d
 
 module _ (nodes : List Node) where
+  -- the tests of hidden nodes hold exactly of hidden nodes
   hidden-test : (j : ℕ) → hiddenAt nodes j ≡ true → IsHidden nodes j
-  unfolding hiddenAt IsHidden
+  unfolding hiddenAt
   hidden-test j e = let h = hidden-holds (λ hash. true) (nodeAt nodes j) e in (h .0, h .1)
 
   test-hidden : (j : ℕ) → IsHidden nodes j → hiddenAt nodes j ≡ true
-  unfolding hiddenAt IsHidden
+  unfolding hiddenAt
   test-hidden j h = rw (h .1)
 
   hides-test : (hash : List ℕ) (j : ℕ) → hides nodes hash j ≡ true → nodeAt nodes j ≡ hidden hash
@@ -112,7 +114,8 @@ module _ (nodes : List Node) where
   data Sort : Node → Type 0 where
     Case : (a b : ℕ) → Sort (case a b)
     Hidden : (hash : List ℕ) → Sort (hidden hash)
-    Other : (n : Node) → ((i : ℕ) → allowed nodes i n ≡ noneHidden nodes i (children n)) → ((a b : ℕ) → n ≡ case a b → ⊥) → ((hash : List ℕ) → n ≡ hidden hash → ⊥) → Sort n
+    Other : (n : Node) → ((i : ℕ) → allowed nodes i n ≡ noneHidden nodes i (children n)) → ((a b : ℕ) → n ≡ case a b → ⊥)
+        → ((hash : List ℕ) → n ≡ hidden hash → ⊥) → Sort n
 
   sort : (n : Node) → Sort n
   unfolding allowed noneHidden children
@@ -141,10 +144,11 @@ module _ (nodes : List Node) where
   case-asks : (a b : ℕ) → not (every (hiddenAt nodes a ∷ hiddenAt nodes b ∷ [])) ≡ true → IsHidden nodes a → IsHidden nodes b → ⊥
   unfolding every
   case-asks a b e h k =
-      true-not-false _ (all-every (hiddenAt nodes a ∷ hiddenAt nodes b ∷ []) (test-hidden a h, (test-hidden b k, tt))) (not-true (every (hiddenAt nodes a ∷ hiddenAt nodes b ∷ [])) e)
+      true-not-false _ (all-every (hiddenAt nodes a ∷ hiddenAt nodes b ∷ []) (test-hidden a h, (test-hidden b k, tt)))
+      (not-true (every (hiddenAt nodes a ∷ hiddenAt nodes b ∷ [])) e)
 
   allowed-asks : (i : ℕ) (n : Node) (x : Unit {0}) → allowed nodes i n ≡ passed x → Sort n → Asks i n
-  unfolding allowed IsCase IsHidden children isDone
+  unfolding allowed children isDone
   allowed-asks i n x e (Case a b) = record {
     under-case = λ j d h. (a, b, refl);
     one-branch = λ c d q h k.
@@ -178,7 +182,7 @@ module _ (nodes : List Node) where
       go false y p q = refl
 
   asks-allowed : (i : ℕ) (n : Node) → Asks i n → Sort n → allowed nodes i n ≡ passed tt
-  unfolding allowed IsCase
+  unfolding allowed
   asks-allowed i n h (Case a b) = holds-require _ _ (both-false a b (h .one-branch a b refl))
   asks-allowed i n h (Hidden hash) =
       holds-require _ _ (ap not (below-none i (hides nodes hash) (λ j l. not-true-false _ (λ e. h .no-repeat j hash l (hides-test hash j e) refl))))
@@ -186,7 +190,8 @@ module _ (nodes : List Node) where
       p i ∙ all-shown i (children n) (λ j d. not-true-false _ (λ e. (let c = h .under-case j d (hidden-test j e) in q (c .0) (c .1) (c .2))))
 
   -- hidden nodes stand where they may exactly if each node is allowed and the last is not hidden
-  pub allowed-places : ((i : ℕ) → i < length nodes → allowed nodes i (nodeAt nodes i) ≡ passed tt) → hiddenAt nodes (length nodes - 1) ≡ false → HiddenPlaces nodes
+  pub allowed-places : ((i : ℕ) → i < length nodes → allowed nodes i (nodeAt nodes i) ≡ passed tt)
+      → hiddenAt nodes (length nodes - 1) ≡ false → HiddenPlaces nodes
   allowed-places h last = record {
     under-case = λ i j l d k. asks i l .under-case j d k;
     one-branch = λ i a b l p u v. asks i l .one-branch a b p u v;

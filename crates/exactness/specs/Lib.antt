@@ -8,10 +8,12 @@ pub mod Hidden
 pub mod Canonical
 pub mod Types
 pub mod TypeTests
+pub mod NodeTyping
 pub mod Arrows
 pub mod Nodes
 pub mod Stream
 pub mod Coding
 pub mod Reading
 pub mod Decoding
+pub mod Pins
 pub mod Theorems

@@ -1,5 +1,5 @@
--- Reading a natural and coding it undo one another, for the naturals from 1 up to below 2 ^ 32.
--- The bound is exact: a length of at most 31 is allowed, so no larger number can be read.
+-- Reading a natural and coding it undo one another, for the naturals from 1 on below `naturalBound`.
+-- The bound is exact: no length above `naturalLength` is allowed, so no larger number can be read.
 use mathlib.Core.Path.{_≡_, refl, ap, sym, _∙_, subst, ap₂}
 use mathlib.Core.List.{List, [], _∷_, _++_, append-assoc}
 use Prim.Native.Nat.{ℕ, zero, suc, _+_, _*_, _-_, _/_, _%_, _^_, _≤_, _<_}

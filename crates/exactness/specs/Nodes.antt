@@ -1,5 +1,5 @@
--- Which tables of nodes a program may have: children stand before their node, a word has 2 ^ (n - 1) bits with n from 1 to 32,
--- a fail node 64 bytes and a hidden one 32; there is a node, and not too many.
+-- Which tables of nodes a program may have: children stand before their node, a word of number n has 2 ^ (n - 1) bits,
+-- fail and hidden nodes have their bytes; there is a node, and not too many.
 -- And how such a table lies in the stores: `layout` gives each node its record, with the bytes and the bits before it counted.
 use mathlib.Core.Path.{_≡_, subst}
 use mathlib.Core.List.{List, [], _∷_, _++_}
@@ -9,7 +9,8 @@ use native.Mathlib.Omega.{arith}
 use lib.ListN.{length}
 use Rattle.limits.specs.Limits.{nodeCount, wordMost, hashBytes, failBytes}
 use Rattle.report.specs.Naturals.{codeNatural}
-use Rattle.report.specs.Nodes.{Node, comp, case, pair, disconnect, injl, injr, take, drop, disconnect1, iden, unit, witness, fail, hidden, word, codeNode, codeProgram}
+use Rattle.report.specs.Nodes.{Node, comp, case, pair, disconnect, injl, injr, take, drop, disconnect1, iden, unit, witness, fail, hidden, word}
+use Rattle.report.specs.Nodes.{codeNode, codeProgram}
 use Rattle.report.specs.Canonical.{children}
 use Rattle.scope.specs.Nodes.{NodeRecord, nodeAt}
 use Rattle.scope.specs.Reading3to5.{Table}
@@ -78,6 +79,7 @@ storedBy (fail bytes) = bytes
 storedBy (hidden bytes) = bytes
 storedBy (word n bits) = []
 
+-- a record of these numbers, the fourth of which no node uses
 abbrev pub recordWith : (kind first second : ℕ) → NodeRecord
 recordWith kind first second = record { kind = kind; first = first; second = second; third = 0 }
 

@@ -24,23 +24,29 @@ use Rattle.exactness.specs.Nodes.{NodesFit, WellFormed, storedBy, record
 use Rattle.exactness.specs.Stream.{both-got, then-reads, Stands, stands-none, stands-then, stands-split, natural-stands, stands-natural}
 use Rattle.exactness.specs.Coding.{itemOf, IsNode, node-is-code, code-is-node}
 
+abbrev tableWith : List NodeRecord → List ℕ → (end : ℕ) → Table
+tableWith records hashes end = record { records = records; hashes = hashes; end = end }
+
 module _ (bits : List Bit) (are : AreBits bits) (room : ℕ) where
   -- a node that fits the hash store
-  room-left : (i held at : ℕ) (x : Item) (p : ℕ) → nodeIn bits room i held at ≡ got x p → (node bits i held at ≡ got x p) × (held + length (x .stored) ≤ room)
+  room-left : (i held at : ℕ) (x : Item) (p : ℕ) → nodeIn bits room i held at ≡ got x p
+      → (node bits i held at ≡ got x p) × (held + length (x .stored) ≤ room)
   unfolding nodeIn give stop
   room-left i held at x p e =
       let r = both-got (node bits i held) (λ x. elim (leb (held + length (x .stored)) room) [ true ↦ give x | false ↦ stop hashesShort ]) at x p e in
       go (r .0) (r .1) (leb (held + length (r .0 .stored)) room) refl (r .2) (r .3)
     where
       go : (y : Item) (q : ℕ) (b : Bool) → leb (held + length (y .stored)) room ≡ b → node bits i held at ≡ got y q
-          → (elim b as (λ b. Reader Item) [ true ↦ give y | false ↦ stop hashesShort ]) q ≡ got x p → (node bits i held at ≡ got x p) × (held + length (x .stored) ≤ room)
+          → (elim b as (λ b. Reader Item) [ true ↦ give y | false ↦ stop hashesShort ]) q ≡ got x p
+          → (node bits i held at ≡ got x p) × (held + length (x .stored) ≤ room)
       go y q true l n e =
           let same : y ≡ x = cc in
           let to : q ≡ p = cc in
           (n ∙ ap₂ got same to, leb-true (held + length (x .stored)) room (ap (λ (z : Item). leb (held + length (z .stored)) room) (sym same) ∙ l))
       go y q false l n e = clash (cc)
 
-  left-room : (i held at : ℕ) (x : Item) (p : ℕ) → node bits i held at ≡ got x p → held + length (x .stored) ≤ room → nodeIn bits room i held at ≡ got x p
+  left-room : (i held at : ℕ) (x : Item) (p : ℕ) → node bits i held at ≡ got x p → held + length (x .stored) ≤ room
+      → nodeIn bits room i held at ≡ got x p
   unfolding nodeIn give stop
   left-room i held at x p e l =
       then-reads (node bits i held) (λ x. elim (leb (held + length (x .stored)) room) [ true ↦ give x | false ↦ stop hashesShort ]) at x p e
@@ -48,7 +54,7 @@ module _ (bits : List Bit) (are : AreBits bits) (room : ℕ) where
 
   -- the table that is left after some nodes, with those before
   abbrev tableAfter : (i : ℕ) → List NodeRecord → List ℕ → (at p : ℕ) → List Node → Table
-  tableAfter i records hashes at p ns = record { records = records ++ recordsFrom i (length hashes) at ns; hashes = hashes ++ hashesOf ns; end = p }
+  tableAfter i records hashes at p ns = tableWith (records ++ recordsFrom i (length hashes) at ns) (hashes ++ hashesOf ns) p
 
   -- nodes that stand between two positions, and are read as t
   record AreNodes (k i : ℕ) (records : List NodeRecord) (hashes : List ℕ) (at : ℕ) (t : Table) : Type 0 where
@@ -64,7 +70,7 @@ module _ (bits : List Bit) (are : AreBits bits) (room : ℕ) where
       → tableAfter (suc i) (records ++ recordOf (length hashes) at n ∷ []) (hashes ++ storedBy n) p q ns ≡ tableAfter i records hashes at q (n ∷ ns)
   unfolding recordsFrom hashesOf
   table-more i records hashes at p q n ns e =
-      ap₂ (λ (r : List NodeRecord) (h : List ℕ). record { records = r; hashes = h; end = q })
+      ap₂ (λ (r : List NodeRecord) (h : List ℕ). tableWith r h q)
       (append-assoc records (recordOf (length hashes) at n ∷ []) (recordsFrom (suc i) (length (hashes ++ storedBy n)) p ns)
       ∙ ap₂ (λ (h a : ℕ). records ++ recordOf (length hashes) at n ∷ recordsFrom (suc i) h a ns) (length-append hashes (storedBy n)) e)
       (append-assoc hashes (storedBy n) (hashesOf ns))
@@ -89,22 +95,26 @@ module _ (bits : List Bit) (are : AreBits bits) (room : ℕ) where
       → nodesFrom bits room k i records hashes at ≡ passed t → AreNodes k i records hashes at t
   unfolding nodesFrom codeNodes recordsFrom hashesOf
   nodes-are-code zero i records hashes at t l h e =
-      let same : record { records = records; hashes = hashes; end = at } ≡ t = cc in
+      let same : tableWith records hashes at ≡ t = cc in
       subst (AreNodes 0 i records hashes at) same (record {
         nodes = [];
         count = refl;
         fit = tt;
         stand = stands-none bits at l;
         held = omega arith;
-        read-as = ap₂ (λ (r : List NodeRecord) (h : List ℕ). record { records = r; hashes = h; end = at }) (sym (append-nil records)) (sym (append-nil hashes));
+        read-as = ap₂ (λ (r : List NodeRecord) (h : List ℕ). tableWith r h at) (sym (append-nil records)) (sym (append-nil hashes));
       })
   nodes-are-code (suc k) i records hashes at t l h e =
       go (nodeIn bits room i (length hashes) at) refl (λ x p. nodes-are-code k (suc i) (records ++ x .node ∷ []) (hashes ++ x .stored) p t) e
     where
       go : (g : Got Item) → nodeIn bits room i (length hashes) at ≡ g
-          → ((x : Item) (p : ℕ) → p ≤ length bits → length (hashes ++ x .stored) ≤ room → nodesFrom bits room k (suc i) (records ++ x .node ∷ []) (hashes ++ x .stored) p ≡ passed t
+          → ((x : Item) (p : ℕ) → p ≤ length bits → length (hashes ++ x .stored) ≤ room
+          → nodesFrom bits room k (suc i) (records ++ x .node ∷ []) (hashes ++ x .stored) p ≡ passed t
           → AreNodes k (suc i) (records ++ x .node ∷ []) (hashes ++ x .stored) p t)
-          → elim g [ got x next ↦ nodesFrom bits room k (suc i) (records ++ x .node ∷ []) (hashes ++ x .stored) next | fault e ↦ refused (refusalAt i e) ] ≡ passed t
+          → elim g [
+            | got x next ↦ nodesFrom bits room k (suc i) (records ++ x .node ∷ []) (hashes ++ x .stored) next
+            | fault e ↦ refused (refusalAt i e)
+          ] ≡ passed t
           → AreNodes (suc k) i records hashes at t
       go (got x p) q ih e =
           let r = room-left i (length hashes) at x p q in
@@ -127,7 +137,7 @@ module _ (bits : List Bit) (are : AreBits bits) (room : ℕ) where
   unfolding nodesFrom codeNodes recordsFrom hashesOf itemOf
   code-is-nodes i [] records hashes at p b f h l =
       let to : at ≡ p = omega (arith, h .ends-at) in
-      ap passed (ap₂ (λ (r : List NodeRecord) (h : List ℕ). record { records = r; hashes = h; end = at }) (sym (append-nil records)) (sym (append-nil hashes)))
+      ap passed (ap₂ (λ (r : List NodeRecord) (h : List ℕ). tableWith r h at) (sym (append-nil records)) (sym (append-nil hashes)))
       ∙ ap (λ (q : ℕ). passed (tableAfter i records hashes at q [])) to
   code-is-nodes i (n ∷ ns) records hashes at p b f h l =
       let s = stands-split bits at p (codeNode i n) (codeNodes (suc i) ns) h in
@@ -136,7 +146,8 @@ module _ (bits : List Bit) (are : AreBits bits) (room : ℕ) where
       let size : length hashes + length (storedBy n) + length (hashesOf ns) ≤ room = omega (arith, length-append (storedBy n) (hashesOf ns)) in
       nodes-step (length ns) i records hashes at x mid
       (left-room i (length hashes) at x mid (code-is-node bits are i (length hashes) (omega arith) n (f .0) at mid (s .0)) (omega arith))
-      ∙ code-is-nodes (suc i) ns (records ++ recordOf (length hashes) at n ∷ []) (hashes ++ storedBy n) mid p (omega arith) (f .1) (s .1) (omega (arith, length-append hashes (storedBy n)))
+      ∙ code-is-nodes (suc i) ns (records ++ recordOf (length hashes) at n ∷ []) (hashes ++ storedBy n) mid p (omega arith) (f .1) (s .1)
+      (omega (arith, length-append hashes (storedBy n)))
       ∙ ap passed (table-more i records hashes at mid p n ns refl)
 
 -- a table of nodes at the front of the stream that fits the stores
@@ -165,7 +176,7 @@ module _ (bits : List Bit) (are : AreBits bits) (records bytes : ℕ) where
           records-fit = omega (arith, a .count);
           bytes-fit = omega (arith, a .held);
         },
-        a .read-as ∙ ap₂ (λ (p q : ℕ). record { records = recordsFrom 0 0 p ns; hashes = hashesOf ns; end = q }) from end,
+        a .read-as ∙ ap₂ (λ (p q : ℕ). tableWith (recordsFrom 0 0 p ns) (hashesOf ns) q) from end,
       )
 
   -- what is read is the layout of such a table
@@ -180,7 +191,10 @@ module _ (bits : List Bit) (are : AreBits bits) (records bytes : ℕ) where
       fits n mid q false l e = clash (cc)
 
       go : (g : Got ℕ) → naturalUpTo bits nodeCount 0 ≡ g
-          → elim g [ got n next ↦ elim (leb n records) [ true ↦ nodesFrom bits bytes n 0 [] [] next | false ↦ refused (StoreShort 3) ] | fault e ↦ refused (refusalAt 0 e) ] ≡ passed t
+          → elim g [
+            | got n next ↦ elim (leb n records) [ true ↦ nodesFrom bits bytes n 0 [] [] next | false ↦ refused (StoreShort 3) ]
+            | fault e ↦ refused (refusalAt 0 e)
+          ] ≡ passed t
           → (ns : List Node) × IsTable bits records bytes ns × (t ≡ layout ns)
       go (got n mid) q e = fits n mid q (leb n records) refl e
       go (fault b) q e = clash (cc)
@@ -193,10 +207,12 @@ module _ (bits : List Bit) (are : AreBits bits) (records bytes : ℕ) where
       let mid : ℕ = 0 + length (codeNatural (length ns)) in
       let count : naturalUpTo bits nodeCount 0 ≡ got (length ns) mid =
       stands-natural bits are nodeCount 0 (length ns) mid (omega arith) (h .formed .some) (h .formed .most) (s .0) in
-      let all = code-is-nodes bits are bytes 0 ns [] [] mid (length (codeProgram ns)) (omega (arith, h .formed .most)) (h .formed .fit) (s .1) (omega (arith, h .bytes-fit)) in
+      let all = code-is-nodes bits are bytes 0 ns [] [] mid (length (codeProgram ns)) (omega (arith, h .formed .most)) (h .formed .fit)
+      (s .1) (omega (arith, h .bytes-fit)) in
       ap (λ (g : Got ℕ). elim g [
         | got n next ↦ elim (leb n records) [ true ↦ nodesFrom bits bytes n 0 [] [] next | false ↦ refused (StoreShort 3) ]
         | fault e ↦ refused (refusalAt 0 e)
       ]) count
       ∙ rw (le-leb (length ns) records (h .records-fit))
-      (all ∙ ap (λ (p : ℕ). passed (record { records = recordsFrom 0 0 p ns; hashes = hashesOf ns; end = length (codeProgram ns) })) (zero-add (length (codeNatural (length ns)))))
+      (all ∙ ap (λ (p : ℕ). passed (tableWith (recordsFrom 0 0 p ns) (hashesOf ns) (length (codeProgram ns))))
+      (zero-add (length (codeNatural (length ns)))))

@@ -23,7 +23,8 @@ pub both-got : {X Y : Type 0} (m : Reader X) (f : X → Reader Y) (at : ℕ) (y 
 unfolding _>>=_
 both-got m f at y p e = go (m at) refl e
   where
-    go : (g : Got _) → m at ≡ g → elim g [ got x next ↦ f x next | fault e ↦ fault e ] ≡ got y p → (x : _) × (mid : ℕ) × (m at ≡ got x mid) × (f x mid ≡ got y p)
+    go : (g : Got _) → m at ≡ g → elim g [ got x next ↦ f x next | fault e ↦ fault e ] ≡ got y p
+        → (x : _) × (mid : ℕ) × (m at ≡ got x mid) × (f x mid ≡ got y p)
     go (got x mid) q e = (x, mid, q, e)
     go (fault b) q e = clash (cc)
 
@@ -72,7 +73,8 @@ module _ (bits : List Bit) where
           let v : at + k ≡ p = cc in
           let size : length x ≡ k = ap length (sym w) ∙ length-take-le k (drop at bits) (omega (arith, length-drop at bits)) in (
             record {
-              bits-there = sym (take-append-drop k (drop at bits)) ∙ ap₂ (λ (u r : List Bit). u ++ r) w (drop-drop k at bits ∙ ap (λ (n : ℕ). drop n bits) v);
+              bits-there = sym (take-append-drop k (drop at bits))
+                  ∙ ap₂ (λ (u r : List Bit). u ++ r) w (drop-drop k at bits ∙ ap (λ (n : ℕ). drop n bits) v);
               ends-at = omega arith;
               inside = omega arith;
             },
@@ -106,7 +108,8 @@ module _ (bits : List Bit) where
     natural-stands most at n p e = go (readNatural (drop at bits)) refl e
       where
         found : (m : ℕ) (rest : List Bit) → readNatural (drop at bits) ≡ natural m rest → (b : Bool) → leb m most ≡ b
-            → elim b [ true ↦ got m (at + (length (drop at bits) - length rest)) | false ↦ fault overBound ] ≡ got n p → Stands bits at p (codeNatural n) × (1 ≤ n) × (n ≤ most)
+            → elim b [ true ↦ got m (at + (length (drop at bits) - length rest)) | false ↦ fault overBound ] ≡ got n p
+            → Stands bits at p (codeNatural n) × (1 ≤ n) × (n ≤ most)
         found m rest q true l e =
             let c = read-is-code (drop at bits) m rest (below-drop 2 at bits are) q in
             let same : m ≡ n = cc in
@@ -119,15 +122,18 @@ module _ (bits : List Bit) where
             )
         found m rest q false l e = clash (cc)
 
-        go : (x : Natural) → readNatural (drop at bits) ≡ x → bounded bits most at (drop at bits) x ≡ got n p → Stands bits at p (codeNatural n) × (1 ≤ n) × (n ≤ most)
+        go : (x : Natural) → readNatural (drop at bits) ≡ x → bounded bits most at (drop at bits) x ≡ got n p
+            → Stands bits at p (codeNatural n) × (1 ≤ n) × (n ≤ most)
         go (natural m rest) q e = found m rest q (leb m most) refl e
         go ended q e = clash (cc)
         go tooLong q e = clash (cc)
 
-    pub stands-natural : (most at n p : ℕ) → most < naturalBound → 1 ≤ n → n ≤ most → Stands bits at p (codeNatural n) → naturalUpTo bits most at ≡ got n p
+    pub stands-natural : (most at n p : ℕ) → most < naturalBound → 1 ≤ n → n ≤ most → Stands bits at p (codeNatural n)
+        → naturalUpTo bits most at ≡ got n p
     unfolding naturalUpTo bounded
     stands-natural most at n p b some l h =
-        let read : readNatural (drop at bits) ≡ natural n (drop p bits) = ap readNatural (h .bits-there) ∙ reads-code n (drop p bits) some (omega arith) in
+        let read : readNatural (drop at bits) ≡ natural n (drop p bits) =
+        ap readNatural (h .bits-there) ∙ reads-code n (drop p bits) some (omega arith) in
         let size : at + (length (drop at bits) - length (drop p bits)) ≡ p =
         omega (arith, length-drop at bits, length-drop p bits, h .ends-at, h .inside) in
         ap (bounded bits most at (drop at bits)) read ∙ rw (le-leb n most l, bounded) (ap (got n) size)
@@ -150,7 +156,8 @@ module _ (bits : List Bit) where
         ∙ ap (λ (n : ℕ). got n p) (let e : i - (i - a) ≡ a = omega arith in e)
 
     -- k whole bytes
-    pub octets-stand : (k at : ℕ) (bytes : List ℕ) (p : ℕ) → octets bits k at ≡ got bytes p → Stands bits at p (bitsOf bytes) × (length bytes ≡ k) × AreBytes bytes
+    pub octets-stand : (k at : ℕ) (bytes : List ℕ) (p : ℕ) → octets bits k at ≡ got bytes p
+        → Stands bits at p (bitsOf bytes) × (length bytes ≡ k) × AreBytes bytes
     unfolding octets give
     octets-stand k at bytes p e =
         let r = both-got (next bits (8 * k)) (λ bs. give (bytesOf k bs)) at bytes p e in
@@ -163,7 +170,8 @@ module _ (bits : List Bit) where
           subst AreBytes same (back .1),
         )
 
-    pub stand-octets : (at : ℕ) (bytes : List ℕ) (p : ℕ) → AreBytes bytes → Stands bits at p (bitsOf bytes) → octets bits (length bytes) at ≡ got bytes p
+    pub stand-octets : (at : ℕ) (bytes : List ℕ) (p : ℕ) → AreBytes bytes → Stands bits at p (bitsOf bytes)
+        → octets bits (length bytes) at ≡ got bytes p
     unfolding octets give
     stand-octets at bytes p b h =
         then-reads (next bits (8 * length bytes)) (λ bs. give (bytesOf (length bytes) bs)) at (bitsOf bytes) p
@@ -188,7 +196,8 @@ module _ (bits : List Bit) where
             (subst₂ (λ (k c : ℕ). Stands bits at k (c ∷ [])) to bit h, omega arith)
         go (b ∷ c ∷ x) q h n e = absurd (omega arith)
 
-    pub two-stand : (at v p : ℕ) → code bits 2 at ≡ got v p → (b : ℕ) × (c : ℕ) × Stands bits at p (b ∷ c ∷ []) × (b < 2) × (c < 2) × (numberFrom 0 (b ∷ c ∷ []) ≡ v)
+    pub two-stand : (at v p : ℕ) → code bits 2 at ≡ got v p
+        → (b : ℕ) × (c : ℕ) × Stands bits at p (b ∷ c ∷ []) × (b < 2) × (c < 2) × (numberFrom 0 (b ∷ c ∷ []) ≡ v)
     unfolding code give
     two-stand at v p e =
         let r = both-got (next bits 2) (λ bs. give (numberFrom 0 bs)) at v p e in

@@ -30,7 +30,8 @@ use Rattle.exactness.specs.Naturals.{naturalBound, reads-code, read-is-c
 use Rattle.exactness.specs.Values.{reads-compact, read-is-compact, Hold, value-held, length-padded, compact-fits, width-word, word-unpadded}
 use Rattle.exactness.specs.Types.{types-pass, tagAt, type-step, type-fits, same-index}
 use Rattle.exactness.specs.TypeTests.{word-type, type-word}
-use Rattle.exactness.specs.Arrows.{NodeTyped, fromTy, toTy, InRange, arrow-range, arrow-typed, typed-arrow, ArrowsTyped, arrows-typed, typed-arrows}
+use Rattle.exactness.specs.NodeTyping.{NodeTyped, fromTy, toTy, InRange, ArrowsTyped}
+use Rattle.exactness.specs.Arrows.{arrow-range, arrow-typed, typed-arrow, arrows-typed, typed-arrows}
 use Rattle.exactness.specs.Walk.{Counted, walk-counted, done-below, walkCount, walkStep, count-step}
 use Rattle.exactness.specs.Hidden.{HiddenPlaces}
 use Rattle.exactness.specs.Canonical.{walk-canonical, canonical-walk}
@@ -45,15 +46,17 @@ pub table-entry : {R X : Type 0} (make : List X → R → X) (rs : List R) (i : 
     → getD (entries make rs) i x ≡ make (take i (entries make rs)) (getD rs i r)
 table-entry make rs i x r l = entries-at make rs i x r l
 
--- Naturals. From bits a natural n is read exactly if they begin with the report's code of n, and n is from 1 to 2 ^ 32 - 1.
-pub natural-exact : (l : List Bit) (n : ℕ) (r : List Bit) → AreBits l → (readNatural l ≡ natural n r) ↔ ((l ≡ codeNatural n ++ r) × (1 ≤ n) × (n < naturalBound))
+-- Naturals. From bits a natural n is read exactly if they begin with the report's code of n, and n is at least 1 and below the bound.
+pub natural-exact : (l : List Bit) (n : ℕ) (r : List Bit) → AreBits l
+    → (readNatural l ≡ natural n r) ↔ ((l ≡ codeNatural n ++ r) × (1 ≤ n) × (n < naturalBound))
 natural-exact l n r b = (
   (λ e. (let c = read-is-code l n r b e in (c .0, c .1, c .2))),
   (λ c. ap readNatural (c .0) ∙ reads-code n r (c .1) (c .2)),
 )
 
 -- Values. From bits a value v is read along the type A exactly if v is a value of A and they begin with the compact bits of v.
-pub value-exact : (A : Ty) (bs : List Bit) (v : Val) (rest : List Bit) → AreBits bs → (readValue A bs ≡ value v rest) ↔ (HasTy v A × (bs ≡ compact v ++ rest))
+pub value-exact : (A : Ty) (bs : List Bit) (v : Val) (rest : List Bit) → AreBits bs
+    → (readValue A bs ≡ value v rest) ↔ (HasTy v A × (bs ≡ compact v ++ rest))
 value-exact A bs v rest b = (
   (λ e. (let r = read-is-compact A bs v rest b e in (r .0, r .1))),
   (λ r. ap (readValue A) (r .1) ∙ reads-compact (r .0) rest),
@@ -92,16 +95,19 @@ module _ (types : List TypeRecord) (check : checkTypes types ≡ passed tt) wher
 
   -- Arrows. The rule of node i holds exactly if its arrow is in range and the report types the node at it,
   -- where its children stand before it and the arrows before it are in range.
-  pub arrow-exact : (nodes : List Node) (arrows : List Arrow) (i : ℕ) → AllBelow i (children (nodeAt nodes i)) → ((j : ℕ) → j < i → InRange types arrows j)
+  pub arrow-exact : (nodes : List Node) (arrows : List Arrow) (i : ℕ) → AllBelow i (children (nodeAt nodes i))
+      → ((j : ℕ) → j < i → InRange types arrows j)
       → (arrowRule types nodes arrows i ≡ true)
-      ↔ (InRange types arrows i × NodeTyped nodes (fromTy types arrows) (toTy types arrows) (nodeAt nodes i) (fromTy types arrows i) (toTy types arrows i))
+      ↔ (InRange types arrows i
+      × NodeTyped nodes (fromTy types arrows) (toTy types arrows) (nodeAt nodes i) (fromTy types arrows i) (toTy types arrows i))
   arrow-exact nodes arrows i b r = (
     (λ e. (arrow-range types (types-pass types check) nodes arrows i e, arrow-typed types (types-pass types check) nodes arrows i b r e)),
     (λ t. typed-arrow types (types-pass types check) nodes arrows i b r (t .0) (t .1)),
   )
 
   -- The whole check passes exactly if there is one arrow for each node, in range, and the report types each node at its arrow.
-  pub arrows-exact : (nodes : List Node) (arrows : List Arrow) → NodesFit 0 nodes → (checkArrows types nodes arrows ≡ passed tt) ↔ ArrowsTyped types nodes arrows
+  pub arrows-exact : (nodes : List Node) (arrows : List Arrow) → NodesFit 0 nodes
+      → (checkArrows types nodes arrows ≡ passed tt) ↔ ArrowsTyped types nodes arrows
   arrows-exact nodes arrows f = (
     arrows-typed types (types-pass types check) nodes arrows (λ i l. fit-at nodes i f l .below),
     typed-arrows types (types-pass types check) nodes arrows (λ i l. fit-at nodes i f l .below),
@@ -136,5 +142,6 @@ pub decode-nodes : (program : List ℕ) (records bytes : ℕ) (ns : List Node) �
 decode-nodes program records bytes ns h = decoded-nodes program records bytes ns h
 
 -- So a program is the code of one table at most.
-pub decode-one : (program : List ℕ) (records bytes : ℕ) (ns ms : List Node) → IsProgram program records bytes ns → IsProgram program records bytes ms → ns ≡ ms
+pub decode-one : (program : List ℕ) (records bytes : ℕ) (ns ms : List Node) → IsProgram program records bytes ns
+    → IsProgram program records bytes ms → ns ≡ ms
 decode-one program records bytes ns ms h k = one-table program records bytes ns ms h k

@@ -41,7 +41,8 @@ module _ (types : List TypeRecord) where
     pub type-unit : (j : ℕ) → j < length types → tyAt types j ≡ one → isUnit types j ≡ true
     unfolding isUnit typeFrom
     type-unit j h e =
-        eq-eqb (tagAt types j) 0 (go (tagAt types j) (leftAt types j) (rightAt types j) (parts-at types pass j h) (sym (type-step types pass j h) ∙ e))
+        let r = go (tagAt types j) (leftAt types j) (rightAt types j) (parts-at types pass j h) (sym (type-step types pass j h) ∙ e) in
+        eq-eqb (tagAt types j) 0 r
       where
         go : (t l r : ℕ) → Parts j t l r → typeFrom t (tyAt types l) (tyAt types r) ≡ one → t ≡ 0
         go _ _ _ OfUnit e = refl
@@ -51,7 +52,10 @@ module _ (types : List TypeRecord) where
     pub joins-type : (tag j l r : ℕ) → j < length types → joins tag j l r ≡ true → tyAt types j ≡ typeFrom tag (tyAt types l) (tyAt types r)
     joins-type tag j l r h e =
         let p = every-all (eqb (tagAt types j) tag ∷ eqb (leftAt types j) l ∷ eqb (rightAt types j) r ∷ []) e in
-        type-step types pass j h ∙ rw (eqb-true (tagAt types j) tag (p .0), eqb-true (leftAt types j) l (p .1 .0), eqb-true (rightAt types j) r (p .1 .1 .0))
+        let t : tagAt types j ≡ tag = eqb-true (tagAt types j) tag (p .0) in
+        let m : leftAt types j ≡ l = eqb-true (leftAt types j) l (p .1 .0) in
+        let n : rightAt types j ≡ r = eqb-true (rightAt types j) r (p .1 .1 .0) in
+        type-step types pass j h ∙ rw (t, m, n)
 
     -- a sum's type is a sum's record, a product's a product's
     pub type-joins : (k j : ℕ) (A B : Ty) → k < 2 → j < length types → tyAt types j ≡ typeFrom (suc k) A B → Joined (suc k) j A B
@@ -63,15 +67,18 @@ module _ (types : List TypeRecord) where
         go : (k t l r : ℕ) → k < 2 → Parts j t l r → typeFrom t (tyAt types l) (tyAt types r) ≡ typeFrom (suc k) A B
             → (t ≡ suc k) × (l < length types) × (r < length types) × (tyAt types l ≡ A) × (tyAt types r ≡ B)
         go zero _ _ _ b OfUnit e = clash (cc)
-        go zero _ _ _ b (OfSum l r p q) e = (refl, omega arith, omega arith, (let x : tyAt types l ≡ A = cc in x), (let x : tyAt types r ≡ B = cc in x))
+        go zero _ _ _ b (OfSum l r p q) e =
+            (refl, omega arith, omega arith, (let x : tyAt types l ≡ A = cc in x), (let x : tyAt types r ≡ B = cc in x))
         go zero _ _ _ b (OfProduct l r p q) e = clash (cc)
         go (suc zero) _ _ _ b OfUnit e = clash (cc)
         go (suc zero) _ _ _ b (OfSum l r p q) e = clash (cc)
-        go (suc zero) _ _ _ b (OfProduct l r p q) e = (refl, omega arith, omega arith, (let x : tyAt types l ≡ A = cc in x), (let x : tyAt types r ≡ B = cc in x))
+        go (suc zero) _ _ _ b (OfProduct l r p q) e =
+            (refl, omega arith, omega arith, (let x : tyAt types l ≡ A = cc in x), (let x : tyAt types r ≡ B = cc in x))
         go (suc (suc k)) _ _ _ b _ e = absurd (omega arith)
 
     -- the test holds of indices with those types
-    pub joined-test : (tag j l r : ℕ) (A B : Ty) → Joined tag j A B → l < length types → r < length types → tyAt types l ≡ A → tyAt types r ≡ B → joins tag j l r ≡ true
+    pub joined-test : (tag j l r : ℕ) (A B : Ty) → Joined tag j A B → l < length types → r < length types → tyAt types l ≡ A
+        → tyAt types r ≡ B → joins tag j l r ≡ true
     joined-test tag j l r A B h m n p q =
         all-every (eqb (tagAt types j) tag ∷ eqb (leftAt types j) l ∷ eqb (rightAt types j) r ∷ []) (
           eq-eqb (tagAt types j) tag (h .tagged),
@@ -94,7 +101,8 @@ module _ (types : List TypeRecord) where
     pub word-type : (k j : ℕ) → j < length types → isWord types k j ≡ true → tyAt types j ≡ wordTy k
     unfolding isWord wordTy isSum isProduct leftAt rightAt typeFrom
     word-type zero j h e =
-        let p = every-all (isSum types j (leftAt types j) (rightAt types j) ∷ isUnit types (leftAt types j) ∷ isUnit types (rightAt types j) ∷ []) e in
+        let p = every-all (isSum types j (leftAt types j) (rightAt types j)
+        ∷ isUnit types (leftAt types j) ∷ isUnit types (rightAt types j) ∷ []) e in
         let i = joins-in 0 j (leftAt types j) (rightAt types j) (omega arith) h (p .0) in
         joins-type 1 j (leftAt types j) (rightAt types j) h (p .0)
         ∙ ap₂ sum (unit-type (leftAt types j) (i .0) (p .1 .0)) (unit-type (rightAt types j) (i .1) (p .1 .1 .0))

@@ -23,12 +23,12 @@ use Rattle.exactness.specs.Table.{entries-at}
 use Rattle.exactness.specs.Checks.{clash, AllTrue, every-all, all-every, none-below, each-holds}
 
 -- every record keeps the rules
-pub TypesPass : List TypeRecord → Type 0
+abbrev pub TypesPass : List TypeRecord → Type 0
 TypesPass types = (i : ℕ) → i < length types → typeRule types i ≡ true
 
 -- that is what the check of the table says
 pub types-pass : (types : List TypeRecord) → checkTypes types ≡ passed tt → TypesPass types
-unfolding TypesPass checkTypes
+unfolding checkTypes
 types-pass types e = each-holds (length types) (typeRule types) BadTypeRecord tt e
 
 -- what a record's numbers are: a unit's are zeros, a sum's or a product's parts are earlier records
@@ -57,9 +57,12 @@ module _ (types : List TypeRecord) where
 
   module _ (pass : TypesPass types) where
     rules-at : (i : ℕ) → i < length types
-        → AllTrue (partsRule types i (tagAt i) (leftAt types i) (rightAt types i) ∷ not (anyBelow i (sameType types i)) ∷ leb (width (tyAt types i)) typeWidth ∷ [])
-    unfolding TypesPass typeRule leftAt rightAt
-    rules-at i h = every-all (partsRule types i (tagAt i) (leftAt types i) (rightAt types i) ∷ not (anyBelow i (sameType types i)) ∷ leb (width (tyAt types i)) typeWidth ∷ []) (pass i h)
+        → AllTrue (partsRule types i (tagAt i) (leftAt types i) (rightAt types i) ∷ not (anyBelow i (sameType types i))
+        ∷ leb (width (tyAt types i)) typeWidth ∷ [])
+    unfolding typeRule leftAt rightAt
+    rules-at i h =
+        every-all (partsRule types i (tagAt i) (leftAt types i) (rightAt types i) ∷ not (anyBelow i (sameType types i))
+        ∷ leb (width (tyAt types i)) typeWidth ∷ []) (pass i h)
 
     -- the numbers of record i are those of a unit, a sum or a product
     pub parts-at : (i : ℕ) → i < length types → Parts i (tagAt i) (leftAt types i) (rightAt types i)
@@ -80,7 +83,8 @@ module _ (types : List TypeRecord) where
         go : (tag l r : ℕ) → Parts i tag l r → typeFrom tag (getD before l one) (getD before r one) ≡ typeFrom tag (tyAt types l) (tyAt types r)
         go tag l r OfUnit = refl
         go tag _ _ (OfSum l r p q) = ap₂ (typeFrom 1) (getD-take i (entries typeMake types) l one p) (getD-take i (entries typeMake types) r one q)
-        go tag _ _ (OfProduct l r p q) = ap₂ (typeFrom 2) (getD-take i (entries typeMake types) l one p) (getD-take i (entries typeMake types) r one q)
+        go tag _ _ (OfProduct l r p q) =
+            ap₂ (typeFrom 2) (getD-take i (entries typeMake types) l one p) (getD-take i (entries typeMake types) r one q)
 
     -- no two records are equal
     earlier-apart : (i j : ℕ) → i < length types → j < i → tagAt i ≡ tagAt j → leftAt types i ≡ leftAt types j → rightAt types i ≡ rightAt types j → ⊥
@@ -88,10 +92,12 @@ module _ (types : List TypeRecord) where
     earlier-apart i j h l p q r =
         let none = none-below i (sameType types i) (not-true _ (rules-at i h .1 .0)) j l in
         let same : sameType types i j ≡ true =
-        all-every (eqb (tagAt i) (tagAt j) ∷ eqb (leftAt types i) (leftAt types j) ∷ eqb (rightAt types i) (rightAt types j) ∷ []) (eq-eqb _ _ p, (eq-eqb _ _ q, (eq-eqb _ _ r, tt))) in
+        all-every (eqb (tagAt i) (tagAt j) ∷ eqb (leftAt types i) (leftAt types j) ∷ eqb (rightAt types i) (rightAt types j) ∷ [])
+        (eq-eqb _ _ p, (eq-eqb _ _ q, (eq-eqb _ _ r, tt))) in
         clash (cc)
 
-    apart : (i j : ℕ) → i < length types → j < length types → tagAt i ≡ tagAt j → leftAt types i ≡ leftAt types j → rightAt types i ≡ rightAt types j → i ≡ j
+    apart : (i j : ℕ) → i < length types → j < length types → tagAt i ≡ tagAt j → leftAt types i ≡ leftAt types j
+        → rightAt types i ≡ rightAt types j → i ≡ j
     apart i j h k p q r =
         elim (decLt j i) [
           | yes l ↦ absurd (earlier-apart i j h l p q r)
@@ -122,7 +128,8 @@ module _ (types : List TypeRecord) where
     same-index-upto : (n i j : ℕ) → i < n → i < length types → j < length types → tyAt types i ≡ tyAt types j → i ≡ j
     same-index-upto zero i j l h k e = absurd (not-suc-le-zero l)
     same-index-upto (suc n) i j l h k e =
-        let s = same-parts i j (λ a b p q x. same-index-upto n a b (omega arith) (omega arith) (omega arith) x) (tagAt i) (leftAt types i) (rightAt types i) (tagAt j) (leftAt types j) (rightAt types j)
+        let s = same-parts i j (λ a b p q x. same-index-upto n a b (omega arith) (omega arith) (omega arith) x)
+        (tagAt i) (leftAt types i) (rightAt types i) (tagAt j) (leftAt types j) (rightAt types j)
         (parts-at i h) (parts-at j k) (sym (type-step i h) ∙ e ∙ type-step j k) in
         apart i j h k (s .0) (s .1) (s .2)
 

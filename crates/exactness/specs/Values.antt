@@ -100,7 +100,7 @@ compact-fits (isPair {v} {w} h k) =
     omega (arith, length-append (compact v) (compact w))
 
 -- the cells from a place on are these bits
-pub Hold : Cells → (at : ℕ) → List Bit → Type 0
+unfoldable pub Hold : Cells → (at : ℕ) → List Bit → Type 0
 Hold c at bs = (k : ℕ) → k < length bs → c (at + k) ≡ getD bs k 0
 
 -- bits that are held are held part by part
@@ -130,9 +130,9 @@ pub value-held : {v : Val} {A : Ty} → HasTy v A → (c : Cells) (at : ℕ) →
 unfolding padded valueAt leftOf rightOf padL padR
 value-held isUnit c at h = refl
 value-held (isLeft {v} {A} {B} k) c at h =
-    rw (hold-first c at 0 _ h, valueAt) (ap inl (value-held k c (at + (1 + (max (width A) (width B) - width A))) (hold-part c at 0 (max (width A) (width B) - width A) (padded A v) h)))
+    rw (hold-first c at 0 _ h, valueAt) (ap inl (value-held k c (at + (1 + padL A B)) (hold-part c at 0 (padL A B) (padded A v) h)))
 value-held (isRight {v} {A} {B} k) c at h =
-    rw (hold-first c at 1 _ h, valueAt) (ap inr (value-held k c (at + (1 + (max (width A) (width B) - width B))) (hold-part c at 1 (max (width A) (width B) - width B) (padded B v) h)))
+    rw (hold-first c at 1 _ h, valueAt) (ap inr (value-held k c (at + (1 + padR A B)) (hold-part c at 1 (padR A B) (padded B v) h)))
 value-held (isPair {v} {w} {A} {B} k l) c at h =
     ap₂ _&_ (value-held k c at (hold-front c at (padded A v) (padded B w) h))
     (value-held l c (at + width A) (subst (λ (n : ℕ). Hold c (at + n) (padded B w)) (length-padded k) (hold-back c at (padded A v) (padded B w) h)))

@@ -23,12 +23,13 @@ use Rattle.exactness.specs.Table.{length-entries, entries-at, before-at}
 use Rattle.exactness.specs.Checks.{clash, require-holds, both-passed}
 use Rattle.exactness.specs.Bits.{AllBelow}
 
+-- n numbers from i on
 pub length-upFrom : (i n : ℕ) → length (upFrom i n) ≡ n
 unfolding upFrom
 length-upFrom i zero = refl
 length-upFrom i (suc n) = ap suc (length-upFrom (suc i) n)
 
--- the numbers from i on, and one more
+-- and one more
 pub upFrom-more : (i n : ℕ) → upFrom i n ++ (i + n) ∷ [] ≡ upFrom i (suc n)
 unfolding upFrom
 upFrom-more i zero = ap (λ (k : ℕ). k ∷ []) (let e : i + 0 ≡ i = omega arith in e)
@@ -40,7 +41,8 @@ unfolding isDone upFrom
 done-in a zero i h l = absurd (omega arith)
 done-in a (suc n) i h l = go (eqb i a) refl (done-in (suc a) n i)
   where
-    go : (b : Bool) → eqb i a ≡ b → (suc a ≤ i → i < suc a + n → isDone i (upFrom (suc a) n) ≡ true) → elim b [ true ↦ true | false ↦ isDone i (upFrom (suc a) n) ] ≡ true
+    go : (b : Bool) → eqb i a ≡ b → (suc a ≤ i → i < suc a + n → isDone i (upFrom (suc a) n) ≡ true)
+        → elim b [ true ↦ true | false ↦ isDone i (upFrom (suc a) n) ] ≡ true
     go true p ih = refl
     go false p ih = ih (let m : (i ≡ a → ⊥) = eqb-false i a p in omega arith) (omega arith)
 
@@ -49,7 +51,7 @@ unfolding isDone upFrom
 done-out a zero i h = refl
 done-out a (suc n) i h = rw (ne-eqb i a (omega arith), isDone) (done-out (suc a) n i (omega arith))
 
--- of the nodes below k, those done are those below k
+-- a node is one of those below k exactly if it is below k
 pub done-below : (i k : ℕ) → isDone i (upFrom 0 k) ≡ ltb i k
 done-below i k =
     elim (decLt i k) [
@@ -62,7 +64,9 @@ pub data Counted (k : ℕ) : Check (List ℕ) → Type 0 where
   Upto : (m : ℕ) → k ≤ m → Counted k (passed (upFrom 0 m))
   Stopped : (r : Refusal) → Counted k (refused r)
 
-counted-then : (k : ℕ) (c : Check (List ℕ)) (f : List ℕ → Check (List ℕ)) → Counted k c → ((m : ℕ) → k ≤ m → Counted m (f (upFrom 0 m))) → Counted k (c >>= f)
+-- one counted walk after the other
+counted-then : (k : ℕ) (c : Check (List ℕ)) (f : List ℕ → Check (List ℕ)) → Counted k c
+    → ((m : ℕ) → k ≤ m → Counted m (f (upFrom 0 m))) → Counted k (c >>= f)
 unfolding _>>=_
 counted-then k c f (Upto m h) g = later m h (f (upFrom 0 m)) (g m h)
   where
@@ -117,14 +121,18 @@ walkStep nodes i k = elim (ltb i k) [
   | false ↦ countEach nodes (children (nodeAt nodes i)) k >>= λ m. arriveCount nodes i (nodeAt nodes i) m
 ]
 
-module _ (nodes : List Node) where
-  -- walks, by the node that they start from
-  abbrev pub Walks : Type 0
-  Walks = List (List ℕ → Check (List ℕ))
+-- walks, by the node that they start from
+abbrev pub Walks : Type 0
+Walks = List (List ℕ → Check (List ℕ))
 
+-- the walk from node j among these; past them there is nothing to do
+abbrev pub walkIn : Walks → (j : ℕ) → List ℕ → Check (List ℕ)
+walkIn walks j = getD walks j (λ d. passed d)
+
+module _ (nodes : List Node) where
   -- the walks before node i
-  unfoldable pub walks-before : (i : ℕ) → Walks
-  walks-before i = take i (entries (walkMake nodes) nodes)
+  unfoldable pub walksBefore : (i : ℕ) → Walks
+  walksBefore i = take i (entries (walkMake nodes) nodes)
 
   pub arrive-counted : (i : ℕ) (n : Node) (m : ℕ) → Counted m (arrive nodes i n (upFrom 0 m))
   unfolding arrive require
@@ -150,42 +158,44 @@ module _ (nodes : List Node) where
       go true (refused r) = refl
       go false c = refl
 
-  pub each-counted : (walks : Walks) → ((j k : ℕ) → Counted k ((getD walks j (λ d. passed d)) (upFrom 0 k))) → (js : List ℕ) (k : ℕ)
+  pub each-counted : (walks : Walks) → ((j k : ℕ) → Counted k (walkIn walks j (upFrom 0 k))) → (js : List ℕ) (k : ℕ)
       → Counted k (walkEach nodes walks js (upFrom 0 k))
   unfolding walkEach
   each-counted walks h [] k = Upto k (omega arith)
   each-counted walks h (j ∷ js) k = counted-then k _ (walkEach nodes walks js) (h j k) (λ m l. each-counted walks h js m)
 
   -- the walk from node i: nothing where it is done, else its children's walks, and then i itself
-  unfoldable pub walk-node : (isDone : Bool) → (i : ℕ) → Walks → Node → List ℕ → Check (List ℕ)
-  walk-node true i walks n d = passed d
-  walk-node false i walks n d = walkEach nodes walks (children n) d >>= arrive nodes i n
+  unfoldable pub walkNode : (isDone : Bool) → (i : ℕ) → Walks → Node → List ℕ → Check (List ℕ)
+  walkNode true i walks n d = passed d
+  walkNode false i walks n d = walkEach nodes walks (children n) d >>= arrive nodes i n
 
-  pub walk-node-counted : (b : Bool) (i : ℕ) (walks : Walks) → ((j k : ℕ) → Counted k ((getD walks j (λ d. passed d)) (upFrom 0 k))) → (n : Node) (k : ℕ)
-      → Counted k (walk-node b i walks n (upFrom 0 k))
-  unfolding walk-node
+  pub walk-node-counted : (b : Bool) (i : ℕ) (walks : Walks) → ((j k : ℕ) → Counted k (walkIn walks j (upFrom 0 k))) → (n : Node) (k : ℕ)
+      → Counted k (walkNode b i walks n (upFrom 0 k))
+  unfolding walkNode
   walk-node-counted true i walks h n k = Upto k (omega arith)
   walk-node-counted false i walks h n k = counted-then k _ (arrive nodes i n) (each-counted walks h (children n) k) (λ m l. arrive-counted i n m)
 
-  length-before : (i : ℕ) → i ≤ length nodes → length (walks-before i) ≡ i
-  unfolding walks-before
+  length-before : (i : ℕ) → i ≤ length nodes → length (walksBefore i) ≡ i
+  unfolding walksBefore
   length-before i h = length-take-le i (entries (walkMake nodes) nodes) (omega (arith, length-entries (walkMake nodes) nodes))
 
-  make-is-node : (walks : Walks) (n : Node) (d : List ℕ) → walkMake nodes walks n d ≡ walk-node (isDone (length walks) d) (length walks) walks n d
-  unfolding walkMake walk-node arrive
+  make-is-node : (walks : Walks) (n : Node) (d : List ℕ)
+      → walkMake nodes walks n d ≡ walkNode (isDone (length walks) d) (length walks) walks n d
+  unfolding walkMake walkNode arrive
   make-is-node walks n d = go (isDone (length walks) d)
     where
-      go : (b : Bool) → elim b [ true ↦ passed d | false ↦ walkEach nodes walks (children n) d >>= arrive nodes (length walks) n ] ≡ walk-node b (length walks) walks n d
+      go : (b : Bool) → elim b [ true ↦ passed d | false ↦ walkEach nodes walks (children n) d >>= arrive nodes (length walks) n ]
+          ≡ walkNode b (length walks) walks n d
       go true = refl
       go false = refl
 
   -- the walk from node i, of the walks before it; past the end there is nothing to do
-  pub walk-at : (i : ℕ) → i < length nodes → (d : List ℕ) → walkFrom nodes i d ≡ walk-node (isDone i d) i (walks-before i) (nodeAt nodes i) d
-  unfolding walkFrom nodeAt walks-before
+  pub walk-at : (i : ℕ) → i < length nodes → (d : List ℕ) → walkFrom nodes i d ≡ walkNode (isDone i d) i (walksBefore i) (nodeAt nodes i) d
+  unfolding walkFrom nodeAt walksBefore
   walk-at i h d =
       ap (λ (w : List ℕ → Check (List ℕ)). w d) (entries-at (walkMake nodes) nodes i (λ d. passed d) (hidden []) h)
-      ∙ make-is-node (walks-before i) (nodeAt nodes i) d
-      ∙ ap (λ (l : ℕ). walk-node (isDone l d) l (walks-before i) (nodeAt nodes i) d) (length-before i (omega arith))
+      ∙ make-is-node (walksBefore i) (nodeAt nodes i) d
+      ∙ ap (λ (l : ℕ). walkNode (isDone l d) l (walksBefore i) (nodeAt nodes i) d) (length-before i (omega arith))
 
   pub walk-past : (i : ℕ) → length nodes ≤ i → (d : List ℕ) → walkFrom nodes i d ≡ passed d
   unfolding walkFrom
@@ -198,13 +208,14 @@ module _ (nodes : List Node) where
   Counting walk = (k : ℕ) → Counted k (walk (upFrom 0 k))
 
   counting-upto : (n i : ℕ) → i < n → Counting (walkFrom nodes i)
-  unfolding walkFrom walks-before
+  unfolding walkFrom walksBefore
   counting-upto zero i l k = absurd (not-suc-le-zero l)
   counting-upto (suc n) i l k =
       elim (decLt i (length nodes)) [
         | yes h ↦ subst (Counted k) (sym (walk-at i h (upFrom 0 k)))
-            (walk-node-counted (isDone i (upFrom 0 k)) i (walks-before i)
-            (before-at (walkMake nodes) Counting nodes i (λ d. passed d) (omega arith) (λ k. Upto k (omega arith)) (λ j m. counting-upto n j (omega arith)))
+            (walk-node-counted (isDone i (upFrom 0 k)) i (walksBefore i)
+            (before-at (walkMake nodes) Counting nodes i (λ d. passed d) (omega arith) (λ k. Upto k (omega arith))
+            (λ j m. counting-upto n j (omega arith)))
             (nodeAt nodes i) k)
         | no m ↦ subst (Counted k) (sym (walk-past i (omega arith) (upFrom 0 k))) (Upto k (omega arith))
       ]
@@ -213,8 +224,8 @@ module _ (nodes : List Node) where
   pub walk-counted : (i k : ℕ) → Counted k (walkFrom nodes i (upFrom 0 k))
   walk-counted i k = counting-upto (suc i) i (omega arith) k
 
-  before-counting : (i : ℕ) → i ≤ length nodes → (j k : ℕ) → Counted k ((getD (walks-before i) j (λ d. passed d)) (upFrom 0 k))
-  unfolding walks-before walkFrom
+  before-counting : (i : ℕ) → i ≤ length nodes → (j k : ℕ) → Counted k (walkIn (walksBefore i) j (upFrom 0 k))
+  unfolding walksBefore walkFrom
   before-counting i h =
       before-at (walkMake nodes) Counting nodes i (λ d. passed d) h (λ k. Upto k (omega arith)) (λ j m. walk-counted j)
 
@@ -228,26 +239,27 @@ module _ (nodes : List Node) where
       go c (Stopped r) = refl
 
   each-count : (i : ℕ) → i ≤ length nodes → (js : List ℕ) → AllBelow i js → (k : ℕ)
-      → count (walkEach nodes (walks-before i) js (upFrom 0 k)) ≡ countEach nodes js k
-  unfolding walkEach countEach walks-before walkFrom count
+      → count (walkEach nodes (walksBefore i) js (upFrom 0 k)) ≡ countEach nodes js k
+  unfolding walkEach countEach walksBefore walkFrom count
   each-count i h [] b k = ap {B = Check ℕ} passed (length-upFrom 0 k)
   each-count i h (j ∷ js) b k =
-      let e : getD (walks-before i) j (λ d. passed d) ≡ walkFrom nodes j = getD-take i (entries (walkMake nodes) nodes) j (λ d. passed d) (b .0) in
-      ap (λ (w : List ℕ → Check (List ℕ)). count (w (upFrom 0 k) >>= walkEach nodes (walks-before i) js)) e
-      ∙ count-then k (walkFrom nodes j (upFrom 0 k)) (walkEach nodes (walks-before i) js) (countEach nodes js) (walk-counted j k)
+      let e : walkIn (walksBefore i) j ≡ walkFrom nodes j = getD-take i (entries (walkMake nodes) nodes) j (λ d. passed d) (b .0) in
+      ap (λ (w : List ℕ → Check (List ℕ)). count (w (upFrom 0 k) >>= walkEach nodes (walksBefore i) js)) e
+      ∙ count-then k (walkFrom nodes j (upFrom 0 k)) (walkEach nodes (walksBefore i) js) (countEach nodes js) (walk-counted j k)
       (λ m l. each-count i h js (b .1) m)
 
   -- one step of the walk, by the count: a node whose children stand below it
   pub count-step : (i k : ℕ) → i < length nodes → AllBelow i (children (nodeAt nodes i)) → walkCount nodes i k ≡ walkStep nodes i k
-  unfolding walkCount walkStep walk-node
+  unfolding walkCount walkStep walkNode
   count-step i k h b = ap count (walk-at i h (upFrom 0 k)) ∙ rw (done-below i k) (go (ltb i k))
     where
-      go : (t : Bool) → count (walk-node t i (walks-before i) (nodeAt nodes i) (upFrom 0 k))
+      go : (t : Bool) → count (walkNode t i (walksBefore i) (nodeAt nodes i) (upFrom 0 k))
           ≡ elim t [ true ↦ passed k | false ↦ countEach nodes (children (nodeAt nodes i)) k >>= λ m. arriveCount nodes i (nodeAt nodes i) m ]
       go true = ap {B = Check ℕ} passed (length-upFrom 0 k)
       go false =
-          count-then k (walkEach nodes (walks-before i) (children (nodeAt nodes i)) (upFrom 0 k)) (arrive nodes i (nodeAt nodes i)) (arriveCount nodes i (nodeAt nodes i))
-          (each-counted (walks-before i) (before-counting i (omega arith)) (children (nodeAt nodes i)) k) (λ m l. arrive-count i (nodeAt nodes i) m)
+          count-then k (walkEach nodes (walksBefore i) (children (nodeAt nodes i)) (upFrom 0 k)) (arrive nodes i (nodeAt nodes i))
+          (arriveCount nodes i (nodeAt nodes i))
+          (each-counted (walksBefore i) (before-counting i (omega arith)) (children (nodeAt nodes i)) k) (λ m l. arrive-count i (nodeAt nodes i) m)
           ∙ ap (λ (c : Check ℕ). c >>= arriveCount nodes i (nodeAt nodes i)) (each-count i (omega arith) (children (nodeAt nodes i)) b k)
 
   -- the whole walk, by the count
@@ -272,7 +284,8 @@ module _ (nodes : List Node) where
       (same, omega arith, q .1)
 
   -- a walk arrives at node i exactly if i is the next and allowed
-  pub arrive-passed : (i : ℕ) (n : Node) (k m : ℕ) → arrive nodes i n (upFrom 0 k) ≡ passed (upFrom 0 m) → (i ≡ k) × (m ≡ suc i) × (allowed nodes i n ≡ passed tt)
+  pub arrive-passed : (i : ℕ) (n : Node) (k m : ℕ) → arrive nodes i n (upFrom 0 k) ≡ passed (upFrom 0 m)
+      → (i ≡ k) × (m ≡ suc i) × (allowed nodes i n ≡ passed tt)
   unfolding count
   arrive-passed i n k m e =
       arrive-count-passed i n k m (sym (arrive-count i n k) ∙ ap count e ∙ ap {B = Check ℕ} passed (length-upFrom 0 m))
@@ -290,18 +303,21 @@ module _ (nodes : List Node) where
 
   -- those below the larger of k and i + 1
   pub walk-passed : (i k m : ℕ) → i < length nodes → walkFrom nodes i (upFrom 0 k) ≡ passed (upFrom 0 m) → m ≡ max k (suc i)
-  unfolding walk-node
-  walk-passed i k m h e = go (ltb i k) refl (ap (λ (b : Bool). walk-node b i (walks-before i) (nodeAt nodes i) (upFrom 0 k)) (sym (done-below i k)) ∙ sym (walk-at i h (upFrom 0 k)) ∙ e)
+  unfolding walkNode
+  walk-passed i k m h e =
+      let tested = ap (λ (b : Bool). walkNode b i (walksBefore i) (nodeAt nodes i) (upFrom 0 k)) (sym (done-below i k)) in
+      go (ltb i k) refl (tested ∙ sym (walk-at i h (upFrom 0 k)) ∙ e)
     where
-      go : (t : Bool) → ltb i k ≡ t → walk-node t i (walks-before i) (nodeAt nodes i) (upFrom 0 k) ≡ passed (upFrom 0 m) → m ≡ max k (suc i)
+      go : (t : Bool) → ltb i k ≡ t → walkNode t i (walksBefore i) (nodeAt nodes i) (upFrom 0 k) ≡ passed (upFrom 0 m) → m ≡ max k (suc i)
       go true p e =
           let l : i < k = ltb-true i k p in
           let q : upFrom 0 k ≡ upFrom 0 m = cc in
           omega (arith, ap length q, length-upFrom 0 k, length-upFrom 0 m)
       go false p e =
           let l : k ≤ i = ltb-false i k p in
-          let q = both-passed (walkEach nodes (walks-before i) (children (nodeAt nodes i)) (upFrom 0 k)) (arrive nodes i (nodeAt nodes i)) (upFrom 0 m) e in
-          let c = upto-count k _ (q .0) (each-counted (walks-before i) (before-counting i (omega arith)) (children (nodeAt nodes i)) k) (q .1) in
+          let q = both-passed (walkEach nodes (walksBefore i) (children (nodeAt nodes i)) (upFrom 0 k)) (arrive nodes i (nodeAt nodes i))
+          (upFrom 0 m) e in
+          let c = upto-count k _ (q .0) (each-counted (walksBefore i) (before-counting i (omega arith)) (children (nodeAt nodes i)) k) (q .1) in
           let r = arrive-passed i (nodeAt nodes i) (c .0) m (ap (arrive nodes i (nodeAt nodes i)) (sym (c .2)) ∙ q .2) in
           omega arith
 

@@ -1,6 +1,7 @@
 -- The loop that moves a stream stays within its array, and each byte is below 256.
 use mathlib.Core.Path.{_≡_}
 use Prim.Native.Nat.{_-_, _≤_, _<_}
+use native.Mathlib.Omega.{arith}
 use borrow.Author.Needs.{needs}
 use lib.ListN.{length}
 use Rattle.bititer_test.proofs.moved.Statement.{statement}
@@ -16,43 +17,43 @@ read-bytes-requires : tie.Need-read-bytes-requires Inv-loop μ-loop
 read-bytes-requires c κs = search needs
 
 add-start : tie.Need-add-start Inv-loop μ-loop
-add-start c = search needs
+add-start c = omega arith
 
 loop-holds : tie.Need-loop-holds Inv-loop μ-loop
-loop-holds c = search needs
+loop-holds c = omega arith
 
 add-byte : tie.Need-add-byte Inv-loop μ-loop
-add-byte c = search needs
+add-byte c = omega arith
 
 byte-requires : tie.Need-byte-requires Inv-loop μ-loop
 byte-requires c κs = search needs
 
 mul-stream : tie.Need-mul-stream Inv-loop μ-loop
-mul-stream c = search needs
+mul-stream c = omega arith
 
 add-stream : tie.Need-add-stream Inv-loop μ-loop
-add-stream c = search needs
+add-stream c = omega arith
 
 shr-stream : tie.Need-shr-stream Inv-loop μ-loop
-shr-stream c = search needs
+shr-stream c = omega arith
 
 cast-stream : tie.Need-cast-stream Inv-loop μ-loop
-cast-stream c = search needs
+cast-stream c = omega arith
 
 array-write-stream : tie.Need-array-write-stream Inv-loop μ-loop
-array-write-stream c = search needs
+array-write-stream c = omega arith
 
 add-i : tie.Need-add-i Inv-loop μ-loop
-add-i c = search needs
+add-i c = omega arith
 
 loop-less : tie.Need-loop-less Inv-loop μ-loop
-loop-less c = search needs
+loop-less c = omega arith
 
 loop-again : tie.Need-loop-again Inv-loop μ-loop
 loop-again c = search needs
 
 returns : tie.Need-returns Inv-loop μ-loop
-returns c = search needs
+returns c = omega arith
 
 pub moved-spec : {M : Type 1} → statement M
 moved-spec =

@@ -1,5 +1,6 @@
 -- The offsets of a read are below 8.
 use Prim.Native.Nat.{_-_, _≤_}
+use native.Mathlib.Omega.{arith}
 use borrow.Author.Needs.{needs}
 use Rattle.bititer_test.proofs.replayed.Statement.{statement}
 use Rattle.bititer_test.proofs.replayed.Tie as tie
@@ -14,7 +15,7 @@ offsets-requires : tie.Need-offsets-requires Inv-loop μ-loop
 offsets-requires c κs = search needs
 
 loop-holds : tie.Need-loop-holds Inv-loop μ-loop
-loop-holds c = search needs
+loop-holds c = omega arith
 
 right-requires : tie.Need-right-requires Inv-loop μ-loop
 right-requires c κs = search needs
@@ -23,16 +24,16 @@ counted-requires : tie.Need-counted-requires Inv-loop μ-loop
 counted-requires c κs = search needs
 
 add-offset : tie.Need-add-offset Inv-loop μ-loop
-add-offset c = search needs
+add-offset c = omega arith
 
 loop-less : tie.Need-loop-less Inv-loop μ-loop
-loop-less c = search needs
+loop-less c = omega arith
 
 loop-again : tie.Need-loop-again Inv-loop μ-loop
-loop-again c = search needs
+loop-again c = omega arith
 
 returns : tie.Need-returns Inv-loop μ-loop
-returns c = search needs
+returns c = omega arith
 
 pub replayed-spec : {M : Type 1} → statement M
 replayed-spec =

@@ -1,0 +1,7 @@
+pub mod Tables
+pub mod Records
+pub mod Laws
+pub mod Check
+pub mod Core
+pub mod Sound
+pub mod Pins

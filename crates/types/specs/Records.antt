@@ -1,0 +1,62 @@
+-- One record of the type table: its width from the widths of its parts, whether it keeps the rules, and the next record that matters.
+-- A product with a part of width 0 is passed over for its other part; any other record matters itself.
+use mathlib.Core.Bool.{Bool, true, false}
+use mathlib.Core.List.{List}
+use Prim.Native.Nat.{ℕ, zero, suc, _+_, max}
+use lib.Dec.{leb}
+use lib.ListN.{length, getD}
+use Rattle.limits.specs.Limits.{typeWidth}
+use Rattle.report.specs.Table.{entries}
+use Rattle.report.specs.Types.{width}
+use Rattle.scope.specs.Numbers.{anyBelow}
+use Rattle.scope.specs.Types2.{TypeRecord, tyAt, typeAt, sameType, partsRule}
+use Rattle.types.specs.declared.Judged.{Judged}
+use Rattle.types.specs.declared.Judged.the-variants.{Width, Broken}
+
+-- the width of a record of this tag whose parts have these widths
+abbrev pub partsWidth : (tag left right : ℕ) → ℕ
+partsWidth zero left right = 0
+partsWidth (suc zero) left right = 1 + max left right
+partsWidth (suc (suc k)) left right = left + right
+
+-- a record keeps the rules where its parts do, its width fits and no earlier record equals it
+abbrev pub verdict : (parts fits repeated : Bool) → (w : ℕ) → Judged
+verdict true true false w = Width w
+verdict true true true w = Broken
+verdict true false repeated w = Broken
+verdict false fits repeated w = Broken
+
+-- record i, where the widths of the earlier records are known
+abbrev pub recordJudged : (types : List TypeRecord) → (widths : List ℕ) → (i : ℕ) → Judged
+recordJudged types widths i =
+    let r = typeAt types i in
+    let w = partsWidth (r .tag) (getD widths (r .left) 0) (getD widths (r .right) 0) in
+    verdict (partsRule types i (r .tag) (r .left) (r .right)) (leb w typeWidth) (anyBelow i (sameType types i)) w
+
+-- of a product whose parts have these widths: the other part where one has width 0, else itself
+abbrev pub passOver : {X : Type 0} → (leftWidth rightWidth : ℕ) → (left right self : X) → X
+passOver zero b left right self = right
+passOver (suc a) zero left right self = left
+passOver (suc a) (suc b) left right self = self
+
+-- the next record that matters, of the widths of the parts and of the next ones of the parts
+abbrev pub nextFrom : (tag leftWidth rightWidth left right self : ℕ) → ℕ
+nextFrom zero a b left right self = self
+nextFrom (suc zero) a b left right self = self
+nextFrom (suc (suc k)) a b left right self = passOver a b left right self
+
+-- record r at index i, where the widths and the next records of the earlier records are known
+abbrev pub recordNext : TypeRecord → (widths next : List ℕ) → (i : ℕ) → ℕ
+recordNext r widths next i =
+    nextFrom (r .tag) (getD widths (r .left) 0) (getD widths (r .right) 0) (getD next (r .left) 0) (getD next (r .right) 0) i
+
+module _ (types : List TypeRecord) where
+  unfoldable pub nextMake : List ℕ → TypeRecord → ℕ
+  unfolding tyAt width
+  nextMake before r =
+      nextFrom (r .tag) (width (tyAt types (r .left))) (width (tyAt types (r .right))) (getD before (r .left) 0) (getD before (r .right) 0) (length before)
+
+  -- the next record that matters for record i
+  unfoldable pub nextAt : (i : ℕ) → ℕ
+  unfolding entries nextMake
+  nextAt i = getD (entries nextMake types) i 0

@@ -1,0 +1,64 @@
+-- What the check of a lent type table answers: 4 at 0 for no record or too many, then 2 at the first record that breaks a rule,
+-- and else the count of records; odd bytes at the end are of no record.
+-- Beside it, for each record before the first bad one, the width of its type and the next record that matters; all else is 0.
+use mathlib.Core.Bool.{Bool}
+use mathlib.Core.List.{List, [], _∷_, _++_}
+use Prim.Native.Nat.{ℕ, _-_}
+use lib.Dec.{eqb}
+use lib.ListN.{length}
+use Rattle.limits.specs.Limits.{typeCount}
+use Rattle.report.specs.Types.{width}
+use Rattle.scope.specs.Check.{Check, passed, refused, _>>=_, firstFailing}
+use Rattle.scope.specs.Numbers.{zeros, tabulate, every}
+use Rattle.scope.specs.Stages26.{counted}
+use Rattle.scope.specs.Types2 as Types2
+use Rattle.scope.specs.Types2.{typeRecords, tyAt, typeRule, checkTypes}
+use Rattle.types.specs.Records.{nextAt}
+use Rattle.types.specs.declared.TypeAnswer.{TypeAnswer}
+use Rattle.types.specs.declared.TypeAnswer.the-variants.{Records, Refused}
+use Rattle.types.specs.declared.TypeRecord.{TypeRecord}
+use Rattle.types.specs.declared.TypeTable.{TypeTable}
+
+-- a record as a call hands it back
+abbrev pub recordOf : Types2.TypeRecord → TypeRecord
+recordOf r = record { tag = r .tag; left = r .left; right = r .right }
+
+abbrev pub sameRecord : TypeRecord → TypeRecord → Bool
+sameRecord a b = every (eqb (a .tag) (b .tag) ∷ eqb (a .left) (b .left) ∷ eqb (a .right) (b .right) ∷ [])
+
+-- the check passes with how many records there are
+unfoldable pub checkTable : (bytes : List ℕ) → Check ℕ
+unfolding _>>=_ counted typeRecords checkTypes
+checkTable bytes = do
+  some ← counted (length (typeRecords bytes)) typeCount
+  sound ← checkTypes (typeRecords bytes)
+  passed (length (typeRecords bytes))
+
+abbrev pub typeAnswer : Check ℕ → TypeAnswer
+typeAnswer (passed n) = Records n
+typeAnswer (refused r) = Refused r
+
+-- how many records stand before the first bad one; none of a table of no record or too many
+unfoldable pub goodRecords : (bytes : List ℕ) → ℕ
+unfolding counted typeRecords typeRule firstFailing
+goodRecords bytes = elim (counted (length (typeRecords bytes)) typeCount) [
+  | passed x ↦ firstFailing (typeRule (typeRecords bytes)) (length (typeRecords bytes)) 0
+  | refused r ↦ 0
+]
+
+-- an array of a number for each record: f 0, f 1, .., f (n - 1), the rest zero
+unfoldable pub arrayOf : (n : ℕ) → (ℕ → ℕ) → List ℕ
+unfolding tabulate
+arrayOf n f = tabulate n f ++ zeros (typeCount - n)
+
+unfoldable pub typeWidths : (bytes : List ℕ) → List ℕ
+unfolding arrayOf goodRecords width tyAt typeRecords
+typeWidths bytes = arrayOf (goodRecords bytes) (λ i. width (tyAt (typeRecords bytes) i))
+
+unfoldable pub typeNext : (bytes : List ℕ) → List ℕ
+unfolding arrayOf goodRecords nextAt typeRecords
+typeNext bytes = arrayOf (goodRecords bytes) (nextAt (typeRecords bytes))
+
+unfoldable pub typeTable : (bytes : List ℕ) → TypeTable
+unfolding checkTable typeWidths typeNext
+typeTable bytes = record { answer = typeAnswer (checkTable bytes); widths = typeWidths bytes; next = typeNext bytes }

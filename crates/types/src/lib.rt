@@ -1,0 +1,232 @@
+// The type table: its check (refusals 4 and 2), the width of each type in cells, and the next record that matters.
+// A record is a tag and the indices of its parts, which are earlier records; so one pass upwards fills all widths,
+// and no type is ever walked to its leaves. A product with a part of width 0 says nothing that its other part does not say:
+// the next record that matters is that part's, and readers of values step over such products by it.
+ghost use mathlib.Core.Path.{_≡_};
+ghost use mathlib.Core.List.{[]};
+ghost use Prim.Native.Nat.{ℕ, _+_, _*_, _/_, _≤_, _<_};
+ghost use lib.ListN.{length, getD};
+ghost use Rattle.limits.specs.Limits.{typeCount, typeBytes, typeWidth};
+ghost use Rattle.scope.specs.Numbers.{be16, anyBelow};
+ghost use Rattle.scope.specs.Types2.{typeRecords, typeAt, sameType, partsRule};
+ghost use Rattle.types.specs.Table.{recordOf, sameRecord, typeTable};
+ghost use Rattle.types.specs.Records.{recordJudged, partsWidth, recordNext};
+use refusal::Refusal;
+
+// What the check says: how many records there are, or why there is no table.
+pub enum TypeAnswer {
+    Records(usize),
+    Refused(Refusal),
+}
+
+// A checked table: the answer, and for each record the width of its type and the next record that matters.
+// Where a record is refused the arrays end before it; entries of no record are 0.
+pub struct TypeTable {
+    pub answer: TypeAnswer,
+    pub widths: [u32; limits::TYPE_COUNT],
+    pub next: [u16; limits::TYPE_COUNT],
+}
+
+// A record: tag 0 is unit, 1 a sum, 2 a product; the parts are indices of earlier records.
+pub struct TypeRecord {
+    pub tag: u8,
+    pub left: u16,
+    pub right: u16,
+}
+
+// Whether a record keeps the rules, and the width of its type.
+enum Judged {
+    Width(u32),
+    Broken,
+}
+
+fn wide(b: u8) -> u16
+    ensures { λ r. ⌜ (r ≡ b) × (r < 256) ⌝ }
+{
+    b as u16
+}
+
+fn index(x: u16) -> usize
+    ensures { λ r. ⌜ (r ≡ x) × (r < 65536) ⌝ }
+{
+    x as usize
+}
+
+fn cells(width: u32) -> u64
+    ensures { λ r. ⌜ (r ≡ width) × (r < 4294967296) ⌝ }
+{
+    width as u64
+}
+
+// The 16-bit number at a place.
+fn index_at(types: &[u8], at: usize) -> u16
+    requires { ⌜ at + 2 ≤ length (now types) ⌝ }
+    ensures { λ r. ⌜ r ≡ be16 (now (types .entry)) at ⌝ }
+{
+    wide(types[at]) * 256 + wide(types[at + 1])
+}
+
+// Record i; past the end of the table a record of no tag.
+pub fn record_at(types: &[u8], i: usize) -> TypeRecord
+    ensures { λ r. ⌜ r ≡ recordOf (typeAt (typeRecords (now (types .entry))) i) ⌝ }
+{
+    if types.len() / limits::TYPE_BYTES <= i {
+        return TypeRecord {
+            tag: 3,
+            left: 0,
+            right: 0,
+        };
+    }
+    let at = i * limits::TYPE_BYTES;
+    TypeRecord {
+        tag: types[at],
+        left: index_at(types, at + 1),
+        right: index_at(types, at + 3),
+    }
+}
+
+// The width of type i, by the widths of a table; 0 past the end.
+pub fn width_at(widths: &[u32], i: usize) -> u32
+    ensures { λ r. ⌜ r ≡ getD (now (widths .entry)) i 0 ⌝ }
+{
+    if i < widths.len() { widths[i] } else { 0 }
+}
+
+// The next record that matters for record i, by a table; 0 past the end.
+pub fn next_at(next: &[u16], i: usize) -> u16
+    ensures { λ r. ⌜ r ≡ getD (now (next .entry)) i 0 ⌝ }
+{
+    if i < next.len() { next[i] } else { 0 }
+}
+
+// Whether the parts are as the tag asks: unit's are 0, a sum's and a product's are earlier records than i.
+fn parts_fit(tag: u8, left: usize, right: usize, i: usize) -> bool
+    ensures { λ r. ⌜ r ≡ partsRule [] i tag left right ⌝ }
+{
+    if tag == 0 {
+        if left == 0 { right == 0 } else { false }
+    } else if tag <= 2 {
+        if left < i { right < i } else { false }
+    } else {
+        false
+    }
+}
+
+// The width of a record of this tag whose parts have these widths.
+fn parts_width(tag: u8, left: u32, right: u32) -> u64
+    ensures { λ r. ⌜ r ≡ partsWidth tag left right ⌝ }
+{
+    let a = cells(left);
+    let b = cells(right);
+    if tag == 0 {
+        0
+    } else if tag == 1 {
+        if a < b { 1 + b } else { 1 + a }
+    } else {
+        a + b
+    }
+}
+
+// Whether two records are equal.
+fn same(a: TypeRecord, b: TypeRecord) -> bool
+    ensures { λ r. ⌜ r ≡ sameRecord a b ⌝ }
+{
+    if a.tag == b.tag {
+        if a.left == b.left {
+            a.right == b.right
+        } else {
+            false
+        }
+    } else {
+        false
+    }
+}
+
+// Whether an earlier record equals record i.
+fn repeated(types: &[u8], i: usize) -> bool
+    ensures { λ r. ⌜ r ≡ anyBelow i (sameType (typeRecords (now (types .entry))) i) ⌝ }
+{
+    let own = record_at(types, i);
+    let mut j = i;
+    while 0 < j {
+        j -= 1;
+        if same(own, record_at(types, j)) {
+            return true;
+        }
+    }
+    false
+}
+
+// Whether record i keeps the rules, where the widths of the earlier records are known.
+fn judge(types: &[u8], i: usize, widths: &[u32]) -> Judged
+    ensures { λ r. ⌜ r ≡ recordJudged (typeRecords (now (types .entry))) (now (widths .entry)) i ⌝ }
+{
+    let own = record_at(types, i);
+    let left = index(own.left);
+    let right = index(own.right);
+    if !parts_fit(own.tag, left, right, i) {
+        return Judged::Broken;
+    }
+    let width = parts_width(own.tag, width_at(widths, left), width_at(widths, right));
+    if cells(limits::TYPE_WIDTH) < width {
+        return Judged::Broken;
+    }
+    if repeated(types, i) {
+        return Judged::Broken;
+    }
+    Judged::Width(width as u32)
+}
+
+// The next record that matters for record i, of the widths and the next records of its parts.
+fn next_record(types: &[u8], i: usize, widths: &[u32], next: &[u16]) -> u16
+    requires { ⌜ i < typeCount ⌝ }
+    ensures { λ r. ⌜ r ≡ recordNext (typeAt (typeRecords (now (types .entry))) i) (now (widths .entry)) (now (next .entry)) i ⌝ }
+{
+    let own = record_at(types, i);
+    let left = index(own.left);
+    let right = index(own.right);
+    if own.tag < 2 {
+        return i as u16;
+    }
+    if width_at(widths, left) == 0 {
+        return next_at(next, right);
+    }
+    if width_at(widths, right) == 0 {
+        return next_at(next, left);
+    }
+    i as u16
+}
+
+// The check of a lent type table.
+pub fn check_types(types: &[u8]) -> TypeTable
+    ensures { λ r. ⌜ r ≡ typeTable (now (types .entry)) ⌝ }
+{
+    let mut widths = [0u32; limits::TYPE_COUNT];
+    let mut next = [0u16; limits::TYPE_COUNT];
+    let count = types.len() / limits::TYPE_BYTES;
+    if count == 0 || limits::TYPE_COUNT < count {
+        return TypeTable {
+            answer: TypeAnswer::Refused(Refusal::Natural(0)),
+            widths: widths,
+            next: next,
+        };
+    }
+    let mut i: usize = 0;
+    while i < count {
+        let Judged::Width(width) = judge(types, i, &widths) else {
+            return TypeTable {
+                answer: TypeAnswer::Refused(Refusal::TypeRecord(i as u32)),
+                widths: widths,
+                next: next,
+            };
+        };
+        next[i] = next_record(types, i, &widths, &next);
+        widths[i] = width;
+        i += 1;
+    }
+    TypeTable {
+        answer: TypeAnswer::Records(count),
+        widths: widths,
+        next: next,
+    }
+}

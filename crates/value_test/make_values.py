@@ -1,0 +1,171 @@
+# make_values.py VECTORS OUT: writes `values` into the folder OUT from the original's answers, values.tsv of the folder VECTORS, and `tables`.
+# What a table's check says, its widths and its next records are worked out here from the rules, record by record.
+#
+# A record is 13 numbers of 16 bits and four parts; the last four numbers are the sizes of the parts.
+# A table: the refusal's number and its place, or 0 and the count of records. Parts: the table; width and next record of each good record.
+# A value: what comes of it (0 read, 1 too few bits, 2 too few cells, 3 more bits than count), type index, first bit, the bit after those
+# that count, the bit after the value, first cell, first bit in the answer, the byte that fills both stores, width.
+# Parts: table, stream, cells and answer as they are left.
+import random
+import sys
+
+UNIT, SUM, PRODUCT = range(3)
+MOST_TYPES, MOST_WIDTH = 1024, 32768
+
+
+def record(numbers, parts):
+    numbers = [*numbers] + [0] * (9 - len(numbers)) + [len(p) for p in parts]
+    return b"".join(n.to_bytes(2, "big") for n in numbers) + b"".join(parts)
+
+
+def packed_table(table):
+    return b"".join(bytes([t]) + a.to_bytes(2, "big") + b.to_bytes(2, "big") for t, a, b in table)
+
+
+def unpacked_table(data):
+    return [(data[k], int.from_bytes(data[k + 1:k + 3], "big"), int.from_bytes(data[k + 3:k + 5], "big")) for k in range(0, len(data) // 5 * 5, 5)]
+
+
+def unpacked(data):
+    return [int(c) for b in data for c in f"{b:08b}"]
+
+
+def packed(bits):
+    bits = bits + [0] * (-len(bits) % 8)
+    return bytes(int("".join(map(str, bits[i:i + 8])), 2) for i in range(0, len(bits), 8))
+
+
+# The width of a record that keeps the rules, or None.
+def width_of(table, widths, i):
+    tag, left, right = table[i]
+    if tag > PRODUCT or table[i] in table[:i]:
+        return None
+    if tag == UNIT:
+        return 0 if left == right == 0 else None
+    if left >= i or right >= i:
+        return None
+    width = 1 + max(widths[left], widths[right]) if tag == SUM else widths[left] + widths[right]
+    return width if width <= MOST_WIDTH else None
+
+
+# The answer, and width and next record of each record before the first bad one.
+def check(data):
+    table, widths, following = unpacked_table(data), [], []
+    if not 1 <= len(table) <= MOST_TYPES:
+        return (4, 0), widths, following
+    for i, (tag, left, right) in enumerate(table):
+        width = width_of(table, widths, i)
+        if width is None:
+            return (2, i), widths, following
+        other = None
+        if tag == PRODUCT and 0 in (widths[left], widths[right]):
+            other = right if widths[left] == 0 else left
+        following.append(i if other is None else following[other])
+        widths.append(width)
+    return (0, len(table)), widths, following
+
+
+def table_record(data):
+    answer, widths, following = check(data)
+    entries = b"".join(w.to_bytes(2, "big") + n.to_bytes(2, "big") for w, n in zip(widths, following))
+    return record(answer, [data, entries, b"", b""])
+
+
+# How many of the bits a value of the type takes, or None where there are too few.
+def taken(table, i, bits, p):
+    tag, left, right = table[i]
+    if tag == UNIT:
+        return p
+    if tag == SUM:
+        return taken(table, (left, right)[bits[p]], bits, p + 1) if p < len(bits) else None
+    middle = taken(table, left, bits, p)
+    return None if middle is None else taken(table, right, bits, middle)
+
+
+def put(fill, size, at, bits):
+    store = unpacked(bytes([fill]) * size)
+    store[at:at + len(bits)] = bits
+    return packed(store)
+
+
+# A value whose padded cells are known, at places that go with the turn; short of cells where told so.
+def value_record(rng, turn, table, i, count, bits, read, padded, short_of_cells=False):
+    p, at, q, fill = turn % 8, turn * 3 % 11, turn * 5 % 13, rng.randrange(256)
+    stream = packed([rng.randrange(2) for _ in range(p)] + bits)
+    cells, answer = (at + len(padded) + 7) // 8 + turn % 2, (q + len(padded) + 7) // 8 + turn % 3 // 2
+    if short_of_cells:
+        cells, padded, compact = (at + len(padded) - 1) // 8, [], []
+    else:
+        compact = bits[:read]
+    numbers = (2 if short_of_cells else 0, i, p, p + count, p + read, at, q, fill, check(table)[1][i])
+    return record(numbers, [table, stream, put(fill, cells, at, padded), put(fill, answer, q, compact)])
+
+
+def short_record(rng, turn, table, i, count, bits):
+    p, fill = turn % 8, rng.randrange(256)
+    stream = packed([rng.randrange(2) for _ in range(p)] + bits)
+    end, width = taken(unpacked_table(table), i, unpacked(stream), p), check(table)[1][i]
+    numbers = (1 if end is None else 3, i, p, p + count, end or 0, 0, 0, fill, width)
+    return record(numbers, [table, stream, bytes([fill]) * ((width + 7) // 8), b""])
+
+
+def originals(rng, folder):
+    for turn, line in enumerate(l for l in open(folder + "/values.tsv") if not l.startswith("#")):
+        _, answer, width, read, padded, count, bits, i, table = line.rstrip("\n").split("\t")
+        data = b"" if bits == "-" else bytes.fromhex(bits)
+        table, i, count = bytes.fromhex(table), int(i), int(count)
+        if answer == "short":
+            yield short_record(rng, turn, table, i, count, unpacked(data)[:count])
+            continue
+        cells = [] if padded == "-" else unpacked(bytes.fromhex(padded))[:int(width)]
+        yield value_record(rng, turn, table, i, count, unpacked(data), int(read), cells)
+        if cells and turn % 4 == 0:
+            yield value_record(rng, turn, table, i, count, unpacked(data), int(read), cells, True)
+
+
+def doubled(start, count):
+    table = [(UNIT, 0, 0), (SUM, 0, 0)][:start + 1]
+    while len(table) < count:
+        table.append((PRODUCT, len(table) - 1, len(table) - 1))
+    return table
+
+
+# A bit below `depth` products with a unit, doubled 15 times.
+def deep(depth):
+    table = [(UNIT, 0, 0), (SUM, 0, 0)]
+    for k in range(depth):
+        table.append((PRODUCT, 0, len(table) - 1) if k % 2 else (PRODUCT, len(table) - 1, 0))
+    return table + [(PRODUCT, depth + 1 + k, depth + 1 + k) for k in range(15)]
+
+
+def random_table(rng):
+    table = [(UNIT, 0, 0)]
+    for i in range(1, rng.randrange(1, 14)):
+        table.append((rng.choice((SUM, PRODUCT)), rng.randrange(i), rng.randrange(i)))
+    if rng.randrange(3):
+        i = rng.randrange(len(table))
+        table[i] = rng.choice([(3, 0, 0), (255, 0, 0), (UNIT, 1, 0), (UNIT, 0, 1), (SUM, i, 0), (PRODUCT, 0, i), (SUM, 0, i + 1), table[0], (SUM, 65535, 0)])
+    return table
+
+
+def tables(rng):
+    for n in range(5):
+        yield bytes(n)
+    yield from (packed_table(t) for t in (doubled(1, 17), doubled(1, 18), doubled(0, 1024), doubled(0, 1025), deep(900)))
+    for _ in range(120):
+        yield packed_table(random_table(rng)) + rng.randbytes(rng.choice((0, 0, 1, 2, 3, 4)))
+
+
+# Types that a walk down to every leaf, or through every product, would take long for.
+def timed(rng):
+    yield value_record(rng, 3, packed_table(doubled(0, 1024)), 1023, 0, [], 0, [])
+    bits = [rng.randrange(2) for _ in range(MOST_WIDTH)]
+    yield value_record(rng, 5, packed_table(deep(900)), len(deep(900)) - 1, MOST_WIDTH, bits, MOST_WIDTH, bits)
+
+
+if __name__ == "__main__":
+    rng = random.Random(1)
+    made = {"tables": [table_record(t) for t in tables(rng)], "values": [*originals(rng, sys.argv[1]), *timed(rng)]}
+    for name, records in made.items():
+        open(f"{sys.argv[2]}/{name}", "wb").write(b"".join(records))
+        print(len(records), name, sum(map(len, records)), "bytes")

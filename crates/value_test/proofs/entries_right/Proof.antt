@@ -1,0 +1,87 @@
+-- The loop over the entries stays within the count of types, so that no place wraps.
+use Prim.Native.Nat.{_≤_, _-_}
+use borrow.Author.Needs.{needs}
+use Rattle.limits.specs.Limits.{typeCount}
+use Rattle.value_test.proofs.entries_right.Statement.{statement}
+use Rattle.value_test.proofs.entries_right.Tie as tie
+
+abbrev Inv-loop : tie.InvT-loop
+Inv-loop «record» widths next entries k₀ k = k ≤ typeCount
+
+abbrev μ-loop : tie.MeasureT-loop
+μ-loop «record» widths next entries k₀ k = typeCount - k
+
+part-requires : tie.Need-part-requires Inv-loop μ-loop
+part-requires c κs = search needs
+
+loop-holds : tie.Need-loop-holds Inv-loop μ-loop
+loop-holds c = search needs
+
+width-at-requires : tie.Need-width-at-requires Inv-loop μ-loop
+width-at-requires c κs = search needs
+
+cast-if1 : tie.Need-cast-if1 Inv-loop μ-loop
+cast-if1 c = search needs
+
+mul-number16 : tie.Need-mul-number16 Inv-loop μ-loop
+mul-number16 c = search needs
+
+number16-requires : tie.Need-number16-requires Inv-loop μ-loop
+number16-requires c κs = search needs
+
+returns : tie.Need-returns Inv-loop μ-loop
+returns c = search needs
+
+next-at-requires : tie.Need-next-at-requires Inv-loop μ-loop
+next-at-requires c κs = search needs
+
+cast-if2 : tie.Need-cast-if2 Inv-loop μ-loop
+cast-if2 c = search needs
+
+mul-number16-2 : tie.Need-mul-number16-2 Inv-loop μ-loop
+mul-number16-2 c = search needs
+
+add-number16 : tie.Need-add-number16 Inv-loop μ-loop
+add-number16 c = search needs
+
+number16-requires-2 : tie.Need-number16-requires-2 Inv-loop μ-loop
+number16-requires-2 c κs = search needs
+
+returns-2 : tie.Need-returns-2 Inv-loop μ-loop
+returns-2 c = search needs
+
+add-k : tie.Need-add-k Inv-loop μ-loop
+add-k c = search needs
+
+loop-less : tie.Need-loop-less Inv-loop μ-loop
+loop-less c = search needs
+
+loop-again : tie.Need-loop-again Inv-loop μ-loop
+loop-again c = search needs
+
+returns-3 : tie.Need-returns-3 Inv-loop μ-loop
+returns-3 c = search needs
+
+pub entries-right-spec : {M : Type 1} → statement M
+entries-right-spec =
+    tie.close
+    (tie.spec
+    Inv-loop
+    μ-loop
+    part-requires
+    loop-holds
+    width-at-requires
+    cast-if1
+    mul-number16
+    number16-requires
+    returns
+    next-at-requires
+    cast-if2
+    mul-number16-2
+    add-number16
+    number16-requires-2
+    returns-2
+    add-k
+    loop-less
+    loop-again
+    returns-3)
