@@ -3,7 +3,7 @@
 use mathlib.Core.Path.{_≡_, refl, sym, ap, ap₂, _∙_, subst}
 use mathlib.Core.Bool.{Bool, true, false}
 use mathlib.Core.List.{List, [], _∷_, _++_, append-assoc, append-nil}
-use Prim.Native.Nat.{ℕ, zero, suc, _+_, _-_, _^_, _≤_, _<_}
+use Prim.Native.Nat.{ℕ, zero, suc, _+_, _-_, _^_, _≤_}
 use native.Mathlib.Nat.{zero-add}
 use native.Mathlib.Omega.{arith}
 use lib.Dec.{leb, ltb}
@@ -16,7 +16,6 @@ use Rattle.report.specs.Bits.{Bit, bitsOf}
 use Rattle.report.specs.Naturals.{codeNatural}
 use Rattle.report.specs.Nodes.{Node, comp, case, pair, disconnect, injl, injr, take, drop, disconnect1, iden, unit, witness, fail, hidden, word}
 use Rattle.report.specs.Nodes.{codeNode, codeNodes, codeProgram}
-use Rattle.report.specs.Canonical.{Canonical}
 use Rattle.scope.specs.Check.{Check, passed, _>>=_, require}
 use Rattle.scope.specs.Numbers.{zeros, streamOf, allZero}
 use Rattle.scope.specs.Nodes.{NodeRecord, kindOf, nodeOf, nodesOf}
@@ -26,9 +25,9 @@ use Rattle.scope.specs.Closing10.{closes, decode}
 use Rattle.exactness.specs.Checks.{clash, every-all, all-every, require-holds, holds-require, both-passed, then-passes}
 use Rattle.exactness.specs.Bits.{AreBits, are-bits}
 use Rattle.exactness.specs.Naturals.{code-some}
-use Rattle.exactness.specs.Nodes.{NodeFits, NodesFit, WellFormed, storedBy, recordOf, recordsFrom, hashesOf, layout}
+use Rattle.exactness.specs.Nodes.{NodeFits, NodesFit, storedBy, recordOf, recordsFrom, hashesOf, layout}
 use Rattle.exactness.specs.Stream.{Stands, stands-split, front-stands}
-use Rattle.exactness.specs.Hidden.{HiddenPlaces}
+use Rattle.exactness.specs.Programs.{Closed, IsProgram}
 use Rattle.exactness.specs.Canonical.{walk-canonical, canonical-walk}
 use Rattle.exactness.specs.Reading.{IsTable, read-is-table, table-is-read}
 
@@ -106,12 +105,6 @@ all-zeros (suc b ∷ l) e = clash (cc)
 length-zeros : (n : ℕ) → length (zeros n) ≡ n
 length-zeros n = length-replicate {A = ℕ} n 0
 
--- the bits end with the part x, but for fewer than eight zeros
-pub record Closed (bits x : List Bit) : Type 0 where
-  pub padding : ℕ
-  pub short : padding < 8
-  pub whole : bits ≡ x ++ zeros padding
-
 module _ (bits x : List Bit) where
   -- the closing test holds after a part exactly if the bits end with it
   closed-stands : Stands bits 0 (length x) x → closes bits (length x) ≡ true → Closed bits x
@@ -141,16 +134,6 @@ module _ (bits x : List Bit) where
         ),
       )
 
--- a program that is the code of this table of nodes, and fits
-pub record IsProgram (program : List ℕ) (records bytes : ℕ) (ns : List Node) : Type 0 where
-  pub within : length program ≤ dossierBytes
-  pub formed : WellFormed ns
-  pub coded : Closed (streamOf program) (codeProgram ns)
-  pub canonical : Canonical ns
-  pub hidden-places : HiddenPlaces ns
-  pub records-fit : length ns ≤ records
-  pub bytes-fit : length (hashesOf ns) ≤ bytes
-
 -- the stream of a program is bits
 stream-bits : (program : List ℕ) → AreBits (streamOf program)
 unfolding streamOf
@@ -160,11 +143,13 @@ stream-bits program = go (ltb dossierBytes (length program))
     go true = tt
     go false = are-bits program
 
+-- no program's code is empty
 program-some : (ns : List Node) → 1 ≤ length (codeProgram ns)
 unfolding codeProgram
 program-some ns = omega (arith, length-append (codeNatural (length ns)) (codeNodes 0 ns), code-some (length ns))
 
 module _ (program : List ℕ) (records bytes : ℕ) where
+  -- its table stands at the front of its stream
   program-table : (ns : List Node) → IsProgram program records bytes ns → IsTable (streamOf program) records bytes ns
   program-table ns h = record {
     formed = h .formed;

@@ -14,6 +14,7 @@ pub mod Nodes
 pub mod Stream
 pub mod Coding
 pub mod Reading
+pub mod Programs
 pub mod Decoding
 pub mod Pins
 pub mod Theorems

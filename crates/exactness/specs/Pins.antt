@@ -11,7 +11,8 @@ use Rattle.scope.specs.Nodes.{nodesOf}
 use Rattle.scope.specs.Reading3to5.{Table}
 use Rattle.scope.specs.Closing10.{decode}
 use Rattle.exactness.specs.Nodes.{layout}
-use Rattle.exactness.specs.Decoding.{IsProgram, decoded-is-program, decoded-nodes}
+use Rattle.exactness.specs.Programs.{IsProgram}
+use Rattle.exactness.specs.Decoding.{decoded-is-program, decoded-nodes}
 
 abbrev program : List ℕ
 program = 0x89 ∷ 0x20 ∷ []

@@ -36,7 +36,8 @@ use Rattle.exactness.specs.Walk.{Counted, walk-counted, done-below, walk
 use Rattle.exactness.specs.Hidden.{HiddenPlaces}
 use Rattle.exactness.specs.Canonical.{walk-canonical, canonical-walk}
 use Rattle.exactness.specs.Nodes.{NodesFit, fit-at, layout}
-use Rattle.exactness.specs.Decoding.{IsProgram, decoded-is-program, program-is-decoded, decoded-nodes, one-table}
+use Rattle.exactness.specs.Programs.{IsProgram}
+use Rattle.exactness.specs.Decoding.{decoded-is-program, program-is-decoded, decoded-nodes, one-table}
 
 -- Tables. A table has an entry for each record, and entry i is made of record i and of the entries before it.
 pub table-length : {R X : Type 0} (make : List X → R → X) (rs : List R) → length (entries make rs) ≡ length rs

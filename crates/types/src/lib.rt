@@ -40,19 +40,22 @@ enum Judged {
     Broken,
 }
 
-fn wide(b: u8) -> u16
+// A byte, as 16 bits.
+fn byte(b: u8) -> u16
     ensures { λ r. ⌜ (r ≡ b) × (r < 256) ⌝ }
 {
     b as u16
 }
 
+// A record's index, as a place in an array.
 fn index(x: u16) -> usize
     ensures { λ r. ⌜ (r ≡ x) × (r < 65536) ⌝ }
 {
     x as usize
 }
 
-fn cells(width: u32) -> u64
+// A width, as 64 bits, so that no sum of two wraps.
+fn wide(width: u32) -> u64
     ensures { λ r. ⌜ (r ≡ width) × (r < 4294967296) ⌝ }
 {
     width as u64
@@ -63,7 +66,7 @@ fn index_at(types: &[u8], at: usize) -> u16
     requires { ⌜ at + 2 ≤ length (now types) ⌝ }
     ensures { λ r. ⌜ r ≡ be16 (now (types .entry)) at ⌝ }
 {
-    wide(types[at]) * 256 + wide(types[at + 1])
+    byte(types[at]) * 256 + byte(types[at + 1])
 }
 
 // Record i; past the end of the table a record of no tag.
@@ -116,8 +119,8 @@ fn parts_fit(tag: u8, left: usize, right: usize, i: usize) -> bool
 fn parts_width(tag: u8, left: u32, right: u32) -> u64
     ensures { λ r. ⌜ r ≡ partsWidth tag left right ⌝ }
 {
-    let a = cells(left);
-    let b = cells(right);
+    let a = wide(left);
+    let b = wide(right);
     if tag == 0 {
         0
     } else if tag == 1 {
@@ -168,7 +171,7 @@ fn judge(types: &[u8], i: usize, widths: &[u32]) -> Judged
         return Judged::Broken;
     }
     let width = parts_width(own.tag, width_at(widths, left), width_at(widths, right));
-    if cells(limits::TYPE_WIDTH) < width {
+    if wide(limits::TYPE_WIDTH) < width {
         return Judged::Broken;
     }
     if repeated(types, i) {
@@ -207,8 +210,8 @@ pub fn check_types(types: &[u8]) -> TypeTable
     if count == 0 || limits::TYPE_COUNT < count {
         return TypeTable {
             answer: TypeAnswer::Refused(Refusal::Natural(0)),
-            widths: widths,
-            next: next,
+            widths,
+            next,
         };
     }
     let mut i: usize = 0;
@@ -216,8 +219,8 @@ pub fn check_types(types: &[u8]) -> TypeTable
         let Judged::Width(width) = judge(types, i, &widths) else {
             return TypeTable {
                 answer: TypeAnswer::Refused(Refusal::TypeRecord(i as u32)),
-                widths: widths,
-                next: next,
+                widths,
+                next,
             };
         };
         next[i] = next_record(types, i, &widths, &next);
@@ -226,7 +229,7 @@ pub fn check_types(types: &[u8]) -> TypeTable
     }
     TypeTable {
         answer: TypeAnswer::Records(count),
-        widths: widths,
-        next: next,
+        widths,
+        next,
     }
 }

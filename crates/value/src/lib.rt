@@ -35,12 +35,14 @@ enum Step {
     Both(usize, usize, u32),
 }
 
+// A width or a place, as 64 bits, so that no sum of two wraps.
 fn wide(width: u32) -> u64
     ensures { λ r. ⌜ (r ≡ width) × (r < 4294967296) ⌝ }
 {
     width as u64
 }
 
+// A record's index, as a place in an array.
 fn index(x: u16) -> usize
     ensures { λ r. ⌜ r ≡ x ⌝ }
 {
@@ -269,29 +271,13 @@ fn unpad_part<'a>(
             cells::write_cell(answer, q, side);
             let padding = padding_of(side, pad_left, pad_right);
             let part = part_of(side, left, right);
-            unpad_part(
-                types,
-                widths,
-                next,
-                part,
-                cells,
-                at + 1 + padding,
-                answer,
-                q + 1,
-            )
+            let place = at + 1 + padding;
+            unpad_part(types, widths, next, part, cells, place, answer, q + 1)
         }
         Step::Both(left, right, width) => {
             let middle = unpad_part(types, widths, next, left, cells, at, answer, q);
-            unpad_part(
-                types,
-                widths,
-                next,
-                right,
-                cells,
-                at + width,
-                answer,
-                middle,
-            )
+            let place = at + width;
+            unpad_part(types, widths, next, right, cells, place, answer, middle)
         }
     }
 }

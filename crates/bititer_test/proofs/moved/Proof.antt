@@ -1,7 +1,6 @@
 -- The loop that moves a stream stays within its array, and each byte is below 256.
 use mathlib.Core.Path.{_≡_}
 use Prim.Native.Nat.{_-_, _≤_, _<_}
-use native.Mathlib.Omega.{arith}
 use borrow.Author.Needs.{needs}
 use lib.ListN.{length}
 use Rattle.bititer_test.proofs.moved.Statement.{statement}
@@ -17,43 +16,43 @@ read-bytes-requires : tie.Need-read-bytes-requires Inv-loop μ-loop
 read-bytes-requires c κs = search needs
 
 add-start : tie.Need-add-start Inv-loop μ-loop
-add-start c = omega arith
+add-start c = search needs
 
 loop-holds : tie.Need-loop-holds Inv-loop μ-loop
-loop-holds c = omega arith
+loop-holds c = search needs
 
 add-byte : tie.Need-add-byte Inv-loop μ-loop
-add-byte c = omega arith
+add-byte c = search needs
 
 byte-requires : tie.Need-byte-requires Inv-loop μ-loop
 byte-requires c κs = search needs
 
 mul-stream : tie.Need-mul-stream Inv-loop μ-loop
-mul-stream c = omega arith
+mul-stream c = search needs
 
 add-stream : tie.Need-add-stream Inv-loop μ-loop
-add-stream c = omega arith
+add-stream c = search needs
 
 shr-stream : tie.Need-shr-stream Inv-loop μ-loop
-shr-stream c = omega arith
+shr-stream c = search needs
 
 cast-stream : tie.Need-cast-stream Inv-loop μ-loop
-cast-stream c = omega arith
+cast-stream c = search needs
 
 array-write-stream : tie.Need-array-write-stream Inv-loop μ-loop
-array-write-stream c = omega arith
+array-write-stream c = search needs
 
 add-i : tie.Need-add-i Inv-loop μ-loop
-add-i c = omega arith
+add-i c = search needs
 
 loop-less : tie.Need-loop-less Inv-loop μ-loop
-loop-less c = omega arith
+loop-less c = search needs
 
 loop-again : tie.Need-loop-again Inv-loop μ-loop
 loop-again c = search needs
 
 returns : tie.Need-returns Inv-loop μ-loop
-returns c = omega arith
+returns c = search needs
 
 pub moved-spec : {M : Type 1} → statement M
 moved-spec =

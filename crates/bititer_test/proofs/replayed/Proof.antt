@@ -1,6 +1,5 @@
 -- The offsets of a read are below 8.
 use Prim.Native.Nat.{_-_, _≤_}
-use native.Mathlib.Omega.{arith}
 use borrow.Author.Needs.{needs}
 use Rattle.bititer_test.proofs.replayed.Statement.{statement}
 use Rattle.bititer_test.proofs.replayed.Tie as tie
@@ -15,7 +14,7 @@ offsets-requires : tie.Need-offsets-requires Inv-loop μ-loop
 offsets-requires c κs = search needs
 
 loop-holds : tie.Need-loop-holds Inv-loop μ-loop
-loop-holds c = omega arith
+loop-holds c = search needs
 
 right-requires : tie.Need-right-requires Inv-loop μ-loop
 right-requires c κs = search needs
@@ -24,16 +23,16 @@ counted-requires : tie.Need-counted-requires Inv-loop μ-loop
 counted-requires c κs = search needs
 
 add-offset : tie.Need-add-offset Inv-loop μ-loop
-add-offset c = omega arith
+add-offset c = search needs
 
 loop-less : tie.Need-loop-less Inv-loop μ-loop
-loop-less c = omega arith
+loop-less c = search needs
 
 loop-again : tie.Need-loop-again Inv-loop μ-loop
-loop-again c = omega arith
+loop-again c = search needs
 
 returns : tie.Need-returns Inv-loop μ-loop
-returns c = omega arith
+returns c = search needs
 
 pub replayed-spec : {M : Type 1} → statement M
 replayed-spec =

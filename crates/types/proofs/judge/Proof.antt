@@ -55,8 +55,8 @@ width-at-requires-2 c κs = search needs
 parts-width-requires : tie.Need-parts-width-requires
 parts-width-requires c κs = search needs
 
-cells-requires : tie.Need-cells-requires
-cells-requires c κs = search needs
+wide-requires : tie.Need-wide-requires
+wide-requires c κs = search needs
 
 returns-2 : tie.Need-returns-2
 returns-2 c =
@@ -138,7 +138,7 @@ judge-spec =
     width-at-requires
     width-at-requires-2
     parts-width-requires
-    cells-requires
+    wide-requires
     returns-2
     repeated-requires
     returns-3

@@ -61,8 +61,8 @@ unpad-part-padding-of-requires t c κs = search needs
 unpad-part-part-of-requires : (t : ℕ) → unpad-part-lts.Need-part-of-requires (unpad-part-calls t) (unpad-part-at t) unpad-part.Post
 unpad-part-part-of-requires t c κs = search needs
 
-unpad-part-add-unpad-part : (t : ℕ) → unpad-part-lts.Need-add-unpad-part (unpad-part-calls t) (unpad-part-at t) unpad-part.Post
-unpad-part-add-unpad-part t c =
+unpad-part-add-place : (t : ℕ) → unpad-part-lts.Need-add-place (unpad-part-calls t) (unpad-part-at t) unpad-part.Post
+unpad-part-add-place t c =
     let a = c .before .before .before .before .before .before .before .before .before .before .before .before .before .before .before .before .args in
     let ts = a .types .now in
     let w = a .widths .now in
@@ -79,8 +79,8 @@ unpad-part-add-unpad-part t c =
     let rq = room .1 in
     omega arith
 
-unpad-part-add-unpad-part-2 : (t : ℕ) → unpad-part-lts.Need-add-unpad-part-2 (unpad-part-calls t) (unpad-part-at t) unpad-part.Post
-unpad-part-add-unpad-part-2 t c =
+unpad-part-add-place-2 : (t : ℕ) → unpad-part-lts.Need-add-place-2 (unpad-part-calls t) (unpad-part-at t) unpad-part.Post
+unpad-part-add-place-2 t c =
     let a = c .before .before .before .before .before .before .before .before .before .before .before .before .before .before .before .before .args in
     let ts = a .types .now in
     let w = a .widths .now in
@@ -99,8 +99,8 @@ unpad-part-add-unpad-part-2 t c =
     let wide = part-wide ts w n (a .i) l r x y told side (c .part-of .result) (c .before .padding-of .result) (c .part-of .ensures) (c .before .padding-of .ensures) in
     omega arith
 
-unpad-part-add-unpad-part-3 : (t : ℕ) → unpad-part-lts.Need-add-unpad-part-3 (unpad-part-calls t) (unpad-part-at t) unpad-part.Post
-unpad-part-add-unpad-part-3 t c =
+unpad-part-add-unpad-part : (t : ℕ) → unpad-part-lts.Need-add-unpad-part (unpad-part-calls t) (unpad-part-at t) unpad-part.Post
+unpad-part-add-unpad-part t c =
     let a = c .before .before .before .before .before .before .before .before .before .before .before .before .before .before .before .before .before .args in
     let ts = a .types .now in
     let w = a .widths .now in
@@ -157,8 +157,8 @@ unpad-part-unpad-part-requires-2 t c κs =
     let rq = room .1 in
     (omega arith, λ some. (omega arith, omega arith))
 
-unpad-part-add-unpad-part-4 : (t : ℕ) → unpad-part-lts.Need-add-unpad-part-4 (unpad-part-calls t) (unpad-part-at t) unpad-part.Post
-unpad-part-add-unpad-part-4 t c =
+unpad-part-add-place-3 : (t : ℕ) → unpad-part-lts.Need-add-place-3 (unpad-part-calls t) (unpad-part-at t) unpad-part.Post
+unpad-part-add-place-3 t c =
     let a = c .before .before .before .before .before .before .before .before .before .before .before .before .before .args in
     let ts = a .types .now in
     let w = a .widths .now in
@@ -251,13 +251,13 @@ pub +unpad-part-spec : {M : Type 1} → statement M
     (unpad-part-write-cell-requires t)
     (unpad-part-padding-of-requires t)
     (unpad-part-part-of-requires t)
+    (unpad-part-add-place t)
+    (unpad-part-add-place-2 t)
     (unpad-part-add-unpad-part t)
-    (unpad-part-add-unpad-part-2 t)
-    (unpad-part-add-unpad-part-3 t)
     (unpad-part-unpad-part-requires t)
     (unpad-part-enum-known-way-2 t)
     (unpad-part-unpad-part-requires-2 t)
-    (unpad-part-add-unpad-part-4 t)
+    (unpad-part-add-place-3 t)
     (unpad-part-unpad-part-requires-3 t)
     (unpad-part-returns t)
     (unpad-part-same-length t)

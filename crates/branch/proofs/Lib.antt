@@ -1,0 +1,4 @@
+pub mod KindNumbers
+pub mod Records
+pub mod Hashes
+pub mod Pins
