@@ -16,6 +16,7 @@ const HIDDEN: u32 = 13;
 
 const LAST_KIND: u32 = 14;
 
+// A number of the table as a place.
 fn wide(x: u32) -> usize
     ensures { λ r. ⌜ (r ≡ x) × (r < 2 ^ 32) ⌝ }
 {

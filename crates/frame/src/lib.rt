@@ -9,12 +9,14 @@ ghost use Rattle.layout.specs.Mach.{frame, noFrame, recordsOf};
 ghost use Rattle.frame.specs.Cursor.{frameOf, largest, held};
 ghost use Rattle.frame.specs.Store.{withRecords};
 
+// Where the cursor stands, where the frame starts and how many cells it has.
 pub struct Frame {
     pub cursor: u32,
     pub start: u32,
     pub len: u32,
 }
 
+// The largest number of 32 bits.
 const LARGEST: u32 = 4_294_967_295;
 
 // A cursor n cells on.

@@ -23,6 +23,7 @@ const SECTIONS: usize = 6;
 // The header's numbers: the version, a count and an offset for each section, and the total.
 const NUMBERS: usize = 14;
 
+// A byte as a number with room for four of them.
 fn wide(b: u8) -> u32
     ensures { λ r. ⌜ (r ≡ b) × (r < 256) ⌝ }
 {
@@ -40,7 +41,7 @@ fn byte_at(dossier: &[u8], at: usize) -> u32
     }
 }
 
-// The 16-bit number at a place.
+// The 16-bit number at a place, with 0 for bytes past the end.
 fn half_at(dossier: &[u8], at: usize) -> u32
     requires { ⌜ at + 1 < 2 ^ 64 ⌝ }
     ensures { λ r. ⌜ (r ≡ be16 (now (dossier .entry)) at) × (r < 65536) ⌝ }
@@ -48,7 +49,7 @@ fn half_at(dossier: &[u8], at: usize) -> u32
     byte_at(dossier, at) * 256 + byte_at(dossier, at + 1)
 }
 
-// Number j of the header.
+// Number j of the header, with 0 for bytes past the end.
 fn number(dossier: &[u8], j: usize) -> u32
     ensures { λ r. ⌜ r ≡ number (now (dossier .entry)) j ⌝ }
 {
