@@ -1,6 +1,7 @@
 -- What holds of a table that passed the check: its arrays have the width of every type and the next record that matters of every record,
 -- and that record stands for what is left of the type when products with a part of width 0 are passed over.
 use mathlib.Core.Path.{_≡_, refl, ap, sym, _∙_}
+use mathlib.Core.Logic.{_⊎_, inl, inr}
 use mathlib.Core.Bool.{Bool, true, false, not}
 use mathlib.Core.List.{List, [], _∷_}
 use Prim.Native.Nat.{ℕ, zero, suc, _+_, _-_, _≤_, _<_}
@@ -20,7 +21,7 @@ use Rattle.scope.specs.Stages26.{counted}
 use Rattle.scope.specs.Types2.{TypeRecord, typeRecords, typeFrom, tyAt, typeAt, sameType, partsRule, typeRule, checkTypes}
 use Rattle.types.specs.Records.{passOver, nextFrom, nextAt}
 use Rattle.types.specs.Table.{checkTable, typeAnswer, goodRecords, arrayOf, typeWidths, typeNext}
-use Rattle.types.specs.declared.TypeAnswer.the-variants.{Records}
+use Rattle.types.specs.declared.TypeAnswer.the-variants.{Records, Refused}
 use Rattle.types.proofs.Check.{widthFor, array-at, array-past}
 use Rattle.types.proofs.Core.{core, Alike, core-alike, Matters, core-matters}
 use Rattle.types.proofs.Laws.{every-true, parts-below, Parts, type-past, type-step, next-step}
@@ -65,11 +66,13 @@ checked-sound T h e =
     let f : firstFailing (typeRule T) (length T) 0 ≡ length T = each-passed (length T) (typeRule T) BadTypeRecord e in
     record { few = h; rules = λ i l. all-hold (typeRule T) (length T) 0 (f ∙ omega arith) i (omega arith) (omega arith) }
 
--- a table that passed is sound, and its arrays hold all of its records
+-- a table that passed, with n records: the requirements' checks pass, it is sound, and its arrays hold all of its records
 pub record Passed (bytes : List ℕ) (n : ℕ) : Type 0 where
-  pub sound : Sound (typeRecords bytes)
+  pub counts : counted (length (typeRecords bytes)) typeCount ≡ passed tt
+  pub checks : checkTypes (typeRecords bytes) ≡ passed tt
   pub count : n ≡ length (typeRecords bytes)
   pub some : 1 ≤ n
+  pub sound : Sound (typeRecords bytes)
   pub all : goodRecords bytes ≡ length (typeRecords bytes)
 
 pub passed-table : (bytes : List ℕ) (n : ℕ) → checkTable bytes ≡ passed n → Passed bytes n
@@ -82,7 +85,14 @@ passed-table bytes n e = go (counted (length (typeRecords bytes)) typeCount) (ch
         let k = counted-passed (length (typeRecords bytes)) typeCount p in
         let f = each-passed (length (typeRecords bytes)) (typeRule (typeRecords bytes)) BadTypeRecord q in
         let z : n ≡ length (typeRecords bytes) = cc in
-        record { sound = checked-sound (typeRecords bytes) (k .1) q; count = z; some = omega arith; all = rw (p, goodRecords) f }
+        record {
+          counts = p;
+          checks = q;
+          count = z;
+          some = omega arith;
+          sound = checked-sound (typeRecords bytes) (k .1) q;
+          all = rw (p, goodRecords) f;
+        }
     go (passed x) (refused r) p q e = let z : _≡_ {A = ℕ} 0 1 = cc in absurd (omega arith)
     go (refused r) d p q e = let z : _≡_ {A = ℕ} 0 1 = cc in absurd (omega arith)
 
@@ -93,6 +103,22 @@ answered bytes n e = go (checkTable bytes) refl e
     go : (c : Check ℕ) → checkTable bytes ≡ c → typeAnswer c ≡ Records n → Passed bytes n
     go (passed m) p e = let z : m ≡ n = cc in passed-table bytes n (p ∙ ap passed z)
     go (refused r) p e = let z : _≡_ {A = ℕ} 0 1 = cc in absurd (omega arith)
+
+-- a table that did not: it is refused for its count, or else for a record
+abbrev pub RefusedFor : (bytes : List ℕ) → Refusal → Type 0
+RefusedFor bytes r =
+    (counted (length (typeRecords bytes)) typeCount ≡ refused r)
+    ⊎ (counted (length (typeRecords bytes)) typeCount ≡ passed tt) × (checkTypes (typeRecords bytes) ≡ refused r)
+
+pub refused-table : (bytes : List ℕ) (r : Refusal) → typeAnswer (checkTable bytes) ≡ Refused r → RefusedFor bytes r
+unfolding checkTable _>>=_
+refused-table bytes r e = go (counted (length (typeRecords bytes)) typeCount) (checkTypes (typeRecords bytes)) refl refl e
+  where
+    go : (c d : Check (Unit {0})) → counted (length (typeRecords bytes)) typeCount ≡ c → checkTypes (typeRecords bytes) ≡ d
+        → typeAnswer (c >>= λ x. (d >>= λ y. passed (length (typeRecords bytes)))) ≡ Refused r → RefusedFor bytes r
+    go (passed x) (passed y) p q e = let z : _≡_ {A = ℕ} 0 1 = cc in absurd (omega arith)
+    go (passed x) (refused s) p q e = let z : s ≡ r = cc in inr (p, q ∙ ap refused z)
+    go (refused s) d p q e = let z : s ≡ r = cc in inl (p ∙ ap refused z)
 
 -- the rules of a sound record, one by one
 module _ (T : List TypeRecord) (sound : Sound T) (i : ℕ) (h : i < length T) where

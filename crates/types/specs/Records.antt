@@ -51,6 +51,7 @@ recordNext r widths next i =
     nextFrom (r .tag) (getD widths (r .left) 0) (getD widths (r .right) 0) (getD next (r .left) 0) (getD next (r .right) 0) i
 
 module _ (types : List TypeRecord) where
+  -- the next record that matters for a record, of those for the records before it
   unfoldable pub nextMake : List ℕ → TypeRecord → ℕ
   unfolding tyAt width
   nextMake before r =

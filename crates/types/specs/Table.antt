@@ -23,6 +23,7 @@ use Rattle.types.specs.declared.TypeTable.{TypeTable}
 abbrev pub recordOf : Types2.TypeRecord → TypeRecord
 recordOf r = record { tag = r .tag; left = r .left; right = r .right }
 
+-- two records are equal, number by number
 abbrev pub sameRecord : TypeRecord → TypeRecord → Bool
 sameRecord a b = every (eqb (a .tag) (b .tag) ∷ eqb (a .left) (b .left) ∷ eqb (a .right) (b .right) ∷ [])
 
@@ -34,6 +35,7 @@ checkTable bytes = do
   sound ← checkTypes (typeRecords bytes)
   passed (length (typeRecords bytes))
 
+-- what the check says, as a call answers it
 abbrev pub typeAnswer : Check ℕ → TypeAnswer
 typeAnswer (passed n) = Records n
 typeAnswer (refused r) = Refused r
@@ -51,6 +53,7 @@ unfoldable pub arrayOf : (n : ℕ) → (ℕ → ℕ) → List ℕ
 unfolding tabulate
 arrayOf n f = tabulate n f ++ zeros (typeCount - n)
 
+-- the width of each good record's type, and the next record that matters for it
 unfoldable pub typeWidths : (bytes : List ℕ) → List ℕ
 unfolding arrayOf goodRecords width tyAt typeRecords
 typeWidths bytes = arrayOf (goodRecords bytes) (λ i. width (tyAt (typeRecords bytes) i))
@@ -59,6 +62,7 @@ unfoldable pub typeNext : (bytes : List ℕ) → List ℕ
 unfolding arrayOf goodRecords nextAt typeRecords
 typeNext bytes = arrayOf (goodRecords bytes) (nextAt (typeRecords bytes))
 
+-- what the check of a lent table answers
 unfoldable pub typeTable : (bytes : List ℕ) → TypeTable
 unfolding checkTable typeWidths typeNext
 typeTable bytes = record { answer = typeAnswer (checkTable bytes); widths = typeWidths bytes; next = typeNext bytes }

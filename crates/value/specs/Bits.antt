@@ -21,6 +21,7 @@ pub data Used : Type 0 where
   used : ℕ → Used
   short : Used
 
+-- so many bits, and then those of a part
 abbrev pub after : (k : ℕ) → Used → Used
 after k (used n) = used (k + n)
 after k short = short
@@ -70,9 +71,11 @@ pub record Padded : Type 0 where
   pub says : ValueRead
   pub cells : List Bit
 
+-- an end of padding as a call meets it
 abbrev pub padding : ValueRead → List Bit → Padded
 padding says cells = record { says = says; cells = cells }
 
+-- the value at bit p as padded cells from `at` on, where there are bits and cells enough
 unfoldable pub padStage : Shape → (width : ℕ) → (bits : List Bit) → (p : ℕ) → (cells : List Bit) → (at : ℕ) → Padded
 unfolding skipShape padShape room
 padStage A width bits p cells at = elim (skipShape A (drop p bits)) [
@@ -88,9 +91,11 @@ pub record Unpadded : Type 0 where
   pub says : ValueWritten
   pub bits : List Bit
 
+-- an end of unpadding as a call meets it
 abbrev pub unpadding : ValueWritten → List Bit → Unpadded
 unpadding says bits = record { says = says; bits = bits }
 
+-- the compact bits of the value in the cells from `at` on, from bit q of the store on, where both have room for the width
 unfoldable pub unpadStage : Shape → (width : ℕ) → (cells : List Bit) → Cells → (at : ℕ) → (store : List Bit) → (q : ℕ) → Unpadded
 unfolding unpadShape every room
 unpadStage A width cells c at store q = elim (every (room width at cells ∷ room width q store ∷ [])) [

@@ -28,6 +28,7 @@ part (suc k) left right = right
 abbrev pub falls : (i j left right : ℕ) → Bool
 falls i j left right = every (leb j i ∷ ltb left j ∷ ltb right j ∷ [])
 
+-- a step where the test holds, and else nothing
 abbrev pub stepWhere : Bool → Step → Step
 stepWhere true s = s
 stepWhere false s = Nothing
@@ -39,6 +40,7 @@ tagStep own left right a b = stepWhere (eqb own (1 + max a b)) (Tag left right (
 abbrev pub bothStep : (own left right a b : ℕ) → Step
 bothStep own left right a b = stepWhere (eqb own (a + b)) (Both left right a)
 
+-- the step of a record by its tag: unit, and any tag above 2, is nothing
 abbrev pub stepBy : (kind own left right a b : ℕ) → Step
 stepBy zero own left right a b = Nothing
 stepBy (suc zero) own left right a b = tagStep own left right a b

@@ -1,0 +1,8 @@
+pub mod Tests
+pub mod Records
+pub mod Groups
+pub mod Hashes
+pub mod Steps
+pub mod AnyBits
+pub mod Stages
+pub mod Pins

@@ -1,0 +1,58 @@
+-- `table::hides` meets its contract: a hidden record's bytes are compared, and no other's.
+use Rattle.table.proofs.Hashes.{hides-kind}
+use Rattle.table.specs.Lent.{hiddenKind, hashIs, nodeIs}
+use Rattle.table.specs.Answers.{recordOf}
+use Rattle.scope.specs.Stages26.{noRecord}
+use Rattle.scope.specs.Nodes.{NodeRecord, nodeRecords}
+use Rattle.scope.specs.Numbers.{same}
+use lib.ListN.{getD}
+use borrow.Author.Tests.{not-true, not-false}
+use Prim.Native.Nat.{ℕ}
+use mathlib.Core.List.{List, []}
+use mathlib.Core.Bool.{Bool, true, false}
+use mathlib.Core.Path.{sym, ap, _∙_, _≡_}
+use borrow.Author.Needs.{needs}
+use Rattle.table.proofs.hides.Statement.{statement}
+use Rattle.table.proofs.hides.Tie as tie
+use Rattle.table.proofs.hides.Reads as reads
+use Rattle.table.proofs.hides.Lts as lts
+use Rattle.table.proofs.hash_of.Reads as hash-of-reads
+use Rattle.table.proofs.is_hidden.Reads as is-hidden-reads
+use Rattle.table.proofs.record_at.Reads as record-at-reads
+use Rattle.table.proofs.same_bytes.Reads as same-bytes-reads
+
+record-at-requires : tie.Need-record-at-requires
+record-at-requires c κs = search needs
+
+is-hidden-requires : tie.Need-is-hidden-requires
+is-hidden-requires c κs = search needs
+
+returns : tie.Need-returns
+returns c =
+    let e : hiddenKind (getD (nodeRecords (c .before .before .before .before .before .before .args .nodes .now)) (c .before .before .before .before .before .before .args .j) noRecord .kind) ≡ false =
+    sym (c .before .is-hidden .ensures ∙ ap (λ (x : NodeRecord). hiddenKind (x .kind)) (c .before .before .record-at .ensures)) ∙ not-true _ (c .if1 .taken) in
+    rw (hides-kind, e)
+
+hash-of-requires : tie.Need-hash-of-requires
+hash-of-requires c κs = search needs
+
+same-bytes-requires : tie.Need-same-bytes-requires
+same-bytes-requires c κs = search needs
+
+returns-2 : tie.Need-returns-2
+returns-2 c =
+    let e : hiddenKind (getD (nodeRecords (c .before .before .before .before .before .before .before .before .args .nodes .now)) (c .before .before .before .before .before .before .before .before .args .j) noRecord .kind) ≡ true =
+    sym (c .before .before .before .is-hidden .ensures ∙ ap (λ (x : NodeRecord). hiddenKind (x .kind)) (c .before .before .before .before .record-at .ensures)) ∙ not-false _ (c .before .before .if1 .left) in
+    rw (hides-kind, e)
+    (c .same-bytes .ensures ∙ ap (λ (x : List ℕ). same x (c .before .before .before .before .before .before .before .before .args .hash .now)) (c .before .hash-of .ensures ∙ ap (λ (x : NodeRecord). hashIs (nodeIs (c .before .before .before .before .before .before .before .before .args .hashes .now) x)) (c .before .before .before .before .record-at .ensures)))
+
+pub hides-spec : {M : Type 1} → statement M
+hides-spec =
+    tie.close
+    (tie.spec
+    record-at-requires
+    is-hidden-requires
+    returns
+    hash-of-requires
+    same-bytes-requires
+    returns-2)

@@ -1,0 +1,38 @@
+-- `table::not_repeated` meets its contract: the hash is compared with those of the hidden nodes before.
+use Rattle.table.specs.Walking.{repeatRule}
+use Rattle.table.specs.Lent.{lentNodes}
+use Rattle.scope.specs.Walk6to9.{hides}
+use Rattle.scope.specs.Numbers.{anyBelow}
+use Rattle.scope.specs.Check.{require}
+use Prim.Native.Nat.{ℕ}
+use mathlib.Core.List.{List}
+use mathlib.Core.Bool.{Bool, true, false}
+use mathlib.Core.Path.{_≡_, sym, ap, _∙_}
+use borrow.Author.Needs.{needs}
+use Rattle.table.proofs.not_repeated.Statement.{statement}
+use Rattle.table.proofs.not_repeated.Tie as tie
+use Rattle.table.proofs.not_repeated.Reads as reads
+use Rattle.table.proofs.not_repeated.Lts as lts
+use Rattle.table.proofs.hash_of.Reads as hash-of-reads
+use Rattle.table.proofs.hidden_before.Reads as hidden-before-reads
+
+hash-of-requires : tie.Need-hash-of-requires
+hash-of-requires c κs = search needs
+
+hidden-before-requires : tie.Need-hidden-before-requires
+hidden-before-requires c κs = search needs
+
+returns : tie.Need-returns
+unfolding repeatRule require
+returns c =
+    let e = sym (c .before .hidden-before .ensures ∙ ap (λ (x : List ℕ). anyBelow (c .before .before .before .before .before .args .i) (hides (lentNodes (c .before .before .before .before .before .args .hashes .now) (c .before .before .before .before .before .args .nodes .now)) x)) (c .before .before .hash-of .ensures)) ∙ c .if1 .taken in
+    rw e
+
+returns-2 : tie.Need-returns-2
+unfolding repeatRule require
+returns-2 c =
+    let e = sym (c .before .hidden-before .ensures ∙ ap (λ (x : List ℕ). anyBelow (c .before .before .before .before .before .args .i) (hides (lentNodes (c .before .before .before .before .before .args .hashes .now) (c .before .before .before .before .before .args .nodes .now)) x)) (c .before .before .hash-of .ensures)) ∙ c .if1 .left in
+    rw e
+
+pub not-repeated-spec : {M : Type 1} → statement M
+not-repeated-spec = tie.close (tie.spec hash-of-requires hidden-before-requires returns returns-2)
