@@ -22,7 +22,7 @@ use Rattle.scope.specs.Arrows11and12.{goes, branchRule, kindRule, arrowRule, no
 use Rattle.exactness.specs.Checks.{clash, every-all, all-every, require-holds, holds-require, both-passed, then-passes, each-holds, holds-each}
 use Rattle.exactness.specs.Bits.{AllBelow}
 use Rattle.exactness.specs.Types.{TypesPass}
-use Rattle.exactness.specs.TypeTests.{Joined, same-test, unit-type, type-unit, joins-type, type-joins, joined-test, joins-in, word-type, type-word, first-unit}
+use Rattle.exactness.specs.TypeTests.{Joined, same-test, unit-type, type-unit, joins-type, type-joins, joined-test, word-type, type-word, first-unit}
 use Rattle.exactness.specs.NodeTyping.{Goes, Branch, Shown, Pruned, fromTy, toTy, InRange, ArrowsTyped}
 use Rattle.exactness.specs.NodeTyping.{NodeTyped, Iden, Comp, Unit·, Injl, Injr, Case, Pair, Take, Drop, Fail, Witness, Word, Disconnect, Hidden}
 
@@ -51,98 +51,92 @@ module _ (types : List TypeRecord) (pass : TypesPass types) (nodes : List Node) 
   same i j e = ap (tyAt types) (eqb-true i j e)
 
   -- what a record that is tested as a sum, or as a product, stands for
-  sum-is : (j l r : ℕ) → j < length types → isSum types j l r ≡ true → ty j ≡ sum (ty l) (ty r)
+  sum-is : (j l r : ℕ) → isSum types j l r ≡ true → ty j ≡ sum (ty l) (ty r)
   unfolding isSum leftAt rightAt typeFrom
-  sum-is j l r h e = joins-type types pass 1 j l r h e
+  sum-is j l r e = joins-type types pass 1 j l r (omega arith) e
 
-  product-is : (j l r : ℕ) → j < length types → isProduct types j l r ≡ true → ty j ≡ prod (ty l) (ty r)
+  product-is : (j l r : ℕ) → isProduct types j l r ≡ true → ty j ≡ prod (ty l) (ty r)
   unfolding isProduct leftAt rightAt typeFrom
-  product-is j l r h e = joins-type types pass 2 j l r h e
-
-  -- the left part of a product is in the table
-  left-in-table : (j l r : ℕ) → j < length types → isProduct types j l r ≡ true → l < length types
-  unfolding isProduct leftAt rightAt
-  left-in-table j l r h e = joins-in types pass 1 j l r (omega arith) h e .0
+  product-is j l r e = joins-type types pass 2 j l r (omega arith) e
 
   -- a branch that passes its test is typed
-  branch-typed : (j part rest to : ℕ) → src j < length types → branchRule types nodes arrows j part rest to ≡ true
+  branch-typed : (j part rest to : ℕ) → branchRule types nodes arrows j part rest to ≡ true
       → Branch nodes (fromTy types arrows) (toTy types arrows) j (ty part) (ty rest) (ty to)
   unfolding branchRule
-  branch-typed j part rest to h e = go (hiddenAt nodes j) refl e
+  branch-typed j part rest to e = go (hiddenAt nodes j) refl e
     where
       go : (b : Bool) → hiddenAt nodes j ≡ b → elim b [ true ↦ true | false ↦ every (isProduct types (src j) part rest ∷ eqb (tgt j) to ∷ []) ] ≡ true
           → Branch nodes (fromTy types arrows) (toTy types arrows) j (ty part) (ty rest) (ty to)
       go true p e = Pruned p
       go false p e =
           let q = every-all (isProduct types (src j) part rest ∷ eqb (tgt j) to ∷ []) e in
-          Shown p (arrow j _ _ (product-is (src j) part rest h (q .0)) (same (tgt j) to (q .1 .0)))
+          Shown p (arrow j _ _ (product-is (src j) part rest (q .0)) (same (tgt j) to (q .1 .0)))
 
-  -- from the test to the typing: a node at index i from A to B, where the arrows before it are in range
-  module _ (i : ℕ) (ranges : (j : ℕ) → j < i → InRange types arrows j) (A B : ℕ) (A-in : A < length types) (B-in : B < length types) where
-    kind-typed : (n : Node) → AllBelow i (children n) → kindRule types nodes arrows A B n ≡ true → Typed n (ty A) (ty B)
-    unfolding kindRule children
-    kind-typed (comp s t) b e =
+  -- from the test to the typing: a node from A to B
+  module _ (A B : ℕ) where
+    kind-typed : (n : Node) → kindRule types nodes arrows A B n ≡ true → Typed n (ty A) (ty B)
+    unfolding kindRule
+    kind-typed (comp s t) e =
         let p = every-all (eqb (src s) A ∷ goes types nodes arrows t (tgt s) B ∷ []) e in
         let q = every-all (eqb (src t) (tgt s) ∷ eqb (tgt t) B ∷ []) (p .1 .0) in
         Comp (arrow s (ty A) (ty (tgt s)) (same (src s) A (p .0)) refl)
         (arrow t (ty (tgt s)) (ty B) (same (src t) (tgt s) (q .0)) (same (tgt t) B (q .1 .0)))
-    kind-typed (case s t) b e =
+    kind-typed (case s t) e =
         let S : ℕ = leftAt types A in
         let R : ℕ = rightAt types A in
         let P : ℕ = leftAt types S in
         let Q : ℕ = rightAt types S in
         let p = every-all (isProduct types A S R ∷ isSum types S P Q
         ∷ branchRule types nodes arrows s P R B ∷ branchRule types nodes arrows t Q R B ∷ []) e in
-        let S-is : ty S ≡ sum (ty P) (ty Q) = sum-is S P Q (left-in-table A S R A-in (p .0)) (p .1 .0) in
-        let A-is : ty A ≡ prod (sum (ty P) (ty Q)) (ty R) = product-is A S R A-in (p .0) ∙ ap (λ (X : Ty). prod X (ty R)) S-is in
-        let left = branch-typed s P R B (ranges s (b .0) .source-in) (p .1 .1 .0) in
-        let right = branch-typed t Q R B (ranges t (b .1 .0) .source-in) (p .1 .1 .1 .0) in
+        let S-is : ty S ≡ sum (ty P) (ty Q) = sum-is S P Q (p .1 .0) in
+        let A-is : ty A ≡ prod (sum (ty P) (ty Q)) (ty R) = product-is A S R (p .0) ∙ ap (λ (X : Ty). prod X (ty R)) S-is in
+        let left = branch-typed s P R B (p .1 .1 .0) in
+        let right = branch-typed t Q R B (p .1 .1 .1 .0) in
         subst (λ (X : Ty). Typed (case s t) X (ty B)) (sym A-is) (Case left right)
-    kind-typed (pair s t) b e =
+    kind-typed (pair s t) e =
         let p = every-all (eqb (src s) A ∷ eqb (src t) A ∷ isProduct types B (tgt s) (tgt t) ∷ []) e in
-        subst (λ (X : Ty). Typed (pair s t) (ty A) X) (sym (product-is B (tgt s) (tgt t) B-in (p .1 .1 .0)))
+        subst (λ (X : Ty). Typed (pair s t) (ty A) X) (sym (product-is B (tgt s) (tgt t) (p .1 .1 .0)))
         (Pair (arrow s (ty A) (ty (tgt s)) (same (src s) A (p .0)) refl) (arrow t (ty A) (ty (tgt t)) (same (src t) A (p .1 .0)) refl))
-    kind-typed (disconnect s t) b e =
+    kind-typed (disconnect s t) e =
         let W : ℕ = leftAt types (src s) in
         let L : ℕ = leftAt types (tgt s) in
         let C : ℕ = rightAt types (tgt s) in
         let p = every-all (isProduct types (src s) W A ∷ isWord types 8 W ∷ isProduct types (tgt s) L C
         ∷ eqb (src t) C ∷ isProduct types B L (tgt t) ∷ []) e in
-        let s-in = ranges s (b .0) in
-        let W-is : ty W ≡ wordTy 8 = word-type types pass 8 W (left-in-table (src s) W A (s-in .source-in) (p .0)) (p .1 .0) in
-        let from-s = product-is (src s) W A (s-in .source-in) (p .0) ∙ ap (λ (X : Ty). prod X (ty A)) W-is in
-        let to-s = product-is (tgt s) L C (s-in .target-in) (p .1 .1 .0) in
-        subst (λ (X : Ty). Typed (disconnect s t) (ty A) X) (sym (product-is B L (tgt t) B-in (p .1 .1 .1 .1 .0)))
+        let W-is : ty W ≡ wordTy 8 = word-type types pass 8 W (p .1 .0) in
+        let from-s = product-is (src s) W A (p .0) ∙ ap (λ (X : Ty). prod X (ty A)) W-is in
+        let to-s = product-is (tgt s) L C (p .1 .1 .0) in
+        subst (λ (X : Ty). Typed (disconnect s t) (ty A) X) (sym (product-is B L (tgt t) (p .1 .1 .1 .1 .0)))
         (Disconnect (arrow s _ _ from-s to-s) (arrow t (ty C) (ty (tgt t)) (same (src t) C (p .1 .1 .1 .0)) refl))
-    kind-typed (injl s) b e =
+    kind-typed (injl s) e =
         let p = every-all (eqb (src s) A ∷ isSum types B (tgt s) (rightAt types B) ∷ []) e in
-        subst (λ (X : Ty). Typed (injl s) (ty A) X) (sym (sum-is B (tgt s) (rightAt types B) B-in (p .1 .0)))
+        subst (λ (X : Ty). Typed (injl s) (ty A) X) (sym (sum-is B (tgt s) (rightAt types B) (p .1 .0)))
         (Injl (arrow s (ty A) (ty (tgt s)) (same (src s) A (p .0)) refl))
-    kind-typed (injr s) b e =
+    kind-typed (injr s) e =
         let p = every-all (eqb (src s) A ∷ isSum types B (leftAt types B) (tgt s) ∷ []) e in
-        subst (λ (X : Ty). Typed (injr s) (ty A) X) (sym (sum-is B (leftAt types B) (tgt s) B-in (p .1 .0)))
+        subst (λ (X : Ty). Typed (injr s) (ty A) X) (sym (sum-is B (leftAt types B) (tgt s) (p .1 .0)))
         (Injr (arrow s (ty A) (ty (tgt s)) (same (src s) A (p .0)) refl))
-    kind-typed (take s) b e =
+    kind-typed (take s) e =
         let p = every-all (isProduct types A (src s) (rightAt types A) ∷ eqb (tgt s) B ∷ []) e in
-        subst (λ (X : Ty). Typed (take s) X (ty B)) (sym (product-is A (src s) (rightAt types A) A-in (p .0)))
+        subst (λ (X : Ty). Typed (take s) X (ty B)) (sym (product-is A (src s) (rightAt types A) (p .0)))
         (Take (arrow s (ty (src s)) (ty B) refl (same (tgt s) B (p .1 .0))))
-    kind-typed (drop s) b e =
+    kind-typed (drop s) e =
         let p = every-all (isProduct types A (leftAt types A) (src s) ∷ eqb (tgt s) B ∷ []) e in
-        subst (λ (X : Ty). Typed (drop s) X (ty B)) (sym (product-is A (leftAt types A) (src s) A-in (p .0)))
+        subst (λ (X : Ty). Typed (drop s) X (ty B)) (sym (product-is A (leftAt types A) (src s) (p .0)))
         (Drop (arrow s (ty (src s)) (ty B) refl (same (tgt s) B (p .1 .0))))
-    kind-typed (disconnect1 s) b e = clash (cc)
-    kind-typed iden b e = subst (λ (X : Ty). Typed iden (ty A) X) (same A B e) Iden
-    kind-typed unit b e = subst (λ (X : Ty). Typed unit (ty A) X) (sym (unit-type types pass B B-in e)) Unit·
-    kind-typed witness b e = Witness
-    kind-typed (fail bytes) b e = Fail
-    kind-typed (hidden hash) b e =
+    kind-typed (disconnect1 s) e = clash (cc)
+    kind-typed iden e = subst (λ (X : Ty). Typed iden (ty A) X) (same A B e) Iden
+    kind-typed unit e = subst (λ (X : Ty). Typed unit (ty A) X) (sym (unit-type types pass B e)) Unit·
+    kind-typed witness e = Witness
+    kind-typed (fail bytes) e = Fail
+    kind-typed (hidden hash) e =
         let p = every-all (eqb A 0 ∷ eqb B 0 ∷ []) e in
-        let zero-is = first-unit types pass (omega arith) in
+        let zero-is = first-unit types pass in
         subst₂ (λ (X Y : Ty). Typed (hidden hash) X Y) (sym (same A 0 (p .0) ∙ zero-is)) (sym (same B 0 (p .1 .0) ∙ zero-is)) Hidden
-    kind-typed (word n bits) b e =
+    kind-typed (word n bits) e =
         let p = every-all (isUnit types A ∷ isWord types (n - 1) B ∷ []) e in
-        let A-is = unit-type types pass A A-in (p .0) in
-        let B-is = word-type types pass (n - 1) B B-in (p .1 .0) in
+        let A-is = unit-type types pass A (p .0) in
+        let B-is = word-type types pass (n - 1) B (p .1 .0) in
         subst₂ (λ (X Y : Ty). Typed (word n bits) X Y) (sym A-is) (sym B-is) Word
 
   -- the other way: parts of a sum's type or a product's, and the tests that they pass
@@ -264,7 +258,7 @@ module _ (types : List TypeRecord) (pass : TypesPass types) (nodes : List Node) 
           ),
         )
     typed-kind _ b _ _ x y Hidden =
-        let zero-is = first-unit types pass (omega arith) in
+        let zero-is = first-unit types pass in
         let A-is = same-test types pass A 0 A-in (omega arith) (x ∙ sym zero-is) in
         let B-is = same-test types pass B 0 B-in (omega arith) (y ∙ sym zero-is) in
         all-every (eqb A 0 ∷ eqb B 0 ∷ []) (A-is, (B-is, tt))
@@ -277,17 +271,16 @@ module _ (types : List TypeRecord) (pass : TypesPass types) (nodes : List Node) 
       ∷ kindRule types nodes arrows (src i) (tgt i) (nodeAt nodes i) ∷ []) e in
       record { source-in = ltb-true (src i) (length types) (p .0); target-in = ltb-true (tgt i) (length types) (p .1 .0) }
 
-  -- the rule holds exactly if the arrow is in range and the report types the node at it
-  module _ (i : ℕ) (below : AllBelow i (children (nodeAt nodes i))) (ranges : (j : ℕ) → j < i → InRange types arrows j) where
-    pub arrow-typed : arrowRule types nodes arrows i ≡ true
-        → NodeTyped nodes (fromTy types arrows) (toTy types arrows) (nodeAt nodes i) (fromTy types arrows i) (toTy types arrows i)
-    unfolding arrowRule fromTy toTy
-    arrow-typed e =
-        let p = every-all (ltb (src i) (length types) ∷ ltb (tgt i) (length types)
-        ∷ kindRule types nodes arrows (src i) (tgt i) (nodeAt nodes i) ∷ []) e in
-        let range = arrow-range i e in
-        kind-typed i ranges (src i) (tgt i) (range .source-in) (range .target-in) (nodeAt nodes i) below (p .1 .1 .0)
+  -- the rule holds exactly if the arrow is in range and the report types the node at it; the way back is for a node above its children
+  pub arrow-typed : (i : ℕ) → arrowRule types nodes arrows i ≡ true
+      → NodeTyped nodes (fromTy types arrows) (toTy types arrows) (nodeAt nodes i) (fromTy types arrows i) (toTy types arrows i)
+  unfolding arrowRule fromTy toTy
+  arrow-typed i e =
+      let p = every-all (ltb (src i) (length types) ∷ ltb (tgt i) (length types)
+      ∷ kindRule types nodes arrows (src i) (tgt i) (nodeAt nodes i) ∷ []) e in
+      kind-typed (src i) (tgt i) (nodeAt nodes i) (p .1 .1 .0)
 
+  module _ (i : ℕ) (below : AllBelow i (children (nodeAt nodes i))) (ranges : (j : ℕ) → j < i → InRange types arrows j) where
     pub typed-arrow : InRange types arrows i
         → NodeTyped nodes (fromTy types arrows) (toTy types arrows) (nodeAt nodes i) (fromTy types arrows i) (toTy types arrows i)
         → arrowRule types nodes arrows i ≡ true
@@ -315,10 +308,8 @@ typed-two nodes from to _ _ _ Word = refl
 typed-two nodes from to _ _ _ (Disconnect g h) = refl
 typed-two nodes from to _ _ _ Hidden = refl
 
--- the whole check of the arrows passes exactly if every node is typed
-module _ (types : List TypeRecord) (pass : TypesPass types) (nodes : List Node) (arrows : List Arrow)
-    (below : (i : ℕ) → i < length nodes → AllBelow i (children (nodeAt nodes i))) where
-  -- its three parts
+-- the whole check of the arrows, in its three parts
+module _ (types : List TypeRecord) (nodes : List Node) (arrows : List Arrow) where
   abbrev two-children : Check (Unit {0})
   two-children = each (length nodes) (noOneChild types nodes arrows) OneChildDisconnect
 
@@ -328,25 +319,34 @@ module _ (types : List TypeRecord) (pass : TypesPass types) (nodes : List Node) 
   abbrev each-rule : Check (Unit {0})
   each-rule = each (length nodes) (arrowRule types nodes arrows) BadArrow
 
-  pub arrows-typed : checkArrows types nodes arrows ≡ passed tt → ArrowsTyped types nodes arrows
+  -- where it passes there is one arrow for each node, and each keeps its rule
+  pub arrows-pass : checkArrows types nodes arrows ≡ passed tt
+      → (length arrows ≡ length nodes) × ((i : ℕ) → i < length nodes → arrowRule types nodes arrows i ≡ true)
   unfolding checkArrows
-  arrows-typed e =
+  arrows-pass e =
       let a = both-passed two-children (λ whole. one-each >>= λ count. each-rule) tt e in
-      let b = both-passed one-each (λ count. each-rule) tt (a .2) in
-      let rule = each-holds (length nodes) (arrowRule types nodes arrows) BadArrow tt (b .2) in
-      let range : (i : ℕ) → i < length nodes → InRange types arrows i = λ i l. arrow-range types pass nodes arrows i (rule i l) in
+      let b = both-passed one-each (λ count. each-rule) tt (a .2) in (
+        eqb-true (length arrows) (length nodes) (require-holds (eqb (length arrows) (length nodes)) (BadArrow (length nodes)) (b .0) (b .1)),
+        each-holds (length nodes) (arrowRule types nodes arrows) BadArrow tt (b .2),
+      )
+
+-- the whole check of the arrows passes exactly if every node is typed
+module _ (types : List TypeRecord) (pass : TypesPass types) (nodes : List Node) (arrows : List Arrow)
+    (below : (i : ℕ) → i < length nodes → AllBelow i (children (nodeAt nodes i))) where
+  pub arrows-typed : checkArrows types nodes arrows ≡ passed tt → ArrowsTyped types nodes arrows
+  arrows-typed e =
+      let p = arrows-pass types nodes arrows e in
       record {
-        one-each = eqb-true (length arrows) (length nodes)
-            (require-holds (eqb (length arrows) (length nodes)) (BadArrow (length nodes)) (b .0) (b .1));
-        in-range = range;
-        typed = λ i l. arrow-typed types pass nodes arrows i (below i l) (λ j m. range j (omega arith)) (rule i l);
+        one-each = p .0;
+        in-range = λ i l. arrow-range types pass nodes arrows i (p .1 i l);
+        typed = λ i l. arrow-typed types pass nodes arrows i (p .1 i l);
       }
 
   pub typed-arrows : ArrowsTyped types nodes arrows → checkArrows types nodes arrows ≡ passed tt
   unfolding checkArrows noOneChild
   typed-arrows h =
-      then-passes two-children (λ whole. one-each >>= λ count. each-rule) tt
+      then-passes (two-children types nodes arrows) (λ whole. one-each types nodes arrows >>= λ count. each-rule types nodes arrows) tt
       (holds-each (length nodes) (noOneChild types nodes arrows) OneChildDisconnect (λ i l. typed-two nodes _ _ (nodeAt nodes i) _ _ (h .typed i l)))
-      ∙ then-passes one-each (λ count. each-rule) tt (holds-require _ _ (eq-eqb (length arrows) (length nodes) (h .one-each)))
+      ∙ then-passes (one-each types nodes arrows) (λ count. each-rule types nodes arrows) tt (holds-require _ _ (eq-eqb (length arrows) (length nodes) (h .one-each)))
       ∙ holds-each (length nodes) (arrowRule types nodes arrows) BadArrow
       (λ i l. typed-arrow types pass nodes arrows i (below i l) (λ j m. h .in-range j (omega arith)) (h .in-range i l) (h .typed i l))

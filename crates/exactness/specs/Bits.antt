@@ -18,7 +18,11 @@ AreBits bs = AllBelow 2 bs
 abbrev pub AreBytes : List ℕ → Type 0
 AreBytes bytes = AllBelow 256 bytes
 
--- so is every number of its parts
+-- so is every number of two such lists in a row, and of the parts of one
+pub below-append : (m : ℕ) (xs ys : List ℕ) → AllBelow m xs → AllBelow m ys → AllBelow m (xs ++ ys)
+below-append m [] ys h k = k
+below-append m (x ∷ xs) ys h k = (h .0, below-append m xs ys (h .1) k)
+
 pub below-front : (m : ℕ) (xs ys : List ℕ) → AllBelow m (xs ++ ys) → AllBelow m xs
 below-front m [] ys h = tt
 below-front m (x ∷ xs) ys h = (h .0, below-front m xs ys (h .1))

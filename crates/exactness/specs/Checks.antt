@@ -1,13 +1,13 @@
 -- What a test that holds or a check that passed tells, and when one holds or passes: of `every`, `anyBelow`, `same`, `require`, `each` and of checks in a row.
--- `clash` takes two unlike constructors that are equal to any statement.
-use mathlib.Core.Path.{_≡_, refl, ap, ap₂, _∙_}
+-- `clash` takes two unlike constructors that are equal to any statement, `not-both` a test that holds and fails.
+use mathlib.Core.Path.{_≡_, refl, sym, ap, ap₂, _∙_, subst}
 use mathlib.Core.Bool.{Bool, true, false}
 use mathlib.Core.List.{List, [], _∷_}
 use Prim.Native.Nat.{ℕ, zero, suc, _+_, _≤_, _<_}
 use native.Mathlib.Nat.{not-suc-le-zero}
 use native.Mathlib.Omega.{arith}
 use native.Mathlib.Decide.{decLt}
-use lib.Dec.{eqb}
+use lib.Dec.{T, eqb}
 use borrow.Author.Tests.{eqb-true, eq-eqb}
 use Rattle.refusal.specs.declared.Refusal.{Refusal}
 use Rattle.scope.specs.Check.{Check, passed, refused, _>>=_, require, firstFailing, each}
@@ -15,6 +15,10 @@ use Rattle.scope.specs.Numbers.{every, anyBelow, same}
 
 pub clash : {X : Type 0} → _≡_ {A = ℕ} 0 1 → X
 clash e = absurd (omega arith)
+
+-- no test both holds and fails
+pub not-both : {X : Type 0} {b : Bool} → b ≡ true → b ≡ false → X
+not-both e f = absurd (subst T (sym e ∙ f) tt)
 
 -- each test of a list holds
 abbrev pub AllTrue : List Bool → Type 0

@@ -17,4 +17,3 @@ pub mod Reading
 pub mod Programs
 pub mod Decoding
 pub mod Pins
-pub mod Theorems

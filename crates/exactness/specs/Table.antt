@@ -10,10 +10,11 @@ use lib.ListN.{length, take, getD, length-append, List·getD-eq-default}
 use lib.Seq.{take-append-seam, getD-append-seam, take-take, getD-take, take-length, length-take-le}
 use Rattle.report.specs.Table.{entriesFrom, entries}
 
-module _ {R X : Type 0} (make : List X → R → X) where
-  length-snoc : (xs : List X) (x : X) → length (xs ++ x ∷ []) ≡ suc (length xs)
-  length-snoc xs x = rw (length-append xs (x ∷ [])) (omega arith)
+-- one more at the end
+pub length-snoc : {X : Type 0} (xs : List X) (x : X) → length (xs ++ x ∷ []) ≡ suc (length xs)
+length-snoc xs x = rw (length-append xs (x ∷ [])) (omega arith)
 
+module _ {R X : Type 0} (make : List X → R → X) where
   -- the entries made so far stay in front
   length-entriesFrom : (before : List X) (rs : List R) → length (entriesFrom make before rs) ≡ length before + length rs
   unfolding entriesFrom
@@ -54,6 +55,10 @@ module _ {R X : Type 0} (make : List X → R → X) where
   pub entries-at : (rs : List R) (i : ℕ) (x : X) (r : R) → i < length rs → getD (entries make rs) i x ≡ make (take i (entries make rs)) (getD rs i r)
   unfolding entries
   entries-at rs i x r h = rw (zero-add i) at (entriesFrom-at [] rs i x r h)
+
+  -- none stands past the last
+  pub entries-past : (rs : List R) (i : ℕ) (x : X) → length rs ≤ i → getD (entries make rs) i x ≡ x
+  entries-past rs i x h = List·getD-eq-default (entries make rs) x {n = i} (rw (length-entries rs) h)
 
   -- no entry stands past those before record i
   pub before-none : (rs : List R) (i j : ℕ) (x : X) → i ≤ length rs → i ≤ j → getD (take i (entries make rs)) j x ≡ x

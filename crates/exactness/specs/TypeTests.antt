@@ -1,18 +1,20 @@
 -- The tests of a record of the type table tell types: a unit, a sum or a product of two types, the type of words.
--- Each holds of a record exactly if the record stands for such a type.
-use mathlib.Core.Path.{_≡_, refl, sym, ap₂, _∙_, subst}
+-- Each holds of a record exactly if the record stands for such a type; what holds of it is in the table.
+use mathlib.Core.Path.{_≡_, refl, sym, ap, ap₂, _∙_}
 use mathlib.Core.Bool.{Bool, true}
 use mathlib.Core.List.{List, [], _∷_}
 use Prim.Native.Nat.{ℕ, zero, suc, _<_}
 use native.Mathlib.Nat.{not-suc-le-zero}
 use native.Mathlib.Omega.{arith}
+use native.Mathlib.Decide.{decLt}
 use lib.Dec.{eqb}
-use lib.ListN.{length}
+use lib.ListN.{length, List·getD-eq-default}
 use borrow.Author.Tests.{eqb-true, eq-eqb}
 use Rattle.report.specs.Types.{Ty, one, sum, prod, wordTy}
 use Rattle.scope.specs.Numbers.{every}
-use Rattle.scope.specs.Types2.{TypeRecord, typeFrom, tyAt}
+use Rattle.scope.specs.Types2.{TypeRecord, typeFrom, typeMake, noType, tyAt, typeAt}
 use Rattle.scope.specs.Arrows11and12.{isUnit, isSum, isProduct, leftAt, rightAt, isWord}
+use Rattle.exactness.specs.Table.{entries-past}
 use Rattle.exactness.specs.Checks.{clash, every-all, all-every}
 use Rattle.exactness.specs.Types.{TypesPass, Parts, OfUnit, OfSum, OfProduct, tagAt, parts-at, type-step, same-index}
 
@@ -29,14 +31,24 @@ module _ (types : List TypeRecord) where
     pub left-is : tyAt types (leftAt types j) ≡ A
     pub right-is : tyAt types (rightAt types j) ≡ B
 
+  -- a record with a type's tag is in the table
+  tagged-in : (j tag : ℕ) → tagAt types j ≡ tag → tag < 3 → j < length types
+  unfolding typeAt
+  tagged-in j tag e l = elim (decLt j (length types)) [
+    | yes h ↦ h
+    | no m ↦ let f : tagAt types j ≡ 3 = ap (λ (r : TypeRecord). r .tag) (List·getD-eq-default types noType {n = j} (omega arith)) in absurd (omega arith)
+  ]
+
   module _ (pass : TypesPass types) where
     -- equal types pass the test of indices
     pub same-test : (i j : ℕ) → i < length types → j < length types → tyAt types i ≡ tyAt types j → eqb i j ≡ true
     same-test i j h k e = eq-eqb i j (same-index types pass i j h k e)
 
-    pub unit-type : (j : ℕ) → j < length types → isUnit types j ≡ true → tyAt types j ≡ one
+    pub unit-type : (j : ℕ) → isUnit types j ≡ true → tyAt types j ≡ one
     unfolding isUnit typeFrom
-    unit-type j h e = type-step types pass j h ∙ rw (eqb-true (tagAt types j) 0 e)
+    unit-type j e =
+        let t : tagAt types j ≡ 0 = eqb-true (tagAt types j) 0 e in
+        type-step types pass j (tagged-in j 0 t (omega arith)) ∙ rw t
 
     pub type-unit : (j : ℕ) → j < length types → tyAt types j ≡ one → isUnit types j ≡ true
     unfolding isUnit typeFrom
@@ -49,13 +61,13 @@ module _ (types : List TypeRecord) where
         go _ _ _ (OfSum l r p q) e = clash (cc)
         go _ _ _ (OfProduct l r p q) e = clash (cc)
 
-    pub joins-type : (tag j l r : ℕ) → j < length types → joins tag j l r ≡ true → tyAt types j ≡ typeFrom tag (tyAt types l) (tyAt types r)
-    joins-type tag j l r h e =
+    pub joins-type : (tag j l r : ℕ) → tag < 3 → joins tag j l r ≡ true → tyAt types j ≡ typeFrom tag (tyAt types l) (tyAt types r)
+    joins-type tag j l r b e =
         let p = every-all (eqb (tagAt types j) tag ∷ eqb (leftAt types j) l ∷ eqb (rightAt types j) r ∷ []) e in
         let t : tagAt types j ≡ tag = eqb-true (tagAt types j) tag (p .0) in
         let m : leftAt types j ≡ l = eqb-true (leftAt types j) l (p .1 .0) in
         let n : rightAt types j ≡ r = eqb-true (rightAt types j) r (p .1 .1 .0) in
-        type-step types pass j h ∙ rw (t, m, n)
+        type-step types pass j (tagged-in j tag t b) ∙ rw (t, m, n)
 
     -- a sum's type is a sum's record, a product's a product's
     pub type-joins : (k j : ℕ) (A B : Ty) → k < 2 → j < length types → tyAt types j ≡ typeFrom (suc k) A B → Joined (suc k) j A B
@@ -88,29 +100,18 @@ module _ (types : List TypeRecord) where
           ),
         )
 
-    -- the parts of a sum or a product are in the table
-    pub joins-in : (k j l r : ℕ) → k < 2 → j < length types → joins (suc k) j l r ≡ true → (l < length types) × (r < length types)
-    joins-in k j l r b h e =
-        let p = every-all (eqb (tagAt types j) (suc k) ∷ eqb (leftAt types j) l ∷ eqb (rightAt types j) r ∷ []) e in
-        let parts = type-joins k j (tyAt types l) (tyAt types r) b h (joins-type (suc k) j l r h e) in (
-          subst (λ (i : ℕ). i < length types) (eqb-true (leftAt types j) l (p .1 .0)) (parts .left-in),
-          subst (λ (i : ℕ). i < length types) (eqb-true (rightAt types j) r (p .1 .1 .0)) (parts .right-in),
-        )
-
     -- the test of a word type holds of that very type
-    pub word-type : (k j : ℕ) → j < length types → isWord types k j ≡ true → tyAt types j ≡ wordTy k
+    pub word-type : (k j : ℕ) → isWord types k j ≡ true → tyAt types j ≡ wordTy k
     unfolding isWord wordTy isSum isProduct leftAt rightAt typeFrom
-    word-type zero j h e =
+    word-type zero j e =
         let p = every-all (isSum types j (leftAt types j) (rightAt types j)
         ∷ isUnit types (leftAt types j) ∷ isUnit types (rightAt types j) ∷ []) e in
-        let i = joins-in 0 j (leftAt types j) (rightAt types j) (omega arith) h (p .0) in
-        joins-type 1 j (leftAt types j) (rightAt types j) h (p .0)
-        ∙ ap₂ sum (unit-type (leftAt types j) (i .0) (p .1 .0)) (unit-type (rightAt types j) (i .1) (p .1 .1 .0))
-    word-type (suc k) j h e =
+        joins-type 1 j (leftAt types j) (rightAt types j) (omega arith) (p .0)
+        ∙ ap₂ sum (unit-type (leftAt types j) (p .1 .0)) (unit-type (rightAt types j) (p .1 .1 .0))
+    word-type (suc k) j e =
         let p = every-all (isProduct types j (leftAt types j) (leftAt types j) ∷ isWord types k (leftAt types j) ∷ []) e in
-        let i = joins-in 1 j (leftAt types j) (leftAt types j) (omega arith) h (p .0) in
-        let w = word-type k (leftAt types j) (i .0) (p .1 .0) in
-        joins-type 2 j (leftAt types j) (leftAt types j) h (p .0) ∙ ap₂ prod w w
+        let w = word-type k (leftAt types j) (p .1 .0) in
+        joins-type 2 j (leftAt types j) (leftAt types j) (omega arith) (p .0) ∙ ap₂ prod w w
 
     pub type-word : (k j : ℕ) → j < length types → tyAt types j ≡ wordTy k → isWord types k j ≡ true
     unfolding isWord wordTy isSum isProduct leftAt rightAt typeFrom
@@ -128,9 +129,12 @@ module _ (types : List TypeRecord) where
         )
 
     -- record 0 is unit
-    pub first-unit : 0 < length types → tyAt types 0 ≡ one
-    unfolding typeFrom
-    first-unit h = type-step types pass 0 h ∙ go (tagAt types 0) (leftAt types 0) (rightAt types 0) (parts-at types pass 0 h)
+    pub first-unit : tyAt types 0 ≡ one
+    unfolding typeFrom tyAt
+    first-unit = elim (decLt 0 (length types)) [
+      | yes h ↦ type-step types pass 0 h ∙ go (tagAt types 0) (leftAt types 0) (rightAt types 0) (parts-at types pass 0 h)
+      | no m ↦ entries-past typeMake types 0 one (omega arith)
+    ]
       where
         go : (t l r : ℕ) → Parts 0 t l r → typeFrom t (tyAt types l) (tyAt types r) ≡ one
         go _ _ _ OfUnit = refl

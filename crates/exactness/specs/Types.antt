@@ -20,16 +20,20 @@ use Rattle.scope.specs.Numbers.{anyBelow}
 use Rattle.scope.specs.Types2.{TypeRecord, typeFrom, typeMake, noType, tyAt, typeAt, sameType, partsRule, typeRule, checkTypes}
 use Rattle.scope.specs.Arrows11and12.{leftAt, rightAt}
 use Rattle.exactness.specs.Table.{entries-at}
-use Rattle.exactness.specs.Checks.{clash, AllTrue, every-all, all-every, none-below, each-holds}
+use Rattle.exactness.specs.Checks.{clash, AllTrue, every-all, all-every, none-below, each-holds, holds-each}
 
 -- every record keeps the rules
 abbrev pub TypesPass : List TypeRecord → Type 0
 TypesPass types = (i : ℕ) → i < length types → typeRule types i ≡ true
 
--- that is what the check of the table says
+-- the check of the table passes exactly if they do
 pub types-pass : (types : List TypeRecord) → checkTypes types ≡ passed tt → TypesPass types
 unfolding checkTypes
 types-pass types e = each-holds (length types) (typeRule types) BadTypeRecord tt e
+
+pub pass-types : (types : List TypeRecord) → TypesPass types → checkTypes types ≡ passed tt
+unfolding checkTypes
+pass-types types h = holds-each (length types) (typeRule types) BadTypeRecord h
 
 -- what a record's numbers are: a unit's are zeros, a sum's or a product's parts are earlier records
 pub data Parts (i : ℕ) : (tag left right : ℕ) → Type 0 where

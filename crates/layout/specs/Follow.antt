@@ -25,6 +25,12 @@ Goes (failed p y) = Unit {0}
 Goes (pruned p y) = Unit {0}
 Goes stuck = ⊥
 
+pub not-stuck : {Y X : Type 0} (o : Out Y X) → (o ≡ stuck → ⊥) → Goes o
+not-stuck (done x) h = tt
+not-stuck (failed p y) h = tt
+not-stuck (pruned p y) h = tt
+not-stuck stuck h = h refl
+
 -- all frames end within so many cells
 abbrev pub Inside : ℕ → List Frame → Type 0
 Inside size [] = Unit {0}

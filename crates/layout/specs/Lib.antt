@@ -10,5 +10,4 @@ pub mod Join
 pub mod Heights
 pub mod Whole
 pub mod Stores
-pub mod Theorems
 pub mod Examples

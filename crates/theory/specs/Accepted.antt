@@ -1,24 +1,22 @@
 -- Tables that pass the checks 2 to 13, with values that pass 14 to 17, make a sound program and a value of its source.
 -- So what a run over such tables says and leaves is told by the program's meaning.
 use mathlib.Core.Path.{_≡_, sym, ap, _∙_, subst}
-use mathlib.Core.Bool.{true, false}
+use mathlib.Core.Bool.{false}
 use mathlib.Core.List.{List, [], _∷_}
 use Prim.Native.Nat.{ℕ, _-_, _^_, _<_}
 use native.Mathlib.Omega.{arith}
 use native.Mathlib.Decide.{decLt}
-use lib.Dec.{eqb}
 use lib.ListN.{length, List·getD-eq-default}
-use Rattle.refusal.specs.declared.Refusal.the-variants.{OneChildDisconnect, Arrow as BadArrow, TypeRecord as BadTypeRecord}
 use Rattle.report.specs.Bits.{Bit}
 use Rattle.report.specs.Values.{Val, HasTy}
 use Rattle.report.specs.Meaning.{eval}
 use Rattle.report.specs.Nodes.{Node, disconnect, hidden, word}
 use Rattle.report.specs.Canonical.{children}
-use Rattle.scope.specs.Check.{passed, _>>=_, require, each}
-use Rattle.scope.specs.Types2.{TypeRecord, typeRule, checkTypes}
+use Rattle.scope.specs.Check.{passed, _>>=_}
+use Rattle.scope.specs.Types2.{checkTypes}
 use Rattle.scope.specs.Nodes.{nodeAt}
 use Rattle.scope.specs.Walk6to9.{hiddenAt, allowed, checkWalk}
-use Rattle.scope.specs.Arrows11and12.{Arrow, arrowRule, noOneChild, checkArrows}
+use Rattle.scope.specs.Arrows11and12.{checkArrows}
 use Rattle.scope.specs.Hashes13.{checkHashes}
 use Rattle.scope.specs.Program.{Program, whole, wholeSource, sourceTy, targetTy, last}
 use Rattle.scope.specs.Bounds14.{checkBounds, wholeFrames}
@@ -26,41 +24,31 @@ use Rattle.scope.specs.Witness15.{checkWitness}
 use Rattle.scope.specs.Input16.{checkInput}
 use Rattle.scope.specs.Stores17.{checkStores}
 use Rattle.scope.specs.Run.{Tables, programOf, Ready, checkTables, checkReady, Left, cleared, ran, runTables}
-use Rattle.theory.specs.Tests.{clash}
-use Rattle.theory.specs.Checks.{both-passed, each-passed}
-use Rattle.theory.specs.NodeTerms.{Below}
-use Rattle.theory.specs.TypeTable.{TypesSound}
-use Rattle.theory.specs.Walked.{walk-allowed}
+use Rattle.exactness.specs.Checks.{clash, both-passed}
+use Rattle.exactness.specs.Bits.{AllBelow}
+use Rattle.exactness.specs.Types.{types-pass}
+use Rattle.exactness.specs.Arrows.{arrows-pass}
+use Rattle.exactness.specs.Hidden.{HiddenPlaces, places-allowed, places-last}
+use Rattle.exactness.specs.Canonical.{walk-canonical}
 use Rattle.theory.specs.Supplied.{witness-typed, input-typed}
 use Rattle.theory.specs.Hashes.{hash-typed}
 use Rattle.theory.specs.Sound.{Sound, none-hidden}
 use Rattle.theory.specs.Answers.{told, output, run-says, run-output, run-frames}
 
--- a type table that passed keeps the rules
-pub types-passed : (types : List TypeRecord) → checkTypes types ≡ passed tt → TypesSound types
-unfolding checkTypes
-types-passed types e i h = each-passed (length types) (typeRule types) BadTypeRecord e i h
-
--- arrows that passed keep theirs
-pub arrows-passed : (types : List TypeRecord) (nodes : List Node) (arrows : List Arrow) → checkArrows types nodes arrows ≡ passed tt
-    → (i : ℕ) → i < length nodes → arrowRule types nodes arrows i ≡ true
-unfolding checkArrows
-arrows-passed types nodes arrows e i h =
-    let p = both-passed (each (length nodes) (noOneChild types nodes arrows) OneChildDisconnect)
-    (λ whole. require (eqb (length arrows) (length nodes)) (BadArrow (length nodes)) >>= λ count. each (length nodes) (arrowRule types nodes arrows) BadArrow) tt e in
-    let q = both-passed (require (eqb (length arrows) (length nodes)) (BadArrow (length nodes))) (λ count. each (length nodes) (arrowRule types nodes arrows) BadArrow) tt (p .2) in
-    each-passed (length nodes) (arrowRule types nodes arrows) BadArrow (q .2) i h
-
 -- tables that passed 2 to 13: types, node records, walk, arrows and hashes
 pub record Checked (T : Tables) : Type 0 where
   pub types : checkTypes (T .types) ≡ passed tt
   pub some : 0 < length (T .nodes)
-  pub below : (i : ℕ) → i < length (T .nodes) → Below i (children (nodeAt (T .nodes) i))
+  pub below : (i : ℕ) → i < length (T .nodes) → AllBelow i (children (nodeAt (T .nodes) i))
   pub words : (i n : ℕ) (bits : List Bit) → nodeAt (T .nodes) i ≡ word n bits → length bits ≡ 2 ^ (n - 1)
   pub walk : checkWalk (T .nodes) ≡ passed tt
   pub tables : checkTables T ≡ passed tt
 
 module _ (T : Tables) (ok : Checked T) where
+  -- the walk has told where hidden nodes stand
+  places : HiddenPlaces (T .nodes)
+  places = walk-canonical (T .nodes) (ok .some) (ok .walk) .1
+
   -- a disconnect is in the table, and its right child is not hidden
   right-shown : (i a b : ℕ) → nodeAt (T .nodes) i ≡ disconnect a b → hiddenAt (T .nodes) b ≡ false
   unfolding nodeAt allowed
@@ -68,7 +56,7 @@ module _ (T : Tables) (ok : Checked T) where
     where
       go : Dec (i < length (T .nodes)) → hiddenAt (T .nodes) b ≡ false
       go (yes h) =
-          let f : allowed (T .nodes) i (disconnect a b) ≡ passed tt = subst (λ (n : Node). allowed (T .nodes) i n ≡ passed tt) e (walk-allowed (T .nodes) (ok .walk) (ok .some) .0 i h) in
+          let f : allowed (T .nodes) i (disconnect a b) ≡ passed tt = subst (λ (n : Node). allowed (T .nodes) i n ≡ passed tt) e (places-allowed (T .nodes) places i h) in
           none-hidden (T .nodes) i (a ∷ b ∷ []) f .1 .0
       go (no h) = let f : nodeAt (T .nodes) i ≡ hidden [] = List·getD-eq-default (T .nodes) (hidden []) {n = i} (omega arith) in clash (cc)
 
@@ -77,14 +65,13 @@ module _ (T : Tables) (ok : Checked T) where
   unfolding checkTables programOf last targetTy
   sound values e =
       let p = both-passed (checkArrows (T .types) (T .nodes) (T .arrows)) (λ arrows. checkHashes (T .nodes) (T .given)) tt (ok .tables) in
-      let w = walk-allowed (T .nodes) (ok .walk) (ok .some) in
       record {
-        typeRules = types-passed (T .types) (ok .types);
-        arrowRules = arrows-passed (T .types) (T .nodes) (T .arrows) (p .1);
+        typeRules = types-pass (T .types) (ok .types);
+        arrowRules = arrows-pass (T .types) (T .nodes) (T .arrows) (p .1) .1;
         childrenBelow = ok .below;
-        hiddenRules = λ i h shown. w .0 i h;
+        hiddenRules = λ i h shown. places-allowed (T .nodes) places i h;
         someNode = ok .some;
-        lastShown = w .1;
+        lastShown = places-last (T .nodes) places;
         wordBits = ok .words;
         witnessValues = witness-typed (T .types) (T .arrows) (T .nodes) (T .witness) (T .witnessBits) values e;
         hashValues = λ i a b q. hash-typed (T .nodes) (T .given) (p .2) i a b q (right-shown i a b q);

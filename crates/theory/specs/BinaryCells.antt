@@ -11,20 +11,24 @@ use Rattle.report.specs.Types.{Ty, width, padL, padR, leftOf, rightOf, wordTy}
 use Rattle.report.specs.Values.{Val, ⟨⟩, inl, inr, _&_, Cells, padded}
 use Rattle.report.specs.Terms.{Term, iden, comp, unit, injl, injr, case, pair, take, drop, assertl, assertr, fail, witness, word, disconnect, bad}
 use Rattle.report.specs.Meaning.{Out, done, failed, pruned, stuck, _>>=_}
-use Rattle.theory.specs.Bits.{Binary, binary-append, binary-zeros}
 use Rattle.scope.specs.Machine18and19.{Frame, State, Step, state, need, reset, setCell, putBits, copyCells, forward, backward, inFrame, newFrame, moveFrame, dropFrame, writeBits, skip, copy, fwd, back, peek, exec, input, output, machine}
+use Rattle.exactness.specs.Bits.{AreBits, below-append}
 
 -- every cell is 0 or 1
 abbrev pub BitCells : Cells → Type 0
 BitCells c = (j : ℕ) → c j ≤ 1
 
--- padded bits are bits
-padded-bits : (A : Ty) (v : Val) → Binary (padded A v)
+-- zeros and padded bits are bits
+zeros-bits : (n : ℕ) → AreBits (replicate n 0)
+zeros-bits zero = tt
+zeros-bits (suc n) = (omega arith, zeros-bits n)
+
+padded-bits : (A : Ty) (v : Val) → AreBits (padded A v)
 unfolding padded
 padded-bits A ⟨⟩ = tt
-padded-bits A (inl v) = (omega arith, binary-append (replicate (padL (leftOf A) (rightOf A)) 0) (padded (leftOf A) v) (binary-zeros (padL (leftOf A) (rightOf A))) (padded-bits (leftOf A) v))
-padded-bits A (inr v) = (omega arith, binary-append (replicate (padR (leftOf A) (rightOf A)) 0) (padded (rightOf A) v) (binary-zeros (padR (leftOf A) (rightOf A))) (padded-bits (rightOf A) v))
-padded-bits A (v & w) = binary-append (padded (leftOf A) v) (padded (rightOf A) w) (padded-bits (leftOf A) v) (padded-bits (rightOf A) w)
+padded-bits A (inl v) = (omega arith, below-append 2 (replicate (padL (leftOf A) (rightOf A)) 0) (padded (leftOf A) v) (zeros-bits (padL (leftOf A) (rightOf A))) (padded-bits (leftOf A) v))
+padded-bits A (inr v) = (omega arith, below-append 2 (replicate (padR (leftOf A) (rightOf A)) 0) (padded (rightOf A) v) (zeros-bits (padR (leftOf A) (rightOf A))) (padded-bits (rightOf A) v))
+padded-bits A (v & w) = below-append 2 (padded (leftOf A) v) (padded (rightOf A) w) (padded-bits (leftOf A) v) (padded-bits (rightOf A) w)
 
 -- a bit written, bits written, cells copied: the cells stay bits
 set-bit : (c : Cells) (at : ℕ) (b : Bit) → BitCells c → b ≤ 1 → BitCells (setCell c at b)
@@ -35,10 +39,10 @@ set-bit c at b h l j = go (eqb j at)
     go true = l
     go false = h j
 
-put-bits : (bs : List Bit) (c : Cells) (at : ℕ) → BitCells c → Binary bs → BitCells (putBits c at bs)
+put-bits : (bs : List Bit) (c : Cells) (at : ℕ) → BitCells c → AreBits bs → BitCells (putBits c at bs)
 unfolding putBits
 put-bits [] c at h k = h
-put-bits (b ∷ bs) c at h k = put-bits bs (setCell c at b) (suc at) (set-bit c at b h (k .0)) (k .1)
+put-bits (b ∷ bs) c at h k = put-bits bs (setCell c at b) (suc at) (set-bit c at b h (omega (arith, k .0))) (k .1)
 
 copy-bits : (n : ℕ) (c : Cells) (from to : ℕ) → BitCells c → BitCells (copyCells c from to n)
 unfolding copyCells
@@ -90,7 +94,7 @@ module _ (s : State) (h : BitCells (s .cells)) where
       (λ f rs. after-need (eqb (s .next) (f .start + f .len)) (done (state (s .cells) rs (s .writes) (f .start))) (BitsDone h))
 
   -- what is written are bits
-  after-writeBits : (bs : List Bit) → Binary bs → BitsAfter (writeBits bs s)
+  after-writeBits : (bs : List Bit) → AreBits bs → BitsAfter (writeBits bs s)
   unfolding writeBits state
   after-writeBits [] k = BitsDone h
   after-writeBits (b ∷ bs) k = after-frames (s .writes) (λ f ws. need (inFrame (length (b ∷ bs)) f) (done (written f ws)))
@@ -164,7 +168,7 @@ on-bits n f k s h =
 -- an injection: the tag, padding, and the part
 inj-bits : (b n : ℕ) (f : State → Step) → b ≤ 1 → KeepsBits f → KeepsBits (λ s. writeBits (b ∷ []) s >>= λ s. skip n s >>= λ s. f s)
 inj-bits b n f l k s h =
-    after-bind (writeBits (b ∷ []) s) (λ s. skip n s >>= λ s. f s) (after-writeBits s h (b ∷ []) (l, tt)) (λ s h.
+    after-bind (writeBits (b ∷ []) s) (λ s. skip n s >>= λ s. f s) (after-writeBits s h (b ∷ []) (omega arith, tt)) (λ s h.
     after-bind (skip n s) f (after-skip s h n) k)
 
 -- a case, or an assertion, of two parts
@@ -186,7 +190,7 @@ module _ (size most : ℕ) where
       after-bind (g s) (λ s. dropFrame s) (l s h) (λ s h. after-dropFrame s h))))
 
   -- disconnect: a frame for the hash and the input, a frame for the left result, and the right part
-  disconnect-bits : (m n a b : ℕ) (bs : List Bit) (f g : State → Step) → Binary bs → KeepsBits f → KeepsBits g
+  disconnect-bits : (m n a b : ℕ) (bs : List Bit) (f g : State → Step) → AreBits bs → KeepsBits f → KeepsBits g
       → KeepsBits (λ s. newFrame size most m s >>= λ s. writeBits bs s >>= λ s. copy a s >>= λ s. moveFrame s >>= λ s. newFrame size most n s >>= λ s. f s >>= λ s.
       moveFrame s >>= λ s. copy b s >>= λ s. fwd b s >>= λ s. g s >>= λ s. dropFrame s >>= λ s. dropFrame s)
   disconnect-bits m n a b bs f g w k l s h =
@@ -225,7 +229,7 @@ module _ (size most : ℕ) where
   exec-bits bad s h = BitsStuck
 
   -- the frame of the input
-  input-bits : (n : ℕ) (bs : List Bit) → Binary bs → KeepsBits (input size most n bs)
+  input-bits : (n : ℕ) (bs : List Bit) → AreBits bs → KeepsBits (input size most n bs)
   unfolding input
   input-bits zero bs w s h = BitsDone h
   input-bits (suc n) bs w s h =

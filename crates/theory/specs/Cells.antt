@@ -6,12 +6,12 @@ use Prim.Native.Nat.{ℕ, zero, suc, _+_, _≤_, _<_}
 use native.Mathlib.Omega.{arith}
 use native.Mathlib.Nat.{add-assoc, add-zero, zero-add, not-suc-le-zero}
 use borrow.Author.Tests.{eq-eqb, ne-eqb}
-use lib.ListN.{length, getD, replicate, length-append, length-replicate, List·getD-append}
-use lib.Seq.{getD-append-add}
+use lib.ListN.{length, getD}
 use Rattle.report.specs.Bits.{Bit}
-use Rattle.report.specs.Types.{Ty, one, sum, prod, width, padL, padR, leftOf, rightOf}
-use Rattle.report.specs.Values.{Val, inl, inr, _&_, HasTy, isUnit, isLeft, isRight, isPair, Cells, padded, valueAt}
+use Rattle.report.specs.Types.{Ty, one, sum, prod, width, padL, padR}
+use Rattle.report.specs.Values.{Val, inl, inr, _&_, HasTy, Cells, padded, valueAt}
 use Rattle.scope.specs.Machine18and19.{setCell, putBits, copyCells}
+use Rattle.exactness.specs.Values.{Hold, value-held}
 
 -- j is one of the n places from `at` on
 abbrev pub In : (at n j : ℕ) → Type 0
@@ -137,37 +137,7 @@ value-bits A c rd at bs apart = same-value A (putBits c at bs) c rd rd (λ k l. 
 pub value-copy : (A : Ty) (c : Cells) (rd from at n : ℕ) → Apart rd (width A) at n → valueAt A (copyCells c from at n) rd ≡ valueAt A c rd
 value-copy A c rd from at n apart = same-value A (copyCells c from at n) c rd rd (λ k l. copy-out c from at n (rd + k) (λ i. apart (rd + k) (omega arith) i))
 
--- a value's padded bits fill the width of its type
-pub length-padded : {v : Val} {A : Ty} → HasTy v A → length (padded A v) ≡ width A
-unfolding padded width padL padR leftOf rightOf
-length-padded isUnit = refl
-length-padded (isLeft {v} {A} {B} h) = simp (length-append, length-replicate, length-padded h) (omega arith)
-length-padded (isRight {v} {A} {B} h) = simp (length-append, length-replicate, length-padded h) (omega arith)
-length-padded (isPair h k) = simp (length-append, length-padded h, length-padded k)
-
--- the bits after a tag and its padding
-after-pad : (b : Bit) (p k : ℕ) (bs : List Bit) → getD (b ∷ replicate p 0 ++ bs) (1 + p + k) 0 ≡ getD bs k 0
-after-pad b p k bs =
-    ap (λ (i : ℕ). getD (b ∷ replicate p 0 ++ bs) i 0) {x = 1 + p + k} {y = length (b ∷ replicate p 0) + k} (omega (arith, length-replicate {A = Bit} p 0))
-    ∙ getD-append-add (b ∷ replicate p 0) bs k 0
-
--- cells that hold a value's padded bits hold the value
-pub value-padded : {v : Val} {A : Ty} → HasTy v A → (c : Cells) (at : ℕ) → ((k : ℕ) → k < width A → c (at + k) ≡ getD (padded A v) k 0) → valueAt A c at ≡ v
-unfolding padded width valueAt padL padR leftOf rightOf
-value-padded isUnit c at h = refl
-value-padded (isLeft {v} {A} {B} t) c at h =
-    value-left A B c at (rw (add-zero at) at (h 0 (omega arith)))
-    ∙ ap inl (value-padded t c (at + (1 + padL A B))
-    (λ k l. ap c (add-assoc at (1 + padL A B) k) ∙ h (1 + padL A B + k) (omega arith) ∙ after-pad 0 (padL A B) k (padded A v)))
-value-padded (isRight {v} {A} {B} t) c at h =
-    value-right A B c at 0 (rw (add-zero at) at (h 0 (omega arith)))
-    ∙ ap inr (value-padded t c (at + (1 + padR A B))
-    (λ k l. ap c (add-assoc at (1 + padR A B) k) ∙ h (1 + padR A B + k) (omega arith) ∙ after-pad 1 (padR A B) k (padded B v)))
-value-padded (isPair {v} {w} {A} {B} t u) c at h = ap₂ _&_
-    (value-padded t c at (λ k l. h k (omega arith) ∙ List·getD-append (padded A v) (padded B w) 0 k (rw (length-padded t) l)))
-    (value-padded u c (at + width A)
-    (λ k l. ap c (add-assoc at (width A) k) ∙ h (width A + k) (omega arith) ∙ rw (← length-padded t) (getD-append-add (padded A v) (padded B w) k 0)))
-
--- so a value that is written is held
+-- a value that is written is held
 pub value-written : {v : Val} {A : Ty} → HasTy v A → (c : Cells) (at : ℕ) → valueAt A (putBits c at (padded A v)) at ≡ v
-value-written {v} {A} h c at = value-padded h _ at (λ k l. bits-in c at (padded A v) k (rw (length-padded h) l))
+unfolding Hold
+value-written {v} {A} h c at = value-held h _ at (λ k l. bits-in c at (padded A v) k l)

@@ -21,10 +21,9 @@ use Rattle.scope.specs.Nodes.{nodeAt, onHidden, onDisconnect}
 use Rattle.scope.specs.Walk6to9.{hiddenAt}
 use Rattle.scope.specs.Hashes13.{rights, whole, entry, clash, checkHashes, entryFor, branchHash}
 use Rattle.scope.specs.Program.{valueFrom}
-use Rattle.theory.specs.Bits.{length-bits}
-use Rattle.theory.specs.Tests as Tests
-use Rattle.theory.specs.Tests.{not-both}
-use Rattle.theory.specs.Checks.{both-passed, require-passed}
+use Rattle.exactness.specs.Checks as Checks
+use Rattle.exactness.specs.Checks.{not-both, both-passed, require-holds}
+use Rattle.exactness.specs.Bits.{length-bits}
 use Rattle.theory.specs.Values.{word-from}
 
 -- a node that is not hidden has no hash of its own
@@ -72,7 +71,7 @@ among-more (word n bits) j js h = h
 -- the right child of a disconnect is among them
 among-rights : (nodes : List Node) (i a b : ℕ) → nodeAt nodes i ≡ disconnect a b → Among b (rights nodes)
 unfolding rights nodeAt onDisconnect
-among-rights [] i a b e = Tests.clash (cc)
+among-rights [] i a b e = Checks.clash (cc)
 among-rights (n ∷ ns) zero a b e = subst (λ (m : Node). Among b (onDisconnect m (λ left right. right ∷ rights ns) (rights ns))) (sym e) (0, omega arith, refl)
 among-rights (n ∷ ns) (suc i) a b e = among-more n b (rights ns) (among-rights ns i a b e)
 
@@ -105,7 +104,7 @@ module _ (nodes : List Node) (given : List ℕ) where
       let p = both-passed (require (eqb (length given / hashBytes) (length (rights nodes))) (Hash (length given / hashBytes)))
       (λ count. each (length (rights nodes)) (λ e. not (clash nodes given e)) Hash) tt e in
       let count : length given / hashBytes ≡ length (rights nodes) =
-      eqb-true _ _ (require-passed (eqb (length given / hashBytes) (length (rights nodes))) (Hash (length given / hashBytes)) (p .1)) in
+      eqb-true _ _ (require-holds (eqb (length given / hashBytes) (length (rights nodes))) (Hash (length given / hashBytes)) _ (p .1)) in
       let f = entry-found b 0 (rights nodes) (among-rights nodes i a b q) in
       let g : branchHash nodes given b ≡ whole (entry given (f .0)) = on-shown (nodeAt nodes b) whole (entryFor nodes given b 0 (rights nodes)) shown ∙ f .2 in
       let l : length (branchHash nodes given b) ≡ hashBytes = ap length g ∙ entry-whole (f .0) (omega (arith, f .1)) in

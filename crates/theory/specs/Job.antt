@@ -1,59 +1,73 @@
 -- The whole job, from a dossier's bytes: where all checks pass, what is said and what is left in the answer store is told by the meaning of the dossier's program.
 -- And the old contents of all five stores change nothing of what is said.
-use mathlib.Core.Path.{_≡_, refl, sym, _∙_, subst}
-use mathlib.Core.List.{List}
-use Prim.Native.Nat.{ℕ, _/_, _<_}
+use mathlib.Core.Path.{_≡_, refl, sym, ap, _∙_, subst}
+use mathlib.Core.List.{List, []}
+use Prim.Native.Nat.{ℕ, _-_, _/_, _^_, _<_}
 use native.Mathlib.Omega.{arith}
-use lib.Dec.{leb}
-use lib.ListN.{length}
-use Rattle.limits.specs.Limits.{dossierBytes, nodeNumbers}
+use native.Mathlib.Decide.{decLt}
+use lib.ListN.{length, List·getD-eq-default}
+use Rattle.limits.specs.Limits.{nodeNumbers}
 use Rattle.refusal.specs.declared.Refusal.{Refusal}
-use Rattle.refusal.specs.declared.Refusal.the-variants.{Header, Closing}
 use Rattle.refusal.specs.declared.Answer.the-variants.{Refused}
 use Rattle.report.specs.Bits.{Bit}
 use Rattle.report.specs.Values.{HasTy}
+use Rattle.report.specs.Nodes.{Node, hidden, word}
+use Rattle.report.specs.Canonical.{children}
 use Rattle.report.specs.Meaning.{eval}
-use Rattle.scope.specs.Check.{Check, passed, refused, _>>=_, require}
+use Rattle.scope.specs.Check.{Check, passed, refused, _>>=_}
 use Rattle.scope.specs.Numbers.{streamOf}
 use Rattle.scope.specs.Header1.{checkHeader, section, sTypes, sProgram}
 use Rattle.scope.specs.Types2.{typeRecords, checkTypes}
-use Rattle.scope.specs.Nodes.{nodesOf}
-use Rattle.scope.specs.Reading3to5.{Table, readNodes}
+use Rattle.scope.specs.Nodes.{nodeAt, nodesOf}
+use Rattle.scope.specs.Reading3to5.{Table}
 use Rattle.scope.specs.Walk6to9.{checkWalk}
-use Rattle.scope.specs.Closing10.{closes, decode}
+use Rattle.scope.specs.Closing10.{decode}
 use Rattle.scope.specs.Program.{Program, whole, wholeSource}
 use Rattle.scope.specs.Stores17.{checkStores}
 use Rattle.scope.specs.Run.{Tables, Ready, checkTables, checkReady, tablesOf, checkDossier, untouched, runTables, Ended, ended, run}
-use Rattle.theory.specs.Bits.{stream-binary}
-use Rattle.theory.specs.Checks.{both-passed}
-use Rattle.theory.specs.Records.{length-nodes, records-below, records-word}
-use Rattle.theory.specs.Decoded.{KeepsRules, read-keeps}
+use Rattle.exactness.specs.Checks.{clash, both-passed}
+use Rattle.exactness.specs.Bits.{AllBelow}
+use Rattle.exactness.specs.Nodes.{ContentFits, NodeFits, WellFormed, fit-at}
+use Rattle.exactness.specs.Canonical.{canonical-walk}
+use Rattle.exactness.specs.Programs.{IsProgram}
+use Rattle.exactness.specs.Decoding.{decoded-is-program, decoded-nodes}
 use Rattle.theory.specs.Sound.{Sound}
 use Rattle.theory.specs.Answers.{told, output}
 use Rattle.theory.specs.Accepted.{Checked, ready-sound, ready-input, tables-say, tables-output}
 
--- what decoding has told of the nodes that a program stands for
+-- nodes that stand above their children, with words of the right length, and that pass the walk
+abbrev pub Stand : List Node → Type 0
+Stand ns = (0 < length ns) × ((i : ℕ) → i < length ns → AllBelow i (children (nodeAt ns i)))
+    × ((i n : ℕ) (bits : List Bit) → nodeAt ns i ≡ word n bits → length bits ≡ 2 ^ (n - 1)) × (checkWalk ns ≡ passed tt)
+
+-- words of a well formed table have their bits
+words-whole : (ns : List Node) → WellFormed ns → (i n : ℕ) (bits : List Bit) → nodeAt ns i ≡ word n bits → length bits ≡ 2 ^ (n - 1)
+unfolding nodeAt
+words-whole ns h i n bits e = elim (decLt i (length ns)) [
+  | yes l ↦ subst ContentFits e (fit-at ns i (h .fit) l .content) .2
+  | no m ↦ let f : nodeAt ns i ≡ hidden [] = List·getD-eq-default ns (hidden []) {n = i} (omega arith) in clash (cc)
+]
+
+-- so are the nodes that a decoded program stands for
 pub decoded : (program : List ℕ) (records bytes : ℕ) (t : Table) → decode program records bytes ≡ passed t
-    → KeepsRules (streamOf program) t × (0 < length (t .records)) × (checkWalk (nodesOf (streamOf program) (t .hashes) (t .records)) ≡ passed tt)
-unfolding decode
+    → Stand (nodesOf (streamOf program) (t .hashes) (t .records))
 decoded program records bytes t e =
-    let bits : List Bit = streamOf program in
-    let walk : Table → Check (Unit {0}) = λ t. checkWalk (nodesOf bits (t .hashes) (t .records)) in
-    let close : Table → Check (Unit {0}) = λ t. require (closes bits (t .end)) (Closing (length (t .records))) in
-    let a = both-passed (require (leb (length program) dossierBytes) (Header 0)) (λ fits. readNodes bits records bytes >>= λ t. walk t >>= λ walked. close t >>= λ closed. passed t) t e in
-    let b = both-passed (readNodes bits records bytes) (λ t. walk t >>= λ walked. close t >>= λ closed. passed t) t (a .2) in
-    let c = both-passed (walk (b .0)) (λ walked. close (b .0) >>= λ closed. passed (b .0)) t (b .2) in
-    let d = both-passed (close (b .0)) (λ closed. passed (b .0)) t (c .2) in
-    let q : b .0 ≡ t = cc in
-    let k = read-keeps bits (stream-binary program) records bytes (b .0) (b .1) in
-    subst (λ (t : Table). KeepsRules bits t × (0 < length (t .records)) × (walk t ≡ passed tt)) q (k .0, k .1, c .1)
+    let p = decoded-is-program program records bytes t e in
+    let ns : List Node = p .0 in
+    let same : nodesOf (streamOf program) (t .hashes) (t .records) ≡ ns =
+    ap (λ (u : Table). nodesOf (streamOf program) (u .hashes) (u .records)) (p .2) ∙ decoded-nodes program records bytes ns (p .1) in
+    subst Stand (sym same) (
+      p .1 .formed .some,
+      (λ i l. fit-at ns i (p .1 .formed .fit) l .below),
+      words-whole ns (p .1 .formed),
+      canonical-walk ns (p .1 .canonical) (p .1 .hidden-places),
+    )
 
 module _ (d nodes hashes : List ℕ) (t : Table) (e : checkDossier d nodes hashes ≡ passed t) where
   -- A DOSSIER THAT PASSED 1 TO 13 HOLDS CHECKED TABLES
   pub dossier-checked : Checked (tablesOf d t)
   unfolding checkDossier tablesOf
   dossier-checked =
-      let bits : List Bit = streamOf (section d sProgram) in
       let tables : Table → Check (Unit {0}) = λ t. checkTables (tablesOf d t) in
       let read : Check Table = decode (section d sProgram) (length nodes / nodeNumbers) (length hashes) in
       let a = both-passed (checkHeader d) (λ header. checkTypes (typeRecords (section d sTypes)) >>= λ types. read >>= λ t. tables t >>= λ passing. passed t) t e in
@@ -62,13 +76,12 @@ module _ (d nodes hashes : List ℕ) (t : Table) (e : checkDossier d nodes hashe
       let f = both-passed (tables (c .0)) (λ passing. passed (c .0)) t (c .2) in
       let q : c .0 ≡ t = cc in
       let r = decoded (section d sProgram) (length nodes / nodeNumbers) (length hashes) t (subst (λ (u : Table). read ≡ passed u) q (c .1)) in
-      let same : length (nodesOf bits (t .hashes) (t .records)) ≡ length (t .records) = length-nodes bits (t .hashes) (t .records) in
       record {
         types = b .1;
-        some = omega (arith, r .1);
-        below = λ i h. records-below bits (t .hashes) (length (t .hashes)) (t .records) (r .0) i (omega arith);
-        words = records-word bits (t .hashes) (length (t .hashes)) (t .records) (r .0);
-        walk = r .2;
+        some = r .0;
+        below = r .1;
+        words = r .2;
+        walk = r .3;
         tables = subst (λ (u : Table). tables u ≡ passed tt) q (f .1);
       }
 

@@ -3,10 +3,10 @@
 use mathlib.Core.Path.{_≡_, sym, subst}
 use mathlib.Core.Bool.{true}
 use mathlib.Core.List.{List, [], _∷_}
-use Prim.Native.Nat.{ℕ, _*_, _<_}
+use Prim.Native.Nat.{ℕ, _*_, _≤_, _<_}
 use native.Mathlib.Omega.{arith}
 use lib.Dec.{leb}
-use borrow.Author.Tests.{leb-true}
+use borrow.Author.Tests.{leb-true, le-ltb}
 use lib.ListN.{length}
 use Rattle.limits.specs.Limits.{nodeCount, typeCount, dossierBytes}
 use Rattle.refusal.specs.declared.Refusal.the-variants.{Natural, NodeRecord as BadNodeRecord, Header}
@@ -20,12 +20,16 @@ use Rattle.scope.specs.Walk6to9.{checkWalk}
 use Rattle.scope.specs.Program.{whole}
 use Rattle.scope.specs.Run.{Tables, Ready, checkTables, checkReady, Left}
 use Rattle.scope.specs.Stages26.{counted, recordRule, checkRecords, lentTables, lent, hashStage, runStage}
-use Rattle.theory.specs.Tests.{all-hold}
-use Rattle.theory.specs.Checks.{both-passed, require-passed, each-passed}
-use Rattle.theory.specs.Bits.{length-stream}
+use Rattle.exactness.specs.Checks.{every-all, both-passed, require-holds, each-holds}
+use Rattle.exactness.specs.Bits.{length-bits}
 use Rattle.theory.specs.Records.{length-nodes, records-below, records-word}
 use Rattle.theory.specs.Answers.{told, output}
 use Rattle.theory.specs.Accepted.{Checked, tables-say, tables-output}
+
+-- eight bits a byte in a slice within the limit of a dossier
+length-stream : (bytes : List ℕ) → length bytes ≤ dossierBytes → length (streamOf bytes) ≡ 8 * length bytes
+unfolding streamOf
+length-stream bytes h = rw (le-ltb dossierBytes (length bytes) h, streamOf) (length-bits bytes)
 
 module _ (types nodes arrows program hashes given witness : List ℕ) (witnessBits : ℕ) (input : List ℕ) (inputBits : ℕ)
     (e : hashStage types nodes arrows program hashes given ≡ passed tt) where
@@ -49,8 +53,8 @@ module _ (types nodes arrows program hashes given witness : List ℕ) (witnessBi
       let d = both-passed (checkRecords program hashes records) (λ kept. fits >>= λ fitting. types′ >>= λ typed. walk) tt (c .2) in
       let f = both-passed fits (λ fitting. types′ >>= λ typed. walk) tt (d .2) in
       let g = both-passed types′ (λ typed. walk) tt (f .2) in
-      let some = all-hold (leb 1 (length records) ∷ leb (length records) nodeCount ∷ []) (require-passed (every (leb 1 (length records) ∷ leb (length records) nodeCount ∷ [])) (Natural 0) (b .1)) in
-      let l : length bits ≡ 8 * length program = length-stream program (leb-true (length program) dossierBytes (require-passed (leb (length program) dossierBytes) (Header 0) (f .1))) in
+      let some = every-all (leb 1 (length records) ∷ leb (length records) nodeCount ∷ []) (require-holds (every (leb 1 (length records) ∷ leb (length records) nodeCount ∷ [])) (Natural 0) _ (b .1)) in
+      let l : length bits ≡ 8 * length program = length-stream program (leb-true (length program) dossierBytes (require-holds (leb (length program) dossierBytes) (Header 0) _ (f .1))) in
       let kept : (i : ℕ) → i < length records → recordRule (length bits) (length hashes) records i ≡ true =
       λ i h. subst (λ (n : ℕ). recordRule n (length hashes) records i ≡ true) (sym l) (records-kept (d .1) i h) in
       let same : length (nodesOf bits hashes records) ≡ length records = length-nodes bits hashes records in
@@ -65,7 +69,7 @@ module _ (types nodes arrows program hashes given witness : List ℕ) (witnessBi
     where
       records-kept : checkRecords program hashes (nodeRecords nodes) ≡ passed tt → (i : ℕ) → i < length (nodeRecords nodes)
           → recordRule (8 * length program) (length hashes) (nodeRecords nodes) i ≡ true
-      records-kept q i h = each-passed (length (nodeRecords nodes)) (recordRule (8 * length program) (length hashes) (nodeRecords nodes)) BadNodeRecord q i h
+      records-kept q i h = each-holds (length (nodeRecords nodes)) (recordRule (8 * length program) (length hashes) (nodeRecords nodes)) BadNodeRecord _ q i h
 
   module _ (cells frames answer : List ℕ) (R : Ready) (p : checkReady T cells frames answer ≡ passed R) where
     -- THE RUN OVER LENT TABLES SAYS WHAT THEIR PROGRAM MEANS, and leaves that value's bits in the answer store

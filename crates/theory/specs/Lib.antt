@@ -1,7 +1,3 @@
-pub mod Tests
-pub mod Checks
-pub mod Tables
-pub mod Bits
 pub mod Safety
 pub mod Denotation
 pub mod Visits
@@ -14,19 +10,14 @@ pub mod Frames
 pub mod Correct
 pub mod WholeRuns
 pub mod NodeTerms
-pub mod TypeTable
-pub mod TypeTests
-pub mod Arrows
 pub mod Values
 pub mod Sound
 pub mod Programs
 pub mod Answers
-pub mod Walked
 pub mod Supplied
 pub mod Hashes
 pub mod Records
 pub mod Accepted
-pub mod Decoded
 pub mod Job
 pub mod LentTables
 pub mod BinaryCells

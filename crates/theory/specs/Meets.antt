@@ -13,9 +13,10 @@ use Rattle.report.specs.Terms.{Term, iden, comp, unit, injl, injr, case, pair, 
 use Rattle.report.specs.Typing.{Typed, Iden, Comp, Unit·, Injl, Injr, Case, Pair, Take, Drop, Assertl, Assertr, Fail, Witness, Word, Disconnect}
 use Rattle.report.specs.Meaning.{Out, done, failed, pruned, _>>=_, Means, split, branch, eval}
 use Rattle.scope.specs.Machine18and19.{putBits, copyCells}
+use Rattle.exactness.specs.Values.{length-padded}
 use Rattle.theory.specs.Room.{tightCells}
 use Rattle.theory.specs.Cursors.{onCells}
-use Rattle.theory.specs.Cells.{Apart, Kept, bits-in, bits-out, copy-in, copy-out, same-value, value-kept, value-bits, value-copy, value-left, value-right, value-written, length-padded}
+use Rattle.theory.specs.Cells.{Apart, Kept, bits-in, bits-out, copy-in, copy-out, same-value, value-kept, value-bits, value-copy, value-left, value-right, value-written}
 
 -- A meaning and a run from the cells c agree: the value is left at `wr`, or both stop, in the same way and place;
 -- and nothing but the write range and x free cells is changed.

@@ -20,17 +20,13 @@ use Rattle.scope.specs.Walk6to9.{hiddenAt}
 use Rattle.scope.specs.Arrows11and12.{Arrow, source, target}
 use Rattle.scope.specs.Program.{Program, sourceTy, targetTy, caseTerm, termOf, termMake, termAt, last, whole, wholeSource, wholeTarget}
 use Rattle.scope.specs.Bounds14.{Bound, bounds, childRow, pairRow, caseRow, compRow, disconnectRow, wholeCells, wholeFrames, wholeCost}
-use Rattle.theory.specs.Tables.{length-entries, entries-at, entries-past}
-
--- all of the list are below i
-abbrev pub Below : (i : ℕ) → List ℕ → Type 0
-Below i [] = Unit {0}
-Below i (j ∷ js) = (j < i) × Below i js
+use Rattle.exactness.specs.Bits.{AllBelow}
+use Rattle.exactness.specs.Table.{length-entries, entries-at, entries-past}
 
 -- a node's term depends on its children's terms alone
 module _ (P : Program) (i : ℕ) (t t′ : ℕ → Term) (same : (j : ℕ) → j < i → t j ≡ t′ j) where
   -- kind by kind
-  pub term-same : (n : Node) → Below i (children n) → termOf P i n t ≡ termOf P i n t′
+  pub term-same : (n : Node) → AllBelow i (children n) → termOf P i n t ≡ termOf P i n t′
   unfolding termOf children
   term-same (comp a b) h = rw (same a (h .0), same b (h .1 .0))
   term-same (case a b) h = rw (same a (h .0), same b (h .1 .0))
@@ -49,7 +45,7 @@ module _ (P : Program) (i : ℕ) (t t′ : ℕ → Term) (same : (j : ℕ) → j
   term-same (word n bits) h = refl
 
 -- THE TERM OF A NODE IS MADE OF ITS CHILDREN'S TERMS; past the table's end both sides stand for no term
-pub term-step : (P : Program) (i : ℕ) → Below i (children (nodeAt (P .nodes) i)) → termAt P i ≡ termOf P i (nodeAt (P .nodes) i) (termAt P)
+pub term-step : (P : Program) (i : ℕ) → AllBelow i (children (nodeAt (P .nodes) i)) → termAt P i ≡ termOf P i (nodeAt (P .nodes) i) (termAt P)
 unfolding termAt termMake nodeAt termOf
 term-step P i below = go (decLt i (length (P .nodes)))
   where

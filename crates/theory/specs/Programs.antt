@@ -16,7 +16,7 @@ use Rattle.scope.specs.Machine18and19.{Frame, Step, state, exec, machine, answe
 use Rattle.scope.specs.Walk6to9.{hiddenAt}
 use Rattle.scope.specs.Program.{Program, sourceTy, targetTy, termAt, last, whole, wholeSource, wholeTarget}
 use Rattle.scope.specs.Bounds14.{Bound, bounds, wholeCells, wholeFrames, wholeCost}
-use Rattle.theory.specs.Tests.{clash}
+use Rattle.exactness.specs.Checks.{clash}
 use Rattle.theory.specs.Safety.{Good, safe}
 use Rattle.theory.specs.Visits.{visits-bound}
 use Rattle.theory.specs.Cells.{Apart}

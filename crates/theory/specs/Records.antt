@@ -18,8 +18,8 @@ use Rattle.report.specs.Canonical.{children}
 use Rattle.scope.specs.Numbers.{every}
 use Rattle.scope.specs.Nodes.{Kind, kComp, kCase, kPair, kDisconnect, kInjl, kInjr, kTake, kDrop, kIden, kUnit, kFail, kDisconnect1, kWitness, kHidden, kWord, kUnknown, kindOf, NodeRecord, nodeOf, nodesOf, nodeAt}
 use Rattle.scope.specs.Stages26.{numbersRule, noRecord, recordRule}
-use Rattle.theory.specs.Tests.{clash, not-both, all-hold}
-use Rattle.theory.specs.NodeTerms.{Below}
+use Rattle.exactness.specs.Checks.{clash, not-both, every-all}
+use Rattle.exactness.specs.Bits.{AllBelow}
 
 -- a table has a node for each record
 pub length-nodes : (bits : List Bit) (hashes : List ℕ) (records : List NodeRecord) → length (nodesOf bits hashes records) ≡ length records
@@ -37,15 +37,15 @@ node-at bits hashes (r ∷ rs) (suc i) h = node-at bits hashes rs i (omega arith
 
 module _ (bits : List Bit) (hashes : List ℕ) where
   -- two children
-  two-below : (i a b c : ℕ) → every (ltb a i ∷ ltb b i ∷ eqb c 0 ∷ []) ≡ true → Below i (a ∷ b ∷ [])
-  two-below i a b c e = let h = all-hold (ltb a i ∷ ltb b i ∷ eqb c 0 ∷ []) e in (ltb-true a i (h .0), (ltb-true b i (h .1 .0), tt))
+  two-below : (i a b c : ℕ) → every (ltb a i ∷ ltb b i ∷ eqb c 0 ∷ []) ≡ true → AllBelow i (a ∷ b ∷ [])
+  two-below i a b c e = let h = every-all (ltb a i ∷ ltb b i ∷ eqb c 0 ∷ []) e in (ltb-true a i (h .0), (ltb-true b i (h .1 .0), tt))
 
   -- one child
-  one-below : (i a b c : ℕ) → every (ltb a i ∷ eqb b 0 ∷ eqb c 0 ∷ []) ≡ true → Below i (a ∷ [])
-  one-below i a b c e = let h = all-hold (ltb a i ∷ eqb b 0 ∷ eqb c 0 ∷ []) e in (ltb-true a i (h .0), tt)
+  one-below : (i a b c : ℕ) → every (ltb a i ∷ eqb b 0 ∷ eqb c 0 ∷ []) ≡ true → AllBelow i (a ∷ [])
+  one-below i a b c e = let h = every-all (ltb a i ∷ eqb b 0 ∷ eqb c 0 ∷ []) e in (ltb-true a i (h .0), tt)
 
   -- the children of a node whose numbers keep their rule are below it
-  numbers-below : (m n i : ℕ) (k : Kind) (a b c : ℕ) → numbersRule m n i k a b c ≡ true → Below i (children (nodeOf bits hashes k a b))
+  numbers-below : (m n i : ℕ) (k : Kind) (a b c : ℕ) → numbersRule m n i k a b c ≡ true → AllBelow i (children (nodeOf bits hashes k a b))
   unfolding numbersRule nodeOf children
   numbers-below m n i kComp a b c e = two-below i a b c e
   numbers-below m n i kCase a b c e = two-below i a b c e
@@ -98,7 +98,7 @@ module _ (bits : List Bit) (hashes : List ℕ) where
   -- a table of records that keep their rules
   module _ (n : ℕ) (records : List NodeRecord) (ok : (i : ℕ) → i < length records → recordRule (length bits) n records i ≡ true) where
     -- THE CHILDREN OF EACH NODE ARE BELOW IT
-    pub records-below : (i : ℕ) → i < length records → Below i (children (nodeAt (nodesOf bits hashes records) i))
+    pub records-below : (i : ℕ) → i < length records → AllBelow i (children (nodeAt (nodesOf bits hashes records) i))
     unfolding recordRule
     records-below i h = rw (node-at bits hashes records i h) (numbers-below (length bits) n i (kindOf ((getD records i noRecord) .kind)) _ _ _ (ok i h))
 

@@ -1,7 +1,7 @@
 -- A sound program: its tables keep the rules that the checks ask for, and its values are values of their types.
 -- In it the term of each node that is not hidden goes from the node's source to the node's target.
 use mathlib.Core.Path.{_≡_, refl, subst₂}
-use mathlib.Core.Bool.{Bool, true, false, not}
+use mathlib.Core.Bool.{true, false, not}
 use mathlib.Core.List.{List, [], _∷_}
 use Prim.Native.Nat.{ℕ, zero, suc, _-_, _^_, _<_}
 use native.Mathlib.Omega.{arith}
@@ -12,7 +12,7 @@ use Rattle.refusal.specs.declared.Refusal.the-variants.{HiddenElsewhere, BothHi
 use Rattle.report.specs.Bits.{Bit}
 use Rattle.report.specs.Types.{Ty, sum, prod, leftOf, rightOf, wordTy}
 use Rattle.report.specs.Values.{⟨⟩, HasTy}
-use Rattle.report.specs.Nodes.{Node, comp, case, pair, disconnect, injl, injr, take, drop, disconnect1, iden, unit, witness, fail, hidden, word}
+use Rattle.report.specs.Nodes.{Node, disconnect, witness, word}
 use Rattle.report.specs.Canonical.{children}
 use Rattle.report.specs.Terms.{Term}
 use Rattle.report.specs.Typing.{Typed, Iden, Comp, Unit·, Injl, Injr, Case, Pair, Take, Drop, Assertl, Assertr, Fail, Witness, Word, Disconnect}
@@ -22,20 +22,21 @@ use Rattle.scope.specs.Nodes.{nodeAt}
 use Rattle.scope.specs.Walk6to9.{hiddenAt, noneHidden, allowed}
 use Rattle.scope.specs.Arrows11and12.{arrowRule}
 use Rattle.scope.specs.Program.{Program, sourceTy, targetTy, caseTerm, termOf, termAt, last}
-use Rattle.theory.specs.Tests.{not-both}
-use Rattle.theory.specs.Checks.{both-passed, require-passed}
+use Rattle.exactness.specs.Checks.{not-both, both-passed, require-holds}
+use Rattle.exactness.specs.Bits.{AllBelow}
+use Rattle.exactness.specs.Types.{TypesPass}
+use Rattle.exactness.specs.NodeTyping.{Goes, Branch, NodeTyped, fromTy, toTy}
+use Rattle.exactness.specs.Arrows.{arrow-typed}
 use Rattle.theory.specs.Values.{word-from}
-use Rattle.theory.specs.NodeTerms.{Below, term-step}
-use Rattle.theory.specs.TypeTable.{TypesSound}
-use Rattle.theory.specs.Arrows.{FitsBranch, Fits, arrow-fits}
+use Rattle.theory.specs.NodeTerms.{term-step}
 
 -- what the checks of a program's tables come to
 pub record Sound (P : Program) : Type 0 where
   -- every type record, and every node's arrow, keeps its rule
-  pub typeRules : TypesSound (P .types)
+  pub typeRules : TypesPass (P .types)
   pub arrowRules : (i : ℕ) → i < length (P .nodes) → arrowRule (P .types) (P .nodes) (P .arrows) i ≡ true
   -- children stand below their parents; hidden ones only under a case, and not both
-  pub childrenBelow : (i : ℕ) → i < length (P .nodes) → Below i (children (nodeAt (P .nodes) i))
+  pub childrenBelow : (i : ℕ) → i < length (P .nodes) → AllBelow i (children (nodeAt (P .nodes) i))
   pub hiddenRules : (i : ℕ) → i < length (P .nodes) → hiddenAt (P .nodes) i ≡ false → allowed (P .nodes) i (nodeAt (P .nodes) i) ≡ passed tt
   -- there is a node, and the last one is not hidden
   pub someNode : 0 < length (P .nodes)
@@ -57,7 +58,7 @@ module _ (nodes : List Node) where
   none-hidden i [] e = tt
   none-hidden i (j ∷ js) e =
       let h = both-passed (require (not (hiddenAt nodes j)) (HiddenElsewhere i)) (λ shown. noneHidden nodes i js) tt e in
-      (not-true (hiddenAt nodes j) (require-passed (not (hiddenAt nodes j)) (HiddenElsewhere i) (h .1)), none-hidden i js (h .2))
+      (not-true (hiddenAt nodes j) (require-holds (not (hiddenAt nodes j)) (HiddenElsewhere i) _ (h .1)), none-hidden i js (h .2))
 
 -- node i, given terms for the nodes below it
 module _ (P : Program) (ok : Sound P) (i : ℕ) (child : ℕ → Term)
@@ -67,51 +68,67 @@ module _ (P : Program) (ok : Sound P) (i : ℕ) (child : ℕ → Term)
   typed-at j A B l h e f = subst₂ (λ S T. Typed (child j) S T) e f (typed j l h)
 
   -- a case, by which of its children are hidden
-  typed-case : (x y : Bool) (s t : ℕ) (X Y C D : Ty) → s < i → t < i → hiddenAt (P .nodes) s ≡ x → hiddenAt (P .nodes) t ≡ y → not (every (x ∷ y ∷ [])) ≡ true
-      → FitsBranch x P s X C D → FitsBranch y P t Y C D → Typed (caseTerm x y i (prod (sum X Y) C) (child s) (child t)) (prod (sum X Y) C) D
-  unfolding FitsBranch caseTerm leftOf rightOf every
-  typed-case false false s t X Y C D ls lt hs ht m f g = Case (typed-at s _ _ ls hs (f .0) (f .1)) (typed-at t _ _ lt ht (g .0) (g .1))
-  typed-case false true s t X Y C D ls lt hs ht m f g = Assertl (typed-at s _ _ ls hs (f .0) (f .1))
-  typed-case true false s t X Y C D ls lt hs ht m f g = Assertr (typed-at t _ _ lt ht (g .0) (g .1))
-  typed-case true true s t X Y C D ls lt hs ht m f g = not-both m refl
+  typed-case : (s t : ℕ) (X Y C D : Ty) → s < i → t < i → not (every (hiddenAt (P .nodes) s ∷ hiddenAt (P .nodes) t ∷ [])) ≡ true
+      → Branch (P .nodes) (sourceTy P) (targetTy P) s X C D → Branch (P .nodes) (sourceTy P) (targetTy P) t Y C D
+      → Typed (caseTerm (hiddenAt (P .nodes) s) (hiddenAt (P .nodes) t) i (prod (sum X Y) C) (child s) (child t)) (prod (sum X Y) C) D
+  unfolding caseTerm leftOf rightOf every
+  typed-case s t X Y C D ls lt m (Branch.Shown e g) (Branch.Shown f h) =
+      rw (e, f, caseTerm) (Case (typed-at s _ _ ls e (g .starts) (g .ends)) (typed-at t _ _ lt f (h .starts) (h .ends)))
+  typed-case s t X Y C D ls lt m (Branch.Shown e g) (Branch.Pruned f) = rw (e, f, caseTerm) (Assertl (typed-at s _ _ ls e (g .starts) (g .ends)))
+  typed-case s t X Y C D ls lt m (Branch.Pruned e) (Branch.Shown f h) = rw (e, f, caseTerm) (Assertr (typed-at t _ _ lt f (h .starts) (h .ends)))
+  typed-case s t X Y C D ls lt m (Branch.Pruned e) (Branch.Pruned f) = not-both m (rw (e, f, every))
 
-  -- a node of each kind
-  typed-node : (n : Node) → nodeAt (P .nodes) i ≡ n → hiddenAt (P .nodes) i ≡ false → Below i (children n) → allowed (P .nodes) i n ≡ passed tt
-      → Fits P (sourceTy P i) (targetTy P i) n → Typed (termOf P i n child) (sourceTy P i) (targetTy P i)
-  unfolding termOf Fits allowed children leftOf rightOf
-  typed-node (comp s t) e shown b w f =
-      let h = none-hidden (P .nodes) i (s ∷ t ∷ []) w in
-      Comp (typed-at s _ _ (b .0) (h .0) (f .0) refl) (typed-at t _ _ (b .1 .0) (h .1 .0) (f .1) (f .2))
-  typed-node (case s t) e shown b w f =
-      rw (f .3)
-      (typed-case (hiddenAt (P .nodes) s) (hiddenAt (P .nodes) t) s t (f .0) (f .1) (f .2) (targetTy P i) (b .0) (b .1 .0) refl refl
-      (require-passed (not (every (hiddenAt (P .nodes) s ∷ hiddenAt (P .nodes) t ∷ []))) (BothHidden i) w) (f .4) (f .5))
-  typed-node (pair s t) e shown b w f =
-      let h = none-hidden (P .nodes) i (s ∷ t ∷ []) w in
-      rw (f .2) (Pair (typed-at s _ _ (b .0) (h .0) (f .0) refl) (typed-at t _ _ (b .1 .0) (h .1 .0) (f .1) refl))
-  typed-node (disconnect s t) e shown b w f =
-      let h = none-hidden (P .nodes) i (s ∷ t ∷ []) w in
-      rw (f .3) (Disconnect (ok .hashValues i s t e) (typed-at s _ _ (b .0) (h .0) (f .1) (f .2)) (typed-at t _ _ (b .1 .0) (h .1 .0) refl refl))
-  typed-node (injl s) e shown b w f = let h = none-hidden (P .nodes) i (s ∷ []) w in rw (f .2) (Injl (typed-at s _ _ (b .0) (h .0) (f .1) refl))
-  typed-node (injr s) e shown b w f = let h = none-hidden (P .nodes) i (s ∷ []) w in rw (f .2) (Injr (typed-at s _ _ (b .0) (h .0) (f .1) refl))
-  typed-node (take s) e shown b w f = let h = none-hidden (P .nodes) i (s ∷ []) w in rw (f .1) (Take (typed-at s _ _ (b .0) (h .0) refl (f .2)))
-  typed-node (drop s) e shown b w f = let h = none-hidden (P .nodes) i (s ∷ []) w in rw (f .1) (Drop (typed-at s _ _ (b .0) (h .0) refl (f .2)))
-  typed-node (disconnect1 s) e shown b w f = absurd f
-  typed-node iden e shown b w f = rw (← f) Iden
-  typed-node unit e shown b w f = rw f Unit·
-  typed-node witness e shown b w f = Witness (ok .witnessValues i e)
-  typed-node (fail bytes) e shown b w f = Fail
-  typed-node (hidden bytes) e shown b w f = not-both (rw e) shown
-  typed-node (word n bits) e shown b w f =
-      rw (f .0, f .1) (Word (n - 1) refl (word-from (n - 1) bits (omega (arith, ok .wordBits i n bits e))))
+  -- a node of each kind, as the report types it by the arrows of its children
+  typed-node : (n : Node) (A B : Ty) → nodeAt (P .nodes) i ≡ n → hiddenAt (P .nodes) i ≡ false → AllBelow i (children n) → allowed (P .nodes) i n ≡ passed tt
+      → sourceTy P i ≡ A → targetTy P i ≡ B → NodeTyped (P .nodes) (sourceTy P) (targetTy P) n A B → Typed (termOf P i n child) A B
+  unfolding termOf allowed children leftOf rightOf
+  typed-node _ A B e shown b w x y NodeTyped.Iden = rw x Iden
+  typed-node _ A C e shown b w x y (NodeTyped.Comp {s = s} {t = t} g h) =
+      let k = none-hidden (P .nodes) i (s ∷ t ∷ []) w in
+      rw (g .ends) (Comp (typed-at s _ _ (b .0) (k .0) (g .starts) (g .ends)) (typed-at t _ _ (b .1 .0) (k .1 .0) (h .starts) (h .ends)))
+  typed-node _ A B e shown b w x y NodeTyped.Unit· = Unit·
+  typed-node _ A B e shown b w x y (NodeTyped.Injl {s = s} g) =
+      let k = none-hidden (P .nodes) i (s ∷ []) w in
+      rw y (Injl (typed-at s _ _ (b .0) (k .0) (g .starts) (g .ends)))
+  typed-node _ A B e shown b w x y (NodeTyped.Injr {s = s} g) =
+      let k = none-hidden (P .nodes) i (s ∷ []) w in
+      rw y (Injr (typed-at s _ _ (b .0) (k .0) (g .starts) (g .ends)))
+  typed-node _ _ _ e shown b w x y (NodeTyped.Case {s = s} {t = t} {A = A} {B = B} {C = C} {D = D} g h) =
+      rw x
+      (typed-case s t A B C D (b .0) (b .1 .0)
+      (require-holds (not (every (hiddenAt (P .nodes) s ∷ hiddenAt (P .nodes) t ∷ []))) (BothHidden i) _ w) g h)
+  typed-node _ A B e shown b w x y (NodeTyped.Pair {s = s} {t = t} g h) =
+      let k = none-hidden (P .nodes) i (s ∷ t ∷ []) w in
+      rw (g .ends) (Pair (typed-at s _ _ (b .0) (k .0) (g .starts) (g .ends)) (typed-at t _ _ (b .1 .0) (k .1 .0) (h .starts) (h .ends)))
+  typed-node _ A B e shown b w x y (NodeTyped.Take {s = s} g) =
+      let k = none-hidden (P .nodes) i (s ∷ []) w in
+      Take (typed-at s _ _ (b .0) (k .0) (g .starts) (g .ends))
+  typed-node _ A B e shown b w x y (NodeTyped.Drop {s = s} g) =
+      let k = none-hidden (P .nodes) i (s ∷ []) w in
+      rw x (Drop (typed-at s _ _ (b .0) (k .0) (g .starts) (g .ends)))
+  typed-node _ A B e shown b w x y NodeTyped.Fail = Fail
+  typed-node _ A B e shown b w x y NodeTyped.Witness = rw (← y) (Witness (ok .witnessValues i e))
+  typed-node _ A B e shown b w x y (NodeTyped.Word {n = n} {bits = bits}) =
+      rw y (Word (n - 1) refl (word-from (n - 1) bits (omega (arith, ok .wordBits i n bits e))))
+  typed-node _ A B e shown b w x y (NodeTyped.Disconnect {s = s} {t = t} g h) =
+      let k = none-hidden (P .nodes) i (s ∷ t ∷ []) w in
+      rw (x, y, h .starts)
+      (Disconnect (ok .hashValues i s t e) (typed-at s _ _ (b .0) (k .0) (g .starts) (g .ends)) (typed-at t _ _ (b .1 .0) (k .1 .0) (h .starts) (h .ends)))
+  typed-node _ A B e shown b w x y NodeTyped.Hidden = not-both (rw e) shown
+
+-- a node whose arrow keeps its rule is typed by the report, in the words of a program
+arrow-typed-in : (P : Program) → TypesPass (P .types) → (i : ℕ) → arrowRule (P .types) (P .nodes) (P .arrows) i ≡ true
+    → NodeTyped (P .nodes) (sourceTy P) (targetTy P) (nodeAt (P .nodes) i) (sourceTy P i) (targetTy P i)
+unfolding fromTy toTy sourceTy targetTy
+arrow-typed-in P pass i e = arrow-typed (P .types) pass (P .nodes) (P .arrows) i e
 
 -- the terms of the nodes below n are typed
 typed-below : (P : Program) → Sound P → (n i : ℕ) → i < n → i < length (P .nodes) → hiddenAt (P .nodes) i ≡ false → Typed (termAt P i) (sourceTy P i) (targetTy P i)
 typed-below P ok zero i l h shown = absurd (not-suc-le-zero l)
 typed-below P ok (suc n) i l h shown =
     rw (term-step P i (ok .childrenBelow i h))
-    (typed-node P ok i (termAt P) (λ j p q. typed-below P ok n j (omega arith) (omega arith) q) (nodeAt (P .nodes) i) refl shown
-    (ok .childrenBelow i h) (ok .hiddenRules i h shown) (arrow-fits P (ok .typeRules) i (ok .arrowRules i h)))
+    (typed-node P ok i (termAt P) (λ j p q. typed-below P ok n j (omega arith) (omega arith) q) (nodeAt (P .nodes) i) (sourceTy P i) (targetTy P i) refl shown
+    (ok .childrenBelow i h) (ok .hiddenRules i h shown) refl refl (arrow-typed-in P (ok .typeRules) i (ok .arrowRules i h)))
 
 -- THE TERM OF EACH NODE IS TYPED BY ITS ARROW
 pub term-typed : (P : Program) → Sound P → (i : ℕ) → i < length (P .nodes) → hiddenAt (P .nodes) i ≡ false → Typed (termAt P i) (sourceTy P i) (targetTy P i)

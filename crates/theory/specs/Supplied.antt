@@ -22,9 +22,8 @@ use Rattle.scope.specs.Closing10.{closes}
 use Rattle.scope.specs.Arrows11and12.{Arrow, target}
 use Rattle.scope.specs.Witness15.{Values, valuesFrom, checkWitness}
 use Rattle.scope.specs.Input16.{checkInput}
-use Rattle.theory.specs.Tests.{clash}
-use Rattle.theory.specs.Checks.{both-passed}
-use Rattle.theory.specs.Tables.{length-snoc}
+use Rattle.exactness.specs.Table.{length-snoc}
+use Rattle.exactness.specs.Checks.{clash, both-passed}
 use Rattle.theory.specs.Values.{ReadTyped, aValue, tooFew, read-typed}
 
 module _ (types : List TypeRecord) (arrows : List Arrow) where

@@ -1,29 +1,66 @@
--- The theorems, one after the other, each stated anew and proved by name. A reader need look at nothing else in this crate but the notions that the
--- statements name: Good (Safety), El and den (Denotation), Apart and Kept (Cells), At and advance (Instructions), tightCells (Room), Ends and endAt (Correct),
--- Ran (WholeRuns), Below (NodeTerms), Fits and InTable (Arrows), Sound (Sound), told and output (Answers), BitCells and BitsAfter (BinaryCells).
-use mathlib.Core.Path.{_≡_}
+-- The main theorems, one after the other, each with a comment; the proofs stand in this crate, in `layout` (the machine on lent stores) and in
+-- `exactness` (what the checks accept). The order: meaning, the machine at any point of a run, the room that it needs, nodes of a table, whole runs, the job,
+-- the store machine, and the checks. A statement `P ↔ Q` is read "P exactly if Q".
+-- Notions that the statements name, beside the definitions of `report` and `scope`: Good (Safety), El and den (Denotation), Apart (Cells), At (Instructions),
+-- tightCells (Room), Ends and endAt (Correct), Ran (WholeRuns), Sound (Sound), told and output (Answers), BitCells and BitsAfter (BinaryCells); those of
+-- `layout` and `exactness` stand in the modules that the names begin with, or that they are taken from.
+use mathlib.Core.Path.{_≡_, refl, sym, ap, _∙_, subst}
+use mathlib.Core.Logic.{_↔_}
 use mathlib.Core.Bool.{true, false}
-use mathlib.Core.List.{List}
-use Prim.Native.Nat.{ℕ, _+_, _/_, _≤_, _<_}
-use lib.ListN.{length}
-use Rattle.limits.specs.Limits.{nodeCost}
-use Rattle.report.specs.Types.{Ty, width}
-use Rattle.report.specs.Values.{Val, HasTy, Cells, valueAt}
-use Rattle.report.specs.Canonical.{children}
-use Rattle.report.specs.Terms.{Term}
+use mathlib.Core.List.{List, _++_}
+use Prim.Native.Nat.{ℕ, _+_, _*_, _/_, _^_, _≤_, _<_}
+use lib.Dec.{ltb}
+use lib.ListN.{length, getD, take, drop}
+use Rattle.limits.specs.Limits.{nodeCost, typeWidth}
+use Rattle.report.specs.Bits.{Bit, bitsOf}
+use Rattle.report.specs.Table.{entries}
+use Rattle.report.specs.Types.{Ty, width, wordTy}
+use Rattle.report.specs.Values.{Val, HasTy, Cells, valueAt, compact, padded, value, readValue}
+use Rattle.report.specs.Naturals.{codeNatural}
+use Rattle.report.specs.Nodes.{Node}
+use Rattle.report.specs.Canonical.{children, isDone, upFrom, Canonical}
+use Rattle.report.specs.Terms.{Term, witness}
 use Rattle.report.specs.Typing.{Typed}
-use Rattle.report.specs.Meaning.{Means, stuck, eval, visits}
-use Rattle.scope.specs.Types2.{TypeRecord, tyAt}
-use Rattle.scope.specs.Nodes.{nodeAt}
-use Rattle.scope.specs.Walk6to9.{hiddenAt}
-use Rattle.scope.specs.Arrows11and12.{arrowRule}
+use Rattle.report.specs.Meaning.{Means, done, stuck, eval, visits}
+use Rattle.scope.specs.Check.{passed}
+use Rattle.scope.specs.Numbers.{tabulate, streamOf}
+use Rattle.scope.specs.Types2.{TypeRecord, typeFrom, tyAt, checkTypes}
+use Rattle.scope.specs.Naturals.{natural, readNatural}
+use Rattle.scope.specs.Nodes.{nodeAt, nodesOf}
+use Rattle.scope.specs.Reading3to5.{Table}
+use Rattle.scope.specs.Walk6to9.{hiddenAt, walkFrom, checkWalk}
+use Rattle.scope.specs.Closing10.{decode}
+use Rattle.scope.specs.Arrows11and12.{Arrow, leftAt, rightAt, isWord, arrowRule, checkArrows}
 use Rattle.scope.specs.Program.{Program, sourceTy, targetTy, termOf, termAt, whole, wholeSource, wholeTarget}
 use Rattle.scope.specs.Bounds14.{Bound, bounds, wholeCells, wholeFrames, wholeCost}
-use Rattle.scope.specs.Check.{passed}
-use Rattle.scope.specs.Reading3to5.{Table}
-use Rattle.scope.specs.Run.{Ready, Left, Ended, checkDossier, tablesOf, checkReady, run}
+use Rattle.scope.specs.Run.{Ready, Left, Ended, checkDossier, tablesOf, checkReady, run, cellsOf}
 use Rattle.scope.specs.Stages26.{lent, hashStage, runStage}
 use Rattle.scope.specs.Machine18and19.{Frame, State, Step, state, exec, machine, answer}
+use Rattle.exactness.specs.Table.{length-entries, entries-at}
+use Rattle.exactness.specs.Bits.{AllBelow, AreBits}
+use Rattle.exactness.specs.Naturals.{naturalBound, reads-code, read-is-code}
+use Rattle.exactness.specs.Values.{reads-compact, read-is-compact, Hold, value-held, length-padded, compact-fits, width-word, word-unpadded}
+use Rattle.exactness.specs.Types.{TypesPass, types-pass, pass-types, tagAt, type-step, type-fits, same-index}
+use Rattle.exactness.specs.TypeTests.{word-type, type-word}
+use Rattle.exactness.specs.NodeTyping.{NodeTyped, fromTy, toTy, InRange, ArrowsTyped}
+use Rattle.exactness.specs.Arrows.{arrow-range, arrow-typed, typed-arrow, arrows-typed, typed-arrows}
+use Rattle.exactness.specs.Walk.{Counted, walk-counted, done-below, walkCount, walkStep, count-step}
+use Rattle.exactness.specs.Hidden.{HiddenPlaces}
+use Rattle.exactness.specs.Canonical.{walk-canonical, canonical-walk}
+use Rattle.exactness.specs.Nodes as Nodes
+use Rattle.exactness.specs.Programs.{IsProgram}
+use Rattle.exactness.specs.Decoding.{decoded-is-program, program-is-decoded, decoded-nodes, one-table}
+use Rattle.layout.specs.Mach.{Mach, noFrame, empty}
+use Rattle.layout.specs.Rules.{allFree}
+use Rattle.layout.specs.Exec.{runTerm, runWhole}
+use Rattle.layout.specs.Safe.{Safe, WholeOk}
+use Rattle.layout.specs.Layout.{layout}
+use Rattle.layout.specs.Follow as Follow
+use Rattle.layout.specs.Match as Match
+use Rattle.layout.specs.Join.{join}
+use Rattle.layout.specs.Heights.{Keeps, Leaves, LeftBy, run-keeps, whole-leaves, allFree-empty}
+use Rattle.layout.specs.Whole.{whole-join, done-frees}
+use Rattle.layout.specs.Stores.{cells-lent, cells-left}
 use Rattle.theory.specs.Safety.{Good, safe}
 use Rattle.theory.specs.Denotation.{El, plain, plainly, den, eval-den}
 use Rattle.theory.specs.Visits.{visits-bound}
@@ -32,9 +69,7 @@ use Rattle.theory.specs.Cells.{Apart}
 use Rattle.theory.specs.Instructions.{At}
 use Rattle.theory.specs.Correct.{Ends, endAt, exec-correct, exec-within, ends-as}
 use Rattle.theory.specs.WholeRuns.{Ran}
-use Rattle.theory.specs.NodeTerms.{Below, term-step, bounds-alike}
-use Rattle.theory.specs.TypeTable.{TypesSound, same-index}
-use Rattle.theory.specs.Arrows.{Fits, InTable, arrow-fits, fits-arrow}
+use Rattle.theory.specs.NodeTerms.{term-step, bounds-alike}
 use Rattle.theory.specs.Sound.{Sound, term-typed}
 use Rattle.theory.specs.Programs as Programs
 use Rattle.theory.specs.Answers.{told, output}
@@ -71,34 +106,25 @@ machine-ends-as-meaning = ends-as
 pub cells-stay-bits : (size most : ℕ) (t : Term) (s : State) → BitCells (s .cells) → BitsAfter (exec size most t s)
 cells-stay-bits = exec-bits
 
--- The requirements' bounds leave that room and more, so the same holds within them.
+-- THE FIT. The machine needs `tightCells` cells beyond its frames: the requirements' table of bounds with 0 in the row of a witness.
+pub witness-takes-no-cells : (A : Ty) (v : Val) → tightCells (witness A v) ≡ 0
+unfolding tightCells
+witness-takes-no-cells A v = refl
+
+-- The requirements' bounds leave that room and more, a witness's row too.
 pub bounds-suffice : (t : Term) → tightCells t ≤ (bounds t) .cells
 bounds-suffice = tight-within
 
--- The machine within the bounds of the requirements.
+-- So the machine is the meaning within the bounds of the requirements.
 pub machine-within-bounds : {t : Term} {A B : Ty} → Typed t A B → (size most : ℕ) (rs ws : List Frame) (rd wr nx : ℕ) (c : Cells)
     → At rs rd (width A) → At ws wr (width B) → rd + width A ≤ nx → wr + width B ≤ nx → Apart rd (width A) wr (width B)
     → nx + (bounds t) .cells ≤ size → length rs + length ws + (bounds t) .frames ≤ most
     → Ends B wr nx ((bounds t) .cells) rs ws c (eval t (valueAt A c rd)) (exec size most t (state c rs ws nx))
 machine-within-bounds = exec-within
 
--- TABLES. A node's term is made of its children's terms.
-pub term-of-node : (P : Program) (i : ℕ) → Below i (children (nodeAt (P .nodes) i)) → termAt P i ≡ termOf P i (nodeAt (P .nodes) i) (termAt P)
+-- NODES. A node's term is made of its children's terms.
+pub term-of-node : (P : Program) (i : ℕ) → AllBelow i (children (nodeAt (P .nodes) i)) → termAt P i ≡ termOf P i (nodeAt (P .nodes) i) (termAt P)
 term-of-node = term-step
-
--- In a type table that keeps the rules equal types have equal indices.
-pub equal-types-equal-indices : (types : List TypeRecord) → TypesSound types → (i j : ℕ) → i < length types → j < length types → tyAt types i ≡ tyAt types j → i ≡ j
-equal-types-equal-indices = same-index
-
--- The arrow check of a node passes exactly where the report's typing of the node holds of its arrow, given those of its children.
-pub arrow-check-sound : (P : Program) → TypesSound (P .types) → (i : ℕ)
-    → arrowRule (P .types) (P .nodes) (P .arrows) i ≡ true → Fits P (sourceTy P i) (targetTy P i) (nodeAt (P .nodes) i)
-arrow-check-sound = arrow-fits
-
--- And the other way.
-pub arrow-check-complete : (P : Program) (ok : TypesSound (P .types)) (i : ℕ) → ((j : ℕ) → j < i → InTable P j) → InTable P i
-    → Below i (children (nodeAt (P .nodes) i)) → Fits P (sourceTy P i) (targetTy P i) (nodeAt (P .nodes) i) → arrowRule (P .types) (P .nodes) (P .arrows) i ≡ true
-arrow-check-complete = fits-arrow
 
 -- In a sound program every node that is not hidden has a term of its arrow's type.
 pub node-typed : (P : Program) → Sound P → (i : ℕ) → i < length (P .nodes) → hiddenAt (P .nodes) i ≡ false → Typed (termAt P i) (sourceTy P i) (targetTy P i)
@@ -123,7 +149,7 @@ module _ (P : Program) (ok : Sound P) (v : Val) (hv : HasTy v (wholeSource P)) w
   abbrev runs : Cells → Step
   runs c = machine (wholeCells P) (wholeFrames P) (whole P) (wholeSource P) (wholeTarget P) v c
 
-  -- It answers the program's meaning.
+  -- It answers the program's meaning: the output's value, or the place of the fail node (18) or the pruned branch (19) where it stops.
   pub answer-is-meaning : (c : Cells) → answer (wholeSource P) (wholeTarget P) (runs c) ≡ eval (whole P) v
   unfolding Programs.answerOf Programs.runOf
   answer-is-meaning c = Programs.run-means P ok v hv c
@@ -178,3 +204,191 @@ pub stage-says-meaning : (types nodes arrows program hashes given witness : List
     → checkReady (lent types nodes arrows program hashes given witness witnessBits input inputBits) cells frames answer ≡ passed R
     → (runStage types nodes arrows program hashes given witness witnessBits input inputBits cells frames answer) .says ≡ told (eval (whole (R .program)) (R .input))
 stage-says-meaning = stage-says
+
+-- THE STORE MACHINE is the machine as the code holds it: `lentCells` is the number of cells lent, `size` and `most` are the bounds on cells and frames
+-- that the machine of the requirements keeps to, and `layout` puts its states into the stores.
+-- The layout of a state that fits the bounds has just the cells and the records that are lent.
+pub layout-size : (lentCells size most : ℕ) (s : State) → Follow.Fits size most s
+    → (length (layout lentCells most s .bits) ≡ lentCells) × (length (layout lentCells most s .records) ≡ most)
+layout-size lentCells size most s h = (Follow.layout-cells lentCells most s, Follow.layout-records lentCells size most s h)
+
+-- A term, at any state that fits the bounds and at which the machine of the requirements is not stuck.
+module _ (lentCells size most : ℕ) (le : size ≤ lentCells) (t : Term) (s : State) (fits : Follow.Fits size most s) (goes : exec size most t s ≡ stuck → ⊥) where
+  -- The store machine's run never leaves its stores and never lacks a frame.
+  pub term-safe : Safe t (layout lentCells most s)
+  term-safe = join lentCells size most le t s fits (Follow.not-stuck (exec size most t s) goes) .safe
+
+  -- It ends as the machine of the requirements does, done or stopped at the same place, with the layout of the same state.
+  pub term-same : runTerm t (layout lentCells most s) ≡ Match.laidOut lentCells most (exec size most t s)
+  term-same = join lentCells size most le t s fits (Follow.not-stuck (exec size most t s) goes) .match .same
+
+  -- That state fits the bounds again, and every cell from the bound on is as it was.
+  pub term-ends : Match.Ends size most (s .cells) (exec size most t s)
+  term-ends = join lentCells size most le t s fits (Follow.not-stuck (exec size most t s) goes) .match .ends
+
+-- A whole run from no frame, over the first b bytes of the lent cells, of whatever contents.
+module _ (cells : List ℕ) (b size most : ℕ) (held : b ≤ length cells) (le : size ≤ 8 * b) (t : Term) (A B : Ty) (v : Val)
+    (goes : machine size most t A B v (cellsOf cells) ≡ stuck → ⊥) where
+  -- The store machine is safe.
+  pub whole-safe : WholeOk t A B v (empty (bitsOf (take b cells)) most)
+  whole-safe =
+      subst (λ l. WholeOk t A B v (empty l most)) (cells-lent cells b held)
+      (whole-join (8 * b) size most le t A B v (cellsOf cells) (Follow.not-stuck (machine size most t A B v (cellsOf cells)) goes) .safe)
+
+  -- It ends as the machine of the requirements does, with the layout of the same state.
+  pub whole-same : runWhole t A B v (empty (bitsOf (take b cells)) most) ≡ Match.laidOut (8 * b) most (machine size most t A B v (cellsOf cells))
+  whole-same =
+      subst (λ l. runWhole t A B v (empty l most) ≡ Match.laidOut (8 * b) most (machine size most t A B v (cellsOf cells))) (cells-lent cells b held)
+      (whole-join (8 * b) size most le t A B v (cellsOf cells) (Follow.not-stuck (machine size most t A B v (cellsOf cells)) goes) .match .same)
+
+  -- That state fits the bounds, and every cell from the bound on is as it was lent.
+  pub whole-ends : Match.Ends size most (cellsOf cells) (machine size most t A B v (cellsOf cells))
+  whole-ends = whole-join (8 * b) size most le t A B v (cellsOf cells) (Follow.not-stuck (machine size most t A B v (cellsOf cells)) goes) .match .ends
+
+  -- After a run that is done only the first record and the last one may hold a frame.
+  pub whole-frees : (m : Mach) → runWhole t A B v (empty (bitsOf (take b cells)) most) ≡ done m → (k : ℕ) → 0 < k → k + 1 < most
+      → getD (m .records) k noFrame ≡ noFrame
+  whole-frees m e =
+      done-frees (8 * b) size most le t A B v (cellsOf cells) (Follow.not-stuck (machine size most t A B v (cellsOf cells)) goes) m
+      (ap (λ l. runWhole t A B v (empty l most)) (cells-lent cells b held) ∙ e)
+
+-- Every run, safe or not, keeps the numbers of cells and records; one that is done also the numbers of write frames and of read frames.
+pub term-keeps : (t : Term) (m : Mach) → Keeps m (runTerm t m)
+term-keeps = run-keeps
+
+-- A whole run leaves as many cells and records as it was lent, whatever its end, and where it is done at most one write frame and one read frame.
+pub whole-keeps : (t : Term) (A B : Ty) (v : Val) (bits : List ℕ) (most : ℕ) → Leaves bits most (runWhole t A B v (empty bits most))
+whole-keeps = whole-leaves
+
+-- The last step of a run then leaves every record free.
+pub whole-clears : (bits : List ℕ) (most : ℕ) (m : Mach) → LeftBy bits most m → allFree m ≡ empty (m .bits) most
+whole-clears = allFree-empty
+
+-- The bytes of a part that hold the cells of the last state, with the bytes behind the part as they were lent, hold all cells of that state.
+pub bytes-left : (cells : List ℕ) (b : ℕ) → b ≤ length cells → (part : List ℕ) (c : Cells) (size : ℕ) → size ≤ 8 * b → bitsOf part ≡ tabulate (8 * b) c
+    → Follow.KeptFrom size (cellsOf cells) c → bitsOf (part ++ drop b cells) ≡ tabulate (8 * length cells) c
+bytes-left = cells-left
+
+-- EXACTNESS: what the checks accept is just what the report says.
+-- Tables. A table has an entry for each record.
+pub table-length : {R X : Type 0} (make : List X → R → X) (rs : List R) → length (entries make rs) ≡ length rs
+table-length make rs = length-entries make rs
+
+-- Entry i is made of record i and of the entries before it.
+pub table-entry : {R X : Type 0} (make : List X → R → X) (rs : List R) (i : ℕ) (x : X) (r : R) → i < length rs
+    → getD (entries make rs) i x ≡ make (take i (entries make rs)) (getD rs i r)
+table-entry make rs i x r l = entries-at make rs i x r l
+
+-- Naturals. From bits a natural n is read exactly if they begin with the report's code of n, and n is at least 1 and below the bound.
+pub natural-exact : (l : List Bit) (n : ℕ) (r : List Bit) → AreBits l
+    → (readNatural l ≡ natural n r) ↔ ((l ≡ codeNatural n ++ r) × (1 ≤ n) × (n < naturalBound))
+natural-exact l n r b = (
+  (λ e. (let c = read-is-code l n r b e in (c .0, c .1, c .2))),
+  (λ c. ap readNatural (c .0) ∙ reads-code n r (c .1) (c .2)),
+)
+
+-- Values. From bits a value v is read along the type A exactly if v is a value of A and they begin with the compact bits of v.
+pub value-exact : (A : Ty) (bs : List Bit) (v : Val) (rest : List Bit) → AreBits bs
+    → (readValue A bs ≡ value v rest) ↔ (HasTy v A × (bs ≡ compact v ++ rest))
+value-exact A bs v rest b = (
+  (λ e. (let r = read-is-compact A bs v rest b e in (r .0, r .1))),
+  (λ r. ap (readValue A) (r .1) ∙ reads-compact (r .0) rest),
+)
+
+-- Cells that hold the padded cells of a value hold that value, whatever the other cells are.
+pub cells-exact : {v : Val} {A : Ty} → HasTy v A → (c : Cells) (at : ℕ) → Hold c at (padded A v) → valueAt A c at ≡ v
+cells-exact h c at k = value-held h c at k
+
+-- Padded cells fill the width of the type; compact bits never pass it.
+pub sizes : {v : Val} {A : Ty} → HasTy v A → (length (padded A v) ≡ width A) × (length (compact v) ≤ width A)
+sizes h = (length-padded h, compact-fits h)
+
+-- Words. A word of depth k takes 2 ^ k cells.
+pub word-width : (k : ℕ) → width (wordTy k) ≡ 2 ^ k
+word-width k = width-word k
+
+-- Its two spellings are one.
+pub word-spelling : (k : ℕ) {v : Val} → HasTy v (wordTy k) → padded (wordTy k) v ≡ compact v
+word-spelling k h = word-unpadded k h
+
+-- Types. The check of a table passes exactly if every record keeps the rules.
+pub types-exact : (types : List TypeRecord) → (checkTypes types ≡ passed tt) ↔ TypesPass types
+types-exact types = (types-pass types, pass-types types)
+
+-- A table that passes.
+module _ (types : List TypeRecord) (check : checkTypes types ≡ passed tt) where
+  -- A record stands for the type that its tag makes of its parts' types.
+  pub type-made : (i : ℕ) → i < length types → tyAt types i ≡ typeFrom (tagAt types i) (tyAt types (leftAt types i)) (tyAt types (rightAt types i))
+  type-made i l = type-step types (types-pass types check) i l
+
+  -- No type is wider than the limit.
+  pub type-width : (i : ℕ) → i < length types → width (tyAt types i) ≤ typeWidth
+  type-width i l = type-fits types (types-pass types check) i l
+
+  -- Two records stand for one type exactly if they are one record.
+  pub type-index : (i j : ℕ) → i < length types → j < length types → (tyAt types i ≡ tyAt types j) ↔ (i ≡ j)
+  type-index i j l m = (same-index types (types-pass types check) i j l m, (λ e. ap (tyAt types) e))
+
+  -- The test of a word type holds of that very type.
+  pub word-exact : (k j : ℕ) → j < length types → (isWord types k j ≡ true) ↔ (tyAt types j ≡ wordTy k)
+  word-exact k j l = (word-type types (types-pass types check) k j, type-word types (types-pass types check) k j l)
+
+  -- Arrows. A node whose rule holds is in range and typed by the report at its arrow, whatever the nodes and arrows before it.
+  pub arrow-sound : (nodes : List Node) (arrows : List Arrow) (i : ℕ) → arrowRule types nodes arrows i ≡ true
+      → InRange types arrows i
+      × NodeTyped nodes (fromTy types arrows) (toTy types arrows) (nodeAt nodes i) (fromTy types arrows i) (toTy types arrows i)
+  arrow-sound nodes arrows i e = (arrow-range types (types-pass types check) nodes arrows i e, arrow-typed types (types-pass types check) nodes arrows i e)
+
+  -- The rule of node i holds exactly if its arrow is in range and the report types the node at it,
+  -- where its children stand before it and the arrows before it are in range.
+  pub arrow-exact : (nodes : List Node) (arrows : List Arrow) (i : ℕ) → AllBelow i (children (nodeAt nodes i))
+      → ((j : ℕ) → j < i → InRange types arrows j)
+      → (arrowRule types nodes arrows i ≡ true)
+      ↔ (InRange types arrows i
+      × NodeTyped nodes (fromTy types arrows) (toTy types arrows) (nodeAt nodes i) (fromTy types arrows i) (toTy types arrows i))
+  arrow-exact nodes arrows i b r = (
+    arrow-sound nodes arrows i,
+    (λ t. typed-arrow types (types-pass types check) nodes arrows i b r (t .0) (t .1)),
+  )
+
+  -- The whole check passes exactly if there is one arrow for each node, in range, and the report types each node at its arrow.
+  pub arrows-exact : (nodes : List Node) (arrows : List Arrow) → Nodes.NodesFit 0 nodes
+      → (checkArrows types nodes arrows ≡ passed tt) ↔ ArrowsTyped types nodes arrows
+  arrows-exact nodes arrows f = (
+    arrows-typed types (types-pass types check) nodes arrows (λ i l. Nodes.fit-at nodes i f l .below),
+    typed-arrows types (types-pass types check) nodes arrows (λ i l. Nodes.fit-at nodes i f l .below),
+  )
+
+-- The walk. With the nodes below k done it refuses or has done all nodes below a count that is no smaller.
+pub walk-count : (nodes : List Node) (i k : ℕ) → Counted k (walkFrom nodes i (upFrom 0 k))
+walk-count nodes i k = walk-counted nodes i k
+
+-- So the count is all that it has to keep.
+pub count-done : (i k : ℕ) → isDone i (upFrom 0 k) ≡ ltb i k
+count-done i k = done-below i k
+
+-- By the count: nothing where i is done; else the children's walks, then i has to be the next and allowed.
+pub walk-step : (nodes : List Node) (i k : ℕ) → i < length nodes → AllBelow i (children (nodeAt nodes i)) → walkCount nodes i k ≡ walkStep nodes i k
+walk-step nodes i k l b = count-step nodes i k l b
+
+-- The walk passes exactly if the table is canonical and its hidden nodes stand where they may.
+pub walk-exact : (nodes : List Node) → 1 ≤ length nodes → (checkWalk nodes ≡ passed tt) ↔ (Canonical nodes × HiddenPlaces nodes)
+walk-exact nodes some = (walk-canonical nodes some, (λ h. canonical-walk nodes (h .0) (h .1)))
+
+-- Decoding. It passes exactly if the program is the report's code of a table of nodes, as `IsProgram` says, and what it leaves is the layout of that table.
+pub decode-exact : (program : List ℕ) (records bytes : ℕ) (t : Table)
+    → (decode program records bytes ≡ passed t) ↔ ((ns : List Node) × IsProgram program records bytes ns × (t ≡ Nodes.layout ns))
+decode-exact program records bytes t = (
+  decoded-is-program program records bytes t,
+  (λ h. program-is-decoded program records bytes (h .0) (h .1) ∙ ap (λ (u : Table). passed u) (sym (h .2))),
+)
+
+-- The records and the bytes that are left stand for just the nodes of that table.
+pub decode-nodes : (program : List ℕ) (records bytes : ℕ) (ns : List Node) → IsProgram program records bytes ns
+    → nodesOf (streamOf program) (Nodes.layout ns .hashes) (Nodes.layout ns .records) ≡ ns
+decode-nodes program records bytes ns h = decoded-nodes program records bytes ns h
+
+-- So a program is the code of one table at most.
+pub decode-one : (program : List ℕ) (records bytes : ℕ) (ns ms : List Node) → IsProgram program records bytes ns
+    → IsProgram program records bytes ms → ns ≡ ms
+decode-one program records bytes ns ms h k = one-table program records bytes ns ms h k
