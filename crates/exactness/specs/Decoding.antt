@@ -150,7 +150,7 @@ program-some ns = omega (arith, length-append (codeNatural (length ns)) (codeNod
 
 module _ (program : List ℕ) (records bytes : ℕ) where
   -- its table stands at the front of its stream
-  program-table : (ns : List Node) → IsProgram program records bytes ns → IsTable (streamOf program) records bytes ns
+  pub program-table : (ns : List Node) → IsProgram program records bytes ns → IsTable (streamOf program) records bytes ns
   program-table ns h = record {
     formed = h .formed;
     stands = stands-closed (streamOf program) (codeProgram ns) (program-some ns) (h .coded) .0;

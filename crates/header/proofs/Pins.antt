@@ -2,7 +2,7 @@
 use mathlib.Core.Path.{_≡_, sym, _∙_}
 use mathlib.Core.List.{List}
 use Prim.Native.Nat.{ℕ}
-use Rattle.scope.specs.Header1.{count, checkHeader, opened}
+use Rattle.scope.specs.Header1.{count, checkHeader, section, opened}
 use Rattle.header.specs.Answer.{headerAnswer}
 use Rattle.header.specs.declared.HeaderAnswer.{HeaderAnswer}
 
@@ -14,3 +14,6 @@ count-of d k r q e f = e ∙ sym f
 
 pub opened-part : (d : List ℕ) (k : ℕ) (r q : List ℕ) → r ≡ opened d k → q ≡ opened d k → r ≡ q
 opened-part d k r q e f = e ∙ sym f
+
+pub section-part : (d : List ℕ) (k : ℕ) (r q : List ℕ) → r ≡ section d k → q ≡ section d k → r ≡ q
+section-part d k r q e f = e ∙ sym f

@@ -1,5 +1,5 @@
 -- The rules of the header's numbers as the check meets them, section by section, and what a header that passes tells of a section.
-use mathlib.Core.Path.{_≡_, refl, sym, ap, _∙_}
+use mathlib.Core.Path.{_≡_, refl, sym, ap, ap₂, _∙_}
 use mathlib.Core.Bool.{Bool, true, false}
 use mathlib.Core.List.{List, [], _∷_}
 use Prim.Native.Nat.{ℕ, zero, suc, _+_, _*_, _-_, _/_, _≤_, _<_}
@@ -7,7 +7,8 @@ use native.Mathlib.Numerals.{add-one}
 use native.Mathlib.Omega.{arith}
 use native.Mathlib.Decide.{decLt}
 use lib.Dec.{leb, eqb}
-use lib.ListN.{length, take, drop, List·getD-eq-default}
+use lib.ListN.{length, take, drop, length-drop, drop-of-length-le, List·getD-eq-default}
+use lib.Seq.{take-all, take-nil}
 use borrow.Author.Tests.{le-leb, lt-leb, leb-true, eq-eqb, ne-eqb, eqb-true}
 use Rattle.limits.specs.Limits.{dossierBytes, typeCount, headerBytes, typeBytes, arrowBytes, hashBytes}
 use Rattle.refusal.specs.declared.Refusal.{Refusal}
@@ -229,3 +230,20 @@ module _ (d : List ℕ) where
   pub section-none : (k : ℕ) → 6 ≤ k → [] ≡ section d k
   unfolding section
   section-none k h = ap (λ (n : ℕ). take n (drop (start d k) d)) (size-none k h)
+
+  -- what of section k lies within the dossier
+  pub section-past : (k from : ℕ) → from ≡ start d k → length d < from → [] ≡ section d k
+  unfolding section
+  section-past k from e h = sym (ap (take (size d k)) (ap (λ (p : ℕ). drop p d) (sym e) ∙ drop-of-length-le d {i = from} (omega arith)) ∙ take-nil {A = ℕ} (size d k))
+
+  pub section-rest : (k from : ℕ) → from ≡ start d k → length d < from + size d k → take (length d - from) (drop from d) ≡ section d k
+  unfolding section
+  section-rest k from e h =
+      let n : length (drop from d) ≡ length d - from = length-drop from d in
+      take-all (length d - from) (drop from d) (omega arith) ∙ sym (take-all (size d k) (drop from d) (omega arith)) ∙ ap (λ (p : ℕ). take (size d k) (drop p d)) e
+
+  pub section-whole : (k from bytes : ℕ) → from ≡ start d k → bytes ≡ size d k → take (from + bytes - from) (drop from d) ≡ section d k
+  unfolding section
+  section-whole k from bytes e z =
+      let n : from + bytes - from ≡ size d k = omega (arith, z) in
+      ap₂ (λ (n p : ℕ). take n (drop p d)) n e

@@ -7,7 +7,7 @@ ghost use lib.ListN.{length, getD};
 ghost use Rattle.limits.specs.Limits.{dossierBytes};
 ghost use Rattle.scope.specs.Check.{firstFailing};
 ghost use Rattle.scope.specs.Numbers.{be16};
-ghost use Rattle.scope.specs.Header1.{number, count, size, headerRule, checkHeader, opened};
+ghost use Rattle.scope.specs.Header1.{number, count, size, start, headerRule, checkHeader, section, opened};
 ghost use Rattle.header.specs.Answer.{headerAnswer};
 use refusal::Refusal;
 
@@ -146,6 +146,39 @@ pub fn check_header(dossier: &[u8]) -> HeaderAnswer
     }
 }
 
+// Where section k has to start: after the header and the sections before it.
+fn start(dossier: &[u8], k: usize) -> u64
+    requires { ⌜ k ≤ 6 ⌝ }
+    ensures { λ r. ⌜ (r ≡ start (now (dossier .entry)) k) × (r < 2 ^ 43) ⌝ }
+{
+    let mut place = limits::HEADER_BYTES as u64;
+    let mut j: usize = 0;
+    while j < k {
+        place += size(dossier, j);
+        j += 1;
+    }
+    place
+}
+
+// Section k of a dossier whose header was checked; of any other, what of it lies within the dossier.
+pub fn section(dossier: &[u8], k: usize) -> &[u8]
+    ensures { λ r. ⌜ now r ≡ section (now (dossier .entry)) k ⌝ }
+{
+    if SECTIONS <= k {
+        return &dossier[..0];
+    }
+    let from = start(dossier, k);
+    let to = from + size(dossier, k);
+    let length = dossier.len() as u64;
+    if length < from {
+        return &dossier[..0];
+    }
+    if length < to {
+        return &dossier[from as usize..];
+    }
+    &dossier[from as usize..to as usize]
+}
+
 // Section k, as that part of the dossier; empty where the header is refused or there is no such section.
 pub fn opened(dossier: &[u8], k: usize) -> &[u8]
     ensures { λ r. ⌜ now r ≡ opened (now (dossier .entry)) k ⌝ }
@@ -153,10 +186,5 @@ pub fn opened(dossier: &[u8], k: usize) -> &[u8]
     let HeaderAnswer::Passed = check_header(dossier) else {
         return &dossier[..0];
     };
-    if SECTIONS <= k {
-        return &dossier[..0];
-    }
-    let start = number(dossier, 2 * k + 2) as usize;
-    let end = start + size(dossier, k) as usize;
-    &dossier[start..end]
+    section(dossier, k)
 }

@@ -2,7 +2,7 @@
 -- one child may not get two different hashes (13 at the first entry unlike an earlier one of its child). And the hash of a branch.
 use mathlib.Core.Bool.{Bool, true, false, not}
 use mathlib.Core.List.{List, [], _∷_}
-use Prim.Native.Nat.{ℕ, zero, suc, _*_, _/_}
+use Prim.Native.Nat.{ℕ, zero, suc, _*_, _/_, min}
 use lib.Dec.{eqb}
 use lib.ListN.{length, getD, take, drop}
 use Rattle.limits.specs.Limits.{hashBytes}
@@ -25,6 +25,13 @@ whole bytes = elim (eqb (length bytes) hashBytes) [ true ↦ bytes | false ↦ [
 unfoldable pub entry : (given : List ℕ) → (e : ℕ) → List ℕ
 entry given e = take hashBytes (drop (hashBytes * e) given)
 
+-- a count as a place: places are numbers of 32 bits, and the last one stands for every count above it; no dossier comes near it
+abbrev pub lastPlace : ℕ
+lastPlace = 4294967295
+
+abbrev pub countPlace : ℕ → ℕ
+countPlace count = min count lastPlace
+
 module _ (nodes : List Node) (given : List ℕ) where
   -- entry e is unlike an earlier one of its child
   unfoldable pub clash : (e : ℕ) → Bool
@@ -34,7 +41,7 @@ module _ (nodes : List Node) (given : List ℕ) where
   unfoldable pub checkHashes : Check (Unit {0})
   unfolding _>>=_ require each rights clash
   checkHashes = do
-    count ← require (eqb (length given / hashBytes) (length (rights nodes))) (Hash (length given / hashBytes))
+    count ← require (eqb (length given / hashBytes) (length (rights nodes))) (Hash (countPlace (length given / hashBytes)))
     each (length (rights nodes)) (λ e. not (clash e)) Hash
 
   -- the first entry that is for node j, from entry e on; nothing where there is none

@@ -6,6 +6,7 @@ use Prim.Native.Nat.{ℕ, _*_}
 use lib.ListN.{length, getD}
 use Rattle.limits.specs.Limits.{nodeCount}
 use Rattle.scope.specs.Check.{Check, passed, refused}
+use Rattle.scope.specs.Numbers.{same}
 use Rattle.scope.specs.Nodes.{kindOf, NodeRecord, nodeRecords}
 use Rattle.scope.specs.Walk6to9.{hiddenAt}
 use Rattle.scope.specs.Stages26.{counted, numbersRule, noRecord, walkStage}
@@ -15,6 +16,7 @@ use Rattle.table.specs.declared.Checked.{Checked}
 use Rattle.table.specs.declared.Checked.the-variants.{Passed, Refused}
 use Rattle.table.specs.Answers.{recordOf, checkOf}
 use Rattle.table.specs.Lent.{lentNodes}
+use Rattle.table.specs.Walking.{inTurn}
 use Rattle.table.specs.Stage.{countedRecords, countedWalk}
 
 -- a check's answer tells it, and a record's numbers tell it
@@ -48,3 +50,9 @@ walk-stage program hashes nodes r q d e = check-tells r q (d ∙ sym e)
 
 pub hidden-at : (nodes : List ℕ) (j : ℕ) (x y : Bool) → x ≡ hiddenAt (lentNodes [] nodes) j → y ≡ hiddenAt (lentNodes [] nodes) j → x ≡ y
 hidden-at nodes j x y d e = d ∙ sym e
+
+pub same-bytes : (a b : List ℕ) (x y : Bool) → x ≡ same a b → y ≡ same a b → x ≡ y
+same-bytes a b x y d e = d ∙ sym e
+
+pub first-refusal : (a b r q : Checked) → checkOf r ≡ inTurn (checkOf a) (checkOf b) → checkOf q ≡ inTurn (checkOf a) (checkOf b) → r ≡ q
+first-refusal a b r q d e = check-tells r q (d ∙ sym e)

@@ -19,7 +19,7 @@ use Rattle.report.specs.Nodes.{Node, comp, case, pair, disconnect, injl, injr, 
 use Rattle.scope.specs.Check.{passed, require, each}
 use Rattle.scope.specs.Nodes.{nodeAt, onHidden, onDisconnect}
 use Rattle.scope.specs.Walk6to9.{hiddenAt}
-use Rattle.scope.specs.Hashes13.{rights, whole, entry, clash, checkHashes, entryFor, branchHash}
+use Rattle.scope.specs.Hashes13.{countPlace, rights, whole, entry, clash, checkHashes, entryFor, branchHash}
 use Rattle.scope.specs.Program.{valueFrom}
 use Rattle.exactness.specs.Checks as Checks
 use Rattle.exactness.specs.Checks.{not-both, both-passed, require-holds}
@@ -101,10 +101,10 @@ module _ (nodes : List Node) (given : List ℕ) where
       → HasTy (valueFrom (wordTy 8) (bitsOf (branchHash nodes given b))) (wordTy 8)
   unfolding checkHashes branchHash hiddenAt
   hash-typed e i a b q shown =
-      let p = both-passed (require (eqb (length given / hashBytes) (length (rights nodes))) (Hash (length given / hashBytes)))
+      let p = both-passed (require (eqb (length given / hashBytes) (length (rights nodes))) (Hash (countPlace (length given / hashBytes))))
       (λ count. each (length (rights nodes)) (λ e. not (clash nodes given e)) Hash) tt e in
       let count : length given / hashBytes ≡ length (rights nodes) =
-      eqb-true _ _ (require-holds (eqb (length given / hashBytes) (length (rights nodes))) (Hash (length given / hashBytes)) _ (p .1)) in
+      eqb-true _ _ (require-holds (eqb (length given / hashBytes) (length (rights nodes))) (Hash (countPlace (length given / hashBytes))) _ (p .1)) in
       let f = entry-found b 0 (rights nodes) (among-rights nodes i a b q) in
       let g : branchHash nodes given b ≡ whole (entry given (f .0)) = on-shown (nodeAt nodes b) whole (entryFor nodes given b 0 (rights nodes)) shown ∙ f .2 in
       let l : length (branchHash nodes given b) ≡ hashBytes = ap length g ∙ entry-whole (f .0) (omega (arith, f .1)) in

@@ -27,7 +27,7 @@ use Rattle.theory.specs.Answers.{told, output}
 use Rattle.theory.specs.Accepted.{Checked, tables-say, tables-output}
 
 -- eight bits a byte in a slice within the limit of a dossier
-length-stream : (bytes : List ℕ) → length bytes ≤ dossierBytes → length (streamOf bytes) ≡ 8 * length bytes
+pub length-stream : (bytes : List ℕ) → length bytes ≤ dossierBytes → length (streamOf bytes) ≡ 8 * length bytes
 unfolding streamOf
 length-stream bytes h = rw (le-ltb dossierBytes (length bytes) h, streamOf) (length-bits bytes)
 
