@@ -1,0 +1,40 @@
+-- `decode::number` meets its contract, case by case.
+use mathlib.Core.Path.{sym, ap, _∙_}
+use borrow.Author.Needs.{needs}
+use Rattle.refusal.specs.declared.Refusal.{Refusal}
+use Rattle.scope.specs.Check.{refused}
+use Rattle.bititer.specs.Answers.{gotNatural}
+use Rattle.decode.specs.Heads.{atNode}
+use Rattle.decode.proofs.number.Statement.{statement}
+use Rattle.decode.proofs.number.Tie as tie
+
+natural-requires : tie.Need-natural-requires
+natural-requires c κs = search needs
+
+enum-known-read : tie.Need-enum-known-read
+enum-known-read c = search needs
+
+enum-known-read-2 : tie.Need-enum-known-read-2
+enum-known-read-2 c = search needs
+
+natural-refusal-requires : tie.Need-natural-refusal-requires
+natural-refusal-requires c κs = search needs
+
+returns : tie.Need-returns
+unfolding atNode
+returns c = ap (atNode (c .before .before .before .before .before .args .i)) (sym (ap gotNatural (c .before .read .given .1)) ∙ c .before .before .before .natural .ensures)
+
+returns-2 : tie.Need-returns-2
+unfolding atNode
+returns-2 c = ap (λ (r : Refusal). refused r) (c .natural-refusal .ensures) ∙ ap (atNode (c .before .before .before .before .before .before .args .i)) (sym (ap gotNatural (c .before .before .read2 .given .1)) ∙ c .before .before .before .before .natural .ensures)
+
+pub number-spec : {M : Type 1} → statement M
+number-spec =
+    tie.close
+    (tie.spec
+    natural-requires
+    enum-known-read
+    enum-known-read-2
+    natural-refusal-requires
+    returns
+    returns-2)

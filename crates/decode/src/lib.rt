@@ -1,0 +1,527 @@
+// Decoding, after bit_encoding/decode.rs: program bytes into the lent node store, four 32-bit numbers a node, and the lent hash store.
+// All nodes are read first (3, 4, 5, and 17 at 3 and 4), then comes the walk (6 to 9), then the closing (10).
+// A node's bits are read by value, and only then do its bytes and its record go into the stores.
+// A refusal leaves both stores zero; else they hold the table, and zeros after it.
+use bititer::BytesFault;
+use bititer::BytesRead;
+use bititer::CodeRead;
+use bititer::NaturalFault;
+use bititer::NaturalRead;
+use refusal::Refusal;
+use table::Checked;
+use table::NodeRecord;
+ghost use mathlib.Core.Path.{_≡_};
+ghost use mathlib.Core.List.{[]};
+ghost use Prim.Native.Nat.{_+_, _*_, _-_, _/_, _^_, _<_, _≤_};
+ghost use lib.ListN.{length};
+ghost use Rattle.limits.specs.Limits.{dossierBytes, nodeCount, nodeNumbers, wordMost, failBytes};
+ghost use Rattle.refusal.specs.declared.Refusal.the-variants.{Closing};
+ghost use Rattle.scope.specs.Check.{require};
+ghost use Rattle.scope.specs.Numbers.{streamOf};
+ghost use Rattle.scope.specs.Reading3to5.{refusalAt, naturalUpTo, child, combinator as combinatorAt, wordItem, node as nodeAt, nodesFrom};
+ghost use Rattle.scope.specs.Closing10.{closes, decode as decodeAll};
+ghost use Rattle.bititer.specs.Answers.{naturalFault, bytesFault, gotBytes, stored, storing};
+ghost use Rattle.table.specs.Answers.{recordOf, checkOf};
+ghost use Rattle.decode.specs.Answers.{numberOf, sizeOf, saidOf};
+ghost use Rattle.decode.specs.Heads.{atNode, bytesAfter, withOne, twoChildren, plain, third, last, wordFrom, headOf, countIn, begunOf};
+ghost use Rattle.decode.specs.Stores.{recordPut, NodeMeans, Room, StepMeans, ReadMeans, readAll, settledOf, stoppedOf, tableOf, JudgedMeans, DecodedMeans, sizesWith, sizesOf, cleared, left, leftBy};
+
+// How many records and how many bytes of hashes were decoded.
+pub struct Sizes {
+    pub nodes: u32,
+    pub hashes: u32,
+}
+
+// What decoding says: the table's sizes, or why there is none.
+pub enum Decoded {
+    Table(Sizes),
+    Refused(Refusal),
+}
+
+// The bytes that follow a node's bits: none, the 32 of a hidden node, or the 64 of a fail node.
+enum Follows {
+    Nothing,
+    Hash,
+    Fail,
+}
+
+// A node before the bytes that follow it.
+struct NodeHead {
+    node: NodeRecord,
+    follows: Follows,
+}
+
+// A node's head with the position after it, or why there is none.
+enum HeadRead {
+    Read(NodeHead, usize),
+    Refused(Refusal),
+}
+
+// A natural, or a child's index, with the position after it, or why there is none.
+enum NumberRead {
+    Number(u32, usize),
+    Refused(Refusal),
+}
+
+// How far the stores are filled, in records and in bytes, and the position after the last node read.
+struct Progress {
+    nodes: u32,
+    hashes: u32,
+    at: usize,
+}
+
+// Progress in reading nodes, or why it stopped.
+enum Progressed {
+    Read(Progress),
+    Refused(Refusal),
+}
+
+// A number, as an index.
+fn wide(x: u32) -> usize
+    ensures { λ r. ⌜ (r ≡ x) × (r < 2 ^ 32) ⌝ }
+{
+    x as usize
+}
+
+// Why a natural of node i is refused.
+fn natural_refusal(why: NaturalFault, i: u32) -> Refusal
+    ensures { λ r. ⌜ r ≡ refusalAt i (naturalFault why) ⌝ }
+{
+    match why {
+        NaturalFault::Ended => Refusal::StreamEnded(i),
+        NaturalFault::TooLong => Refusal::Natural(i),
+        NaturalFault::OverBound => Refusal::Natural(i),
+    }
+}
+
+// Why the bytes of node i are refused.
+fn bytes_refusal(why: BytesFault, i: u32) -> Refusal
+    ensures { λ r. ⌜ r ≡ refusalAt i (bytesFault why) ⌝ }
+{
+    match why {
+        BytesFault::Ended => Refusal::StreamEnded(i),
+        BytesFault::NoRoom => Refusal::StoreShort(4),
+    }
+}
+
+// A natural of node i, at most `most`.
+fn number(program: &[u8], at: usize, most: u32, i: u32) -> NumberRead
+    ensures { λ r. ⌜ numberOf r ≡ atNode i (naturalUpTo (streamOf (now (program .entry))) most at) ⌝ }
+{
+    let read = bititer::natural(program, at, most);
+    match read {
+        NaturalRead::Read(n, next) => NumberRead::Number(n, next),
+        NaturalRead::Fault(why) => NumberRead::Refused(natural_refusal(why, i)),
+    }
+}
+
+// A child of node i, told by its distance.
+fn child(program: &[u8], i: u32, at: usize) -> NumberRead
+    ensures { λ r. ⌜ numberOf r ≡ atNode i (child (streamOf (now (program .entry))) i at) ⌝ }
+{
+    let distance = number(program, at, i, i);
+    let NumberRead::Number(d, next) = distance else {
+        return distance;
+    };
+    NumberRead::Number(i - d, next)
+}
+
+// The head of a node whose numbers are these.
+fn head(kind: u32, first: u32, second: u32, follows: Follows) -> NodeHead
+    ensures { λ r. ⌜ r ≡ plain kind first second follows ⌝ }
+{
+    NodeHead {
+        node: NodeRecord {
+            kind,
+            first,
+            second,
+            third: 0,
+        },
+        follows,
+    }
+}
+
+// A node with the one number that was read.
+fn one_number(kind: u32, read: NumberRead) -> HeadRead
+    ensures { λ r. ⌜ r ≡ withOne kind read ⌝ }
+{
+    match read {
+        NumberRead::Number(n, next) => HeadRead::Read(head(kind, n, 0, Follows::Nothing), next),
+        NumberRead::Refused(why) => HeadRead::Refused(why),
+    }
+}
+
+// A node with two children. The first distance is judged before the second is read.
+fn two_children(program: &[u8], kind: u32, i: u32, at: usize) -> HeadRead
+    ensures { λ r. ⌜ headOf (streamOf (now (program .entry))) i r ≡ atNode i (twoChildren (streamOf (now (program .entry))) kind i at) ⌝ }
+{
+    let left = child(program, i, at);
+    let NumberRead::Number(a, middle) = left else {
+        return one_number(kind, left);
+    };
+    let right = child(program, i, middle);
+    let NumberRead::Number(b, next) = right else {
+        return one_number(kind, right);
+    };
+    HeadRead::Read(head(kind, a, b, Follows::Nothing), next)
+}
+
+// Iden, unit, fail, or a disconnect with one child.
+fn third_group(program: &[u8], i: u32, held: u32, sub: u8, at: usize) -> HeadRead
+    ensures { λ r. ⌜ headOf (streamOf (now (program .entry))) i r ≡ atNode i (third (streamOf (now (program .entry))) i held sub at) ⌝ }
+{
+    if sub == 3 {
+        return one_number(table::DISCONNECT1, child(program, i, at));
+    }
+    if sub == 2 {
+        return HeadRead::Read(head(table::FAIL, held, 0, Follows::Fail), at);
+    }
+    HeadRead::Read(head(table::IDEN + sub as u32, 0, 0, Follows::Nothing), at)
+}
+
+// A witness, or a hidden node.
+fn last_group(program: &[u8], i: u32, held: u32, at: usize) -> HeadRead
+    ensures { λ r. ⌜ headOf (streamOf (now (program .entry))) i r ≡ atNode i (last (streamOf (now (program .entry))) held at) ⌝ }
+{
+    let CodeRead::Read(sub, next) = bititer::bit(program, at) else {
+        return HeadRead::Refused(Refusal::StreamEnded(i));
+    };
+    if sub == 1 {
+        return HeadRead::Read(head(table::WITNESS, 0, 0, Follows::Nothing), next);
+    }
+    HeadRead::Read(head(table::HIDDEN, held, 0, Follows::Hash), next)
+}
+
+// A combinator after its two-bit code, where the hash store holds so many bytes.
+fn combinator(program: &[u8], i: u32, held: u32, code: u8, at: usize) -> HeadRead
+    ensures { λ r. ⌜ headOf (streamOf (now (program .entry))) i r ≡ atNode i (combinatorAt (streamOf (now (program .entry))) i held code at) ⌝ }
+{
+    if 3 <= code {
+        return last_group(program, i, held, at);
+    }
+    let CodeRead::Read(sub, next) = bititer::two_bits(program, at) else {
+        return HeadRead::Refused(Refusal::StreamEnded(i));
+    };
+    if code == 0 {
+        return two_children(program, table::COMP + sub as u32, i, next);
+    }
+    if code == 1 {
+        return one_number(table::INJL + sub as u32, child(program, i, next));
+    }
+    third_group(program, i, held, sub, next)
+}
+
+// How many bits a word of n has.
+fn word_bits(n: u32) -> usize
+    requires { ⌜ (1 ≤ n) × (n ≤ wordMost) ⌝ }
+    ensures { λ r. ⌜ (r ≡ 2 ^ (n - 1)) × (r < 2 ^ wordMost) ⌝ }
+{
+    1 << (n - 1)
+}
+
+// A word of n whose bits begin at a position.
+fn word_from(program: &[u8], i: u32, n: u32, first: usize) -> HeadRead
+    requires { ⌜ (1 ≤ n) × (n ≤ wordMost) × (first ≤ 8 * dossierBytes) × (length (now program) ≤ dossierBytes) ⌝ }
+    ensures { λ r. ⌜ headOf (streamOf (now (program .entry))) i r ≡ atNode i (wordFrom (streamOf (now (program .entry))) n first) ⌝ }
+{
+    let end = first + word_bits(n);
+    if program.len() < (end + 7) / 8 {
+        return HeadRead::Refused(Refusal::StreamEnded(i));
+    }
+    HeadRead::Read(head(table::WORD, n, first as u32, Follows::Nothing), end)
+}
+
+// A word after its two bits.
+fn word(program: &[u8], i: u32, at: usize) -> HeadRead
+    ensures { λ r. ⌜ headOf (streamOf (now (program .entry))) i r ≡ atNode i (wordItem (streamOf (now (program .entry))) at) ⌝ }
+{
+    let size = number(program, at, limits::WORD_MOST, i);
+    let NumberRead::Number(n, first) = size else {
+        return one_number(table::WORD, size);
+    };
+    word_from(program, i, n, first)
+}
+
+// The head of node i, where the hash store holds so many bytes.
+fn node_head(program: &[u8], i: u32, held: u32, at: usize) -> HeadRead
+    ensures { λ r. ⌜ headOf (streamOf (now (program .entry))) i r ≡ atNode i (nodeAt (streamOf (now (program .entry))) i held at) ⌝ }
+{
+    let CodeRead::Read(other, second) = bititer::bit(program, at) else {
+        return HeadRead::Refused(Refusal::StreamEnded(i));
+    };
+    if other == 0 {
+        let CodeRead::Read(code, next) = bititer::two_bits(program, second) else {
+            return HeadRead::Refused(Refusal::StreamEnded(i));
+        };
+        return combinator(program, i, held, code, next);
+    }
+    let CodeRead::Read(jet, next) = bititer::bit(program, second) else {
+        return HeadRead::Refused(Refusal::StreamEnded(i));
+    };
+    if jet == 1 {
+        return HeadRead::Refused(Refusal::Jet(i));
+    }
+    word(program, i, next)
+}
+
+// How many bytes follow.
+fn bytes_of(follows: Follows) -> u32
+    ensures { λ r. ⌜ r ≡ sizeOf follows ⌝ }
+{
+    match follows {
+        Follows::Nothing => 0,
+        Follows::Hash => limits::HASH_BYTES as u32,
+        Follows::Fail => limits::FAIL_BYTES as u32,
+    }
+}
+
+// The bytes that follow a node's bits, into the hash store from `held` on.
+fn store_bytes(
+    program: &[u8],
+    follows: Follows,
+    at: usize,
+    hashes: &mut [u8],
+    held: usize,
+) -> BytesRead
+    requires { ⌜ held ≤ length (now hashes) ⌝ }
+    ensures { λ r. ⌜ stored (gotBytes r) (now (hashes .exit)) ≡ storing (bytesAfter (streamOf (now (program .entry))) follows at) (now (hashes .entry)) held ⌝ }
+{
+    match follows {
+        Follows::Nothing => BytesRead::Read(at),
+        Follows::Hash => bititer::hash_bytes(program, at, hashes, held),
+        Follows::Fail => bititer::fail_bytes(program, at, hashes, held),
+    }
+}
+
+// Node i whole: its head, with the position after its bytes, which stand in the hash store from `held` on.
+fn read_node(program: &[u8], hashes: &mut [u8], i: u32, held: u32, at: usize) -> HeadRead
+    requires { ⌜ held ≤ length (now hashes) ⌝ }
+    ensures { λ r. ⌜ NodeMeans (streamOf (now (program .entry))) i held at (now (hashes .entry)) r (now (hashes .exit)) ⌝ }
+{
+    let read = node_head(program, i, held, at);
+    let HeadRead::Read(h, middle) = read else {
+        return read;
+    };
+    let follows = h.follows;
+    let bytes = store_bytes(program, follows, middle, hashes, wide(held));
+    match bytes {
+        BytesRead::Read(next) => HeadRead::Read(h, next),
+        BytesRead::Fault(why) => HeadRead::Refused(bytes_refusal(why, i)),
+    }
+}
+
+// A record into the node store.
+fn put_record(nodes: &mut [u32], i: u32, r: NodeRecord)
+    requires { ⌜ nodeNumbers * i + nodeNumbers ≤ length (now nodes) ⌝ }
+    ensures { λ _. ⌜ now (nodes .exit) ≡ recordPut (now (nodes .entry)) i (recordOf r) ⌝ }
+{
+    let at = limits::NODE_NUMBERS * wide(i);
+    nodes[at] = r.kind;
+    nodes[at + 1] = r.first;
+    nodes[at + 2] = r.second;
+    nodes[at + 3] = r.third;
+}
+
+// The next node, into both stores.
+fn next_node(program: &[u8], nodes: &mut [u32], hashes: &mut [u8], done: Progress) -> Progressed
+    requires { ⌜ Room (now nodes) (now hashes) done ⌝ }
+    ensures { λ r. ⌜ StepMeans (streamOf (now (program .entry))) (now (nodes .entry)) (now (hashes .entry)) done r (now (nodes .exit)) (now (hashes .exit)) ⌝ }
+{
+    let i = done.nodes;
+    let read = read_node(program, hashes, i, done.hashes, done.at);
+    match read {
+        HeadRead::Read(h, next) => {
+            let node = h.node;
+            let follows = h.follows;
+            put_record(nodes, i, node);
+            Progressed::Read(Progress {
+                nodes: i + 1,
+                hashes: done.hashes + bytes_of(follows),
+                at: next,
+            })
+        }
+        HeadRead::Refused(why) => Progressed::Refused(why),
+    }
+}
+
+// So many nodes from a position on, into both stores.
+fn read_nodes(
+    program: &[u8],
+    nodes: &mut [u32],
+    hashes: &mut [u8],
+    count: u32,
+    first: usize,
+) -> Progressed
+    requires { ⌜ (1 ≤ count) × (count ≤ nodeCount) × (nodeNumbers * count ≤ length (now nodes)) ⌝ }
+    ensures { λ r. ⌜ ReadMeans (nodesFrom (streamOf (now (program .entry))) (length (now (hashes .entry))) count 0 [] [] first) r (now (nodes .exit)) (now (hashes .exit)) ⌝ }
+{
+    let mut done = Progress {
+        nodes: 0,
+        hashes: 0,
+        at: first,
+    };
+    while done.nodes < count {
+        let step = next_node(program, nodes, hashes, done);
+        let Progressed::Read(after) = step else {
+            return step;
+        };
+        done = after;
+    }
+    Progressed::Read(done)
+}
+
+// The count of nodes (3, 4), which the node store has room for (17 at 3).
+fn read_count(program: &[u8], room: usize) -> NumberRead
+    ensures { λ r. ⌜ numberOf r ≡ countIn (streamOf (now (program .entry))) room ⌝ }
+{
+    let count = number(program, 0, limits::NODE_COUNT as u32, 0);
+    let NumberRead::Number(n, next) = count else {
+        return count;
+    };
+    if room < wide(n) {
+        return NumberRead::Refused(Refusal::StoreShort(3));
+    }
+    NumberRead::Number(n, next)
+}
+
+// After the count, before the first node.
+fn begun(count: NumberRead) -> Progressed
+    ensures { λ r. ⌜ r ≡ begunOf count ⌝ }
+{
+    match count {
+        NumberRead::Number(_, next) => Progressed::Read(Progress {
+            nodes: 0,
+            hashes: 0,
+            at: next,
+        }),
+        NumberRead::Refused(why) => Progressed::Refused(why),
+    }
+}
+
+// All nodes, into both stores, of a program that is not too long (1).
+fn read_table(program: &[u8], nodes: &mut [u32], hashes: &mut [u8]) -> Progressed
+    ensures { λ r. ⌜ ReadMeans (readAll (now (program .entry)) (length (now (nodes .entry)) / nodeNumbers) (length (now (hashes .entry)))) r (now (nodes .exit)) (now (hashes .exit)) ⌝ }
+{
+    if limits::DOSSIER_BYTES < program.len() {
+        return Progressed::Refused(Refusal::Header(0));
+    }
+    let count = read_count(program, nodes.len() / limits::NODE_NUMBERS);
+    let NumberRead::Number(n, first) = count else {
+        return begun(count);
+    };
+    read_nodes(program, nodes, hashes, n, first)
+}
+
+// So many records and so many bytes.
+fn sized(nodes: u32, hashes: u32) -> Sizes
+    ensures { λ r. ⌜ r ≡ sizesWith nodes hashes ⌝ }
+{
+    Sizes { nodes, hashes }
+}
+
+// A table of these sizes that passed a check, or why it did not.
+fn settled(check: Checked, sizes: Sizes) -> Decoded
+    ensures { λ r. ⌜ r ≡ settledOf check sizes ⌝ }
+{
+    match check {
+        Checked::Passed => Decoded::Table(sizes),
+        Checked::Refused(why) => Decoded::Refused(why),
+    }
+}
+
+// No whole byte is left after the last node, and the padding is zero (10).
+fn closing(program: &[u8], done: Progress) -> Checked
+    ensures { λ r. ⌜ checkOf r ≡ require (closes (streamOf (now (program .entry))) (done .at)) (Closing (done .nodes)) ⌝ }
+{
+    if bititer::closes(program, done.at) {
+        return Checked::Passed;
+    }
+    Checked::Refused(Refusal::Closing(done.nodes))
+}
+
+// The walk, and then the closing, of a table that was read.
+fn judged(program: &[u8], nodes: &[u32], hashes: &[u8], done: Progress) -> Decoded
+    requires { ⌜ (length (now nodes) ≡ nodeNumbers * done .nodes) × (1 ≤ done .nodes) × (done .nodes ≤ nodeCount) ⌝ }
+    ensures { λ r. ⌜ JudgedMeans (now (program .entry)) (tableOf (now (nodes .entry)) (now (hashes .entry)) done) done r ⌝ }
+{
+    let sizes = sized(done.nodes, done.hashes);
+    let walked = table::walk(nodes, hashes);
+    let closed = closing(program, done);
+    let Checked::Passed = walked else {
+        return settled(walked, sizes);
+    };
+    let Checked::Passed = closed else {
+        return settled(closed, sizes);
+    };
+    Decoded::Table(sizes)
+}
+
+// The sizes that were read, or why reading stopped.
+fn stopped(read: Progressed) -> Decoded
+    ensures { λ r. ⌜ r ≡ stoppedOf read ⌝ }
+{
+    match read {
+        Progressed::Read(done) => Decoded::Table(sized(done.nodes, done.hashes)),
+        Progressed::Refused(why) => Decoded::Refused(why),
+    }
+}
+
+// Reading, walk and closing. The stores hold what was read, and are not cleared yet.
+fn checked_table(program: &[u8], nodes: &mut [u32], hashes: &mut [u8]) -> Decoded
+    ensures { λ r. ⌜ DecodedMeans (decodeAll (now (program .entry)) (length (now (nodes .entry)) / nodeNumbers) (length (now (hashes .entry)))) r (now (nodes .exit)) (now (hashes .exit)) ⌝ }
+{
+    let read = read_table(program, nodes, hashes);
+    let Progressed::Read(done) = read else {
+        return stopped(read);
+    };
+    judged(
+        program,
+        &nodes[..limits::NODE_NUMBERS * wide(done.nodes)],
+        &hashes[..wide(done.hashes)],
+        done,
+    )
+}
+
+// How much of the stores is kept: the table, or nothing.
+fn sizes_of(answer: Decoded) -> Sizes
+    ensures { λ r. ⌜ r ≡ sizesOf answer ⌝ }
+{
+    match answer {
+        Decoded::Table(sizes) => sizes,
+        Decoded::Refused(_) => sized(0, 0),
+    }
+}
+
+// Zeros in a store of numbers, from an index on.
+pub fn clear_numbers(store: &mut [u32], from: usize)
+    ensures { λ _. ⌜ now (store .exit) ≡ cleared (now (store .entry)) from ⌝ }
+{
+    let mut j = from;
+    while j < store.len() {
+        store[j] = 0;
+        j += 1;
+    }
+}
+
+// Zeros in a store of bytes, from an index on.
+pub fn clear_bytes(store: &mut [u8], from: usize)
+    ensures { λ _. ⌜ now (store .exit) ≡ cleared (now (store .entry)) from ⌝ }
+{
+    let mut j = from;
+    while j < store.len() {
+        store[j] = 0;
+        j += 1;
+    }
+}
+
+// A program's bytes into the lent stores.
+pub fn decode(program: &[u8], nodes: &mut [u32], hashes: &mut [u8]) -> Decoded
+    ensures { λ r. ⌜ left (saidOf r) (now (nodes .exit)) (now (hashes .exit))
+        ≡ leftBy (decodeAll (now (program .entry)) (length (now (nodes .entry)) / nodeNumbers) (length (now (hashes .entry)))) (now (nodes .entry)) (now (hashes .entry)) ⌝ }
+{
+    let answer = checked_table(program, nodes, hashes);
+    let kept = sizes_of(answer);
+    clear_numbers(nodes, limits::NODE_NUMBERS * wide(kept.nodes));
+    clear_bytes(hashes, wide(kept.hashes));
+    answer
+}
