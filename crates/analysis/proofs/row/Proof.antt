@@ -1,0 +1,34 @@
+-- `analysis::row` meets its contract.
+use mathlib.Core.Path.{_∙_}
+use Prim.Native.Nat.{_-_}
+use native.Mathlib.Omega.{arith}
+use borrow.Author.Needs.{needs}
+use Rattle.scope.specs.Nodes.{nodeRecords}
+use Rattle.scope.specs.Arrows11and12.{arrowRecords}
+use Rattle.analysis.specs.Held.{plain}
+use Rattle.analysis.proofs.RowKinds.{row-child}
+use Rattle.analysis.proofs.row.Statement.{statement}
+use Rattle.analysis.proofs.row.Tie as tie
+
+two-row-requires : tie.Need-two-row-requires
+two-row-requires c κs = search needs
+
+returns : tie.Need-returns
+returns c = c .two-row .ensures
+
+child-row-requires : tie.Need-child-row-requires
+child-row-requires c κs = search needs
+
+returns-2 : tie.Need-returns-2
+returns-2 c = c .child-row .ensures ∙ row-child (c .before .before .before .before .before .before .before .before .args .widths .now) (nodeRecords (c .before .before .before .before .before .before .before .before .args .nodes .now)) (arrowRecords (c .before .before .before .before .before .before .before .before .args .arrows .now)) (c .before .before .before .before .before .before .before .before .args .i) (c .before .before .before .before .before .before .before .before .args .r .first) (c .before .before .before .before .before .before .before .before .args .r .second) (plain (c .before .before .before .before .before .before .before .before .args .left)) (plain (c .before .before .before .before .before .before .before .before .args .right)) (c .before .before .before .before .before .before .before .before .args .r .kind) (omega arith) (omega arith)
+
+leaf-row-requires : tie.Need-leaf-row-requires
+leaf-row-requires c κs = search needs
+
+returns-3 : tie.Need-returns-3
+returns-3 c = c .leaf-row .ensures (nodeRecords (c .before .before .before .before .before .before .before .before .args .nodes .now)) (c .before .before .before .before .before .before .before .before .args .r .first) (c .before .before .before .before .before .before .before .before .args .r .second) (plain (c .before .before .before .before .before .before .before .before .args .left)) (plain (c .before .before .before .before .before .before .before .before .args .right))
+
+pub row-spec : {M : Type 1} → statement M
+row-spec =
+    tie.close
+    (tie.spec two-row-requires returns child-row-requires returns-2 leaf-row-requires returns-3)

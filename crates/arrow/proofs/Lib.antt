@@ -1,0 +1,11 @@
+pub mod Tests
+pub mod Words
+pub mod Passes
+pub mod KindNumbers
+pub mod Rights
+pub mod Stages
+pub mod Alike
+pub mod Lent
+pub mod Passed
+pub mod Typing
+pub mod Pins

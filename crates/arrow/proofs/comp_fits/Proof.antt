@@ -1,0 +1,27 @@
+-- `arrow::comp_fits` meets its contract.
+use mathlib.Core.Path.{ap}
+use borrow.Author.Needs.{needs}
+use Rattle.scope.specs.Arrows11and12.{source, target, goes, kindRule}
+use Rattle.arrow.proofs.comp_fits.Statement.{statement}
+use Rattle.arrow.proofs.comp_fits.Tie as tie
+
+arrow-at-requires : tie.Need-arrow-at-requires
+arrow-at-requires c κs = search needs
+
+arrow-at-requires-2 : tie.Need-arrow-at-requires-2
+arrow-at-requires-2 c κs = search needs
+
+all2-requires : tie.Need-all2-requires
+all2-requires c κs = search needs
+
+all2-requires-2 : tie.Need-all2-requires-2
+all2-requires-2 c κs = search needs
+
+returns : tie.Need-returns
+unfolding kindRule source target goes
+returns c = λ ts ns. cc (ap (λ a. a .source) (c .before .before .before .before .before .before .before .arrow-at .ensures), ap (λ a. a .target) (c .before .before .before .before .before .before .before .arrow-at .ensures), ap (λ a. a .source) (c .before .before .before .before .before .before .arrow-at2 .ensures), ap (λ a. a .target) (c .before .before .before .before .before .before .arrow-at2 .ensures))
+
+pub comp-fits-spec : {M : Type 1} → statement M
+comp-fits-spec =
+    tie.close
+    (tie.spec arrow-at-requires arrow-at-requires-2 all2-requires all2-requires-2 returns)

@@ -1,0 +1,59 @@
+-- `arrow::disconnect_fits` meets its contract.
+use mathlib.Core.Path.{refl, _∙_}
+use borrow.Author.Needs.{needs}
+use Rattle.scope.specs.Arrows11and12.{arrowRecords}
+use Rattle.scope.specs.Types2.{typeRecords}
+use Rattle.arrow.proofs.KindNumbers.{disconnect-is}
+use Rattle.arrow.proofs.Tests.{all-five}
+use Rattle.arrow.proofs.disconnect_fits.Statement.{statement}
+use Rattle.arrow.proofs.disconnect_fits.Tie as tie
+
+arrow-at-requires : tie.Need-arrow-at-requires
+arrow-at-requires c κs = search needs
+
+arrow-at-requires-2 : tie.Need-arrow-at-requires-2
+arrow-at-requires-2 c κs = search needs
+
+left-of-requires : tie.Need-left-of-requires
+left-of-requires c κs = search needs
+
+left-of-requires-2 : tie.Need-left-of-requires-2
+left-of-requires-2 c κs = search needs
+
+right-of-requires : tie.Need-right-of-requires
+right-of-requires c κs = search needs
+
+is-product-requires : tie.Need-is-product-requires
+is-product-requires c κs = search needs
+
+is-word-requires : tie.Need-is-word-requires
+is-word-requires c κs = search needs
+
+is-product-requires-2 : tie.Need-is-product-requires-2
+is-product-requires-2 c κs = search needs
+
+is-product-requires-3 : tie.Need-is-product-requires-3
+is-product-requires-3 c κs = search needs
+
+all5-requires : tie.Need-all5-requires
+all5-requires c κs = search needs
+
+returns : tie.Need-returns
+returns c = λ ns. c .all5 .ensures ∙ all-five (c .before .before .before .before .before .is-product .ensures) (c .before .before .before .before .is-word .ensures) (c .before .before .before .is-product2 .ensures) refl (c .before .is-product3 .ensures)
+    ∙ disconnect-is (typeRecords (c .before .before .before .before .before .before .before .before .before .before .before .before .before .args .types .now)) ns (arrowRecords (c .before .before .before .before .before .before .before .before .before .before .before .before .before .args .arrows .now)) (c .before .before .before .before .before .before .before .before .before .before .before .before .before .args .from) (c .before .before .before .before .before .before .before .before .before .before .before .before .before .args .to) (c .before .before .before .before .before .before .before .before .before .before .before .before .before .args .s) (c .before .before .before .before .before .before .before .before .before .before .before .before .before .args .t) _ _ _ _ _ (c .before .before .before .before .before .before .before .before .before .before .arrow-at .ensures) (c .before .before .before .before .before .before .before .before .before .arrow-at2 .ensures) (c .before .before .before .before .before .before .before .before .left-of .ensures) (c .before .before .before .before .before .before .before .left-of2 .ensures) (c .before .before .before .before .before .before .right-of .ensures)
+
+pub disconnect-fits-spec : {M : Type 1} → statement M
+disconnect-fits-spec =
+    tie.close
+    (tie.spec
+    arrow-at-requires
+    arrow-at-requires-2
+    left-of-requires
+    left-of-requires-2
+    right-of-requires
+    is-product-requires
+    is-word-requires
+    is-product-requires-2
+    is-product-requires-3
+    all5-requires
+    returns)

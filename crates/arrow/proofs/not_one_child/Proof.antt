@@ -1,0 +1,15 @@
+-- `arrow::not_one_child` meets its contract.
+use borrow.Author.Needs.{needs}
+use Rattle.table.specs.Answers.{recordOf}
+use Rattle.arrow.proofs.KindNumbers.{one-child-is}
+use Rattle.arrow.proofs.not_one_child.Statement.{statement}
+use Rattle.arrow.proofs.not_one_child.Tie as tie
+
+record-at-requires : tie.Need-record-at-requires
+record-at-requires c κs = search needs
+
+returns : tie.Need-returns
+returns c = λ ts as′. one-child-is ts (c .before .before .before .args .nodes .now) as′ (c .before .before .before .args .i) (recordOf (c .before .record-at .result)) (c .before .record-at .ensures)
+
+pub not-one-child-spec : {M : Type 1} → statement M
+not-one-child-spec = tie.close (tie.spec record-at-requires returns)

@@ -1,0 +1,27 @@
+-- `arrow::take_fits` meets its contract.
+use mathlib.Core.Path.{ap}
+use borrow.Author.Needs.{needs}
+use Rattle.scope.specs.Arrows11and12.{source, target, kindRule}
+use Rattle.arrow.proofs.take_fits.Statement.{statement}
+use Rattle.arrow.proofs.take_fits.Tie as tie
+
+arrow-at-requires : tie.Need-arrow-at-requires
+arrow-at-requires c κs = search needs
+
+right-of-requires : tie.Need-right-of-requires
+right-of-requires c κs = search needs
+
+is-product-requires : tie.Need-is-product-requires
+is-product-requires c κs = search needs
+
+all2-requires : tie.Need-all2-requires
+all2-requires c κs = search needs
+
+returns : tie.Need-returns
+unfolding kindRule source target
+returns c = λ ns. cc (ap (λ a. a .source) (c .before .before .before .before .arrow-at .ensures), ap (λ a. a .target) (c .before .before .before .before .arrow-at .ensures))
+
+pub take-fits-spec : {M : Type 1} → statement M
+take-fits-spec =
+    tie.close
+    (tie.spec arrow-at-requires right-of-requires is-product-requires all2-requires returns)
