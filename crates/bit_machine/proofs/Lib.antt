@@ -1,0 +1,16 @@
+pub mod Bits
+pub mod Words
+pub mod Lookup
+pub mod Types
+pub mod Frames
+pub mod Needs
+pub mod Nodes
+pub mod Lent
+pub mod ByKind
+pub mod Cycle
+pub mod Written
+pub mod Output
+pub mod Whole
+pub mod Ends
+pub mod Stage
+pub mod Pins

@@ -1,0 +1,68 @@
+use borrow.Author.Needs.{needs}
+use Rattle.bit_machine.proofs.values.write_hash.Statement.{statement}
+use Rattle.bit_machine.proofs.values.write_hash.Tie as tie
+use Rattle.bit_machine.proofs.values.write_hash.Reads as reads
+use Rattle.bit_machine.proofs.values.write_hash.Lts as lts
+use Rattle.bit_machine.proofs.rules.write_bits.Reads as write-bits-reads
+use Rattle.bit_machine.proofs.tables.wide.Reads as wide-reads
+use Rattle.branch.proofs.branch_hash.Reads as branch-hash-reads
+use native.Mathlib.Omega.{arith}
+use mathlib.Core.Path.{_≡_, refl, sym, ap, _∙_, subst}
+use mathlib.Core.List.{List, []}
+use Prim.Native.Nat.{ℕ}
+use lib.ListN.{length}
+use Rattle.layout.specs.Safe.{length-bitsOf}
+use Rattle.layout.specs.Rules.{bitsWritten}
+use Rattle.scope.specs.Hashes13.{branchHash}
+use Rattle.bit_machine.proofs.Written.{hash-short, hash-count, hash-bits, written-as}
+
+wide-requires : tie.Need-wide-requires
+wide-requires c κs = search needs
+
+branch-hash-requires : tie.Need-branch-hash-requires
+branch-hash-requires c κs = search needs
+
+cast-n : tie.Need-cast-n
+cast-n c =
+    let short = hash-short (c .branch-hash .result .now) _ _ _ (c .branch-hash .ensures ∙ ap (branchHash _ _) (c .before .wide .ensures .0)) in
+    omega arith
+
+mul-n : tie.Need-mul-n
+mul-n c =
+    let short = hash-short (c .branch-hash .result .now) _ _ _ (c .branch-hash .ensures ∙ ap (branchHash _ _) (c .before .wide .ensures .0)) in
+    omega arith
+
+write-bits-requires : tie.Need-write-bits-requires
+write-bits-requires c κs =
+    let start = c .before .before .before .before .before .before .before .before .before in
+    let wide-there = c .before .before .before .wide in
+    let e = hash-count (c .before .before .branch-hash .ensures ∙ ap (branchHash _ _) (wide-there .ensures .0)) in
+    let short = hash-short (c .before .before .branch-hash .result .now) _ _ _ (c .before .before .branch-hash .ensures ∙ ap (branchHash _ _) (wide-there .ensures .0)) in (
+      start .pre .0,
+      (
+        (omega (arith, length-bitsOf (c .before .before .branch-hash .result .now)), omega arith),
+        λ pos. rw e (start .pre .1 (rw e at pos)),
+      ),
+    )
+
+same-length : tie.Need-same-length
+same-length c = search needs
+
+same-length-2 : tie.Need-same-length-2
+same-length-2 c = search needs
+
+returns : tie.Need-returns
+returns c = c .before .before .before .before .write-bits .ensures ∙ written-as _ (hash-bits (c .before .before .before .before .before .before .before .branch-hash .ensures ∙ ap (branchHash _ _) (c .before .before .before .before .before .before .before .before .wide .ensures .0)))
+
+pub write-hash-spec : {M : Type 1} → statement M
+write-hash-spec =
+    tie.close
+    (tie.spec
+    wide-requires
+    branch-hash-requires
+    cast-n
+    mul-n
+    write-bits-requires
+    same-length
+    same-length-2
+    returns)

@@ -1,0 +1,4 @@
+pub mod Machine
+pub mod Lookup
+pub mod Engine
+pub mod Whole

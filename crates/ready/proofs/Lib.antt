@@ -1,0 +1,11 @@
+pub mod FirstBits
+pub mod Positions
+pub mod Passes
+pub mod Shown
+pub mod Ends
+pub mod Walks
+pub mod Verdicts
+pub mod Supplied
+pub mod Answered
+pub mod Told
+pub mod Pins
