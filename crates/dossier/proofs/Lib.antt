@@ -1,0 +1,9 @@
+pub mod Records
+pub mod Refusing
+pub mod Decoded
+pub mod Front
+pub mod Settled
+pub mod Job
+pub mod Steps
+pub mod Demands
+pub mod Pins

@@ -1,0 +1,24 @@
+-- A store is settled by an answer: kept as it is, or cleared.
+use mathlib.Core.Path.{_≡_, refl, sym, ap, _∙_}
+use mathlib.Core.Bool.{true, false}
+use mathlib.Core.List.{List}
+use Prim.Native.Nat.{ℕ, _-_}
+use native.Mathlib.Omega.{arith}
+use lib.ListN.{length}
+use Rattle.refusal.specs.declared.Answer.{Answer}
+use Rattle.scope.specs.Numbers.{zeros}
+use Rattle.decode.specs.Stores.{cleared}
+use Rattle.dossier.specs.Ends.{keeps, settled}
+
+-- a store that is cleared from its start holds zeros alone
+pub all-cleared : (store : List ℕ) → cleared store 0 ≡ zeros (length store)
+all-cleared store = ap zeros (let e : length store - 0 ≡ length store = omega arith in e)
+
+module _ (said : Answer) (store : List ℕ) where
+  pub settled-kept : true ≡ keeps said → store ≡ settled said store
+  unfolding settled
+  settled-kept e = rw (sym e, settled)
+
+  pub settled-cleared : false ≡ keeps said → cleared store 0 ≡ settled said store
+  unfolding settled
+  settled-cleared e = rw (sym e, settled) (all-cleared store)

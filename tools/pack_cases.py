@@ -1,0 +1,130 @@
+# Packs dossiers with known answers for the programs that replay them. vectors/cases/README.md says what stands in a record. The same bytes come out each time.
+#
+#   pack_cases.py cases CASES CRATES        edges.tsv and random.tsv of the folder CASES for crate replay, stores.tsv for crate stores_test
+#   pack_cases.py original ORIGINAL CRATES  bounds.tsv of the folder vectors/original for crate replay, outputs.tsv for crate stores_test
+import sys
+
+# The most of each store that a run may ask: node numbers, hash bytes, cell bytes, frame numbers, answer bytes.
+LARGEST = [8192, 32768, 32768, 3072, 4096]
+NOT_TOLD = 255
+NO_ANSWER, NO_BOUNDS = [NOT_TOLD, 0], [NOT_TOLD, 0, 0, 0]
+LIMITS = (262144, 1024, 50000000)
+
+
+def rows(path):
+    return [line.rstrip("\n").split("\t") for line in open(path) if not line.startswith("#")]
+
+
+def number32(n):
+    return n.to_bytes(4, "big")
+
+
+# A number below 254 is a byte; 254 stands before one of 2 bytes, 255 before one of 4.
+def short_number(n):
+    if n < 254:
+        return bytes([n])
+    return b"\xfe" + n.to_bytes(2, "big") if n < 1 << 16 else b"\xff" + number32(n)
+
+
+def from_hex(text):
+    return b"" if text in ("", "-") else bytes.fromhex(text)
+
+
+# A store of numbers, 8 hex digits each.
+def number_list(text):
+    data = from_hex(text)
+    return b"".join(short_number(int.from_bytes(data[i:i + 4], "big")) for i in range(0, len(data), 4))
+
+
+def packed_bits(bits):
+    bits += "0" * (-len(bits) % 8)
+    return bytes(int(bits[i:i + 8], 2) for i in range(0, len(bits), 8))
+
+
+# The two numbers of an answer line, and its output.
+def answer(line):
+    word, *rest = line.split()
+    if word == "refused":
+        return [int(rest[0]), int(rest[1])], b""
+    return [0, int(rest[0])], packed_bits("".join(rest[1:]))
+
+
+# The four numbers of a column of bounds.
+def bounds(column):
+    words = column.split()
+    if words[0] == "refused":
+        return [int(words[1]), int(words[2]), 0, 0]
+    return [0, int(words[1]), int(words[3]), int(words[5])]
+
+
+def record(numbers, parts):
+    body = b"".join(map(number32, numbers + [len(part) for part in parts])) + b"".join(parts)
+    return number32(len(body)) + body
+
+
+# A case with its answer and bounds.
+def plain(name, said, bound, output, dossier):
+    return record(said + bound, [name.encode(), dossier, output])
+
+
+# A case in lent stores: their old contents, their sizes and what is told of them afterwards.
+def lent(name, said, fill, sizes, output, dossier, stores):
+    return record(said + [fill] + sizes, [name.encode(), dossier, output] + stores)
+
+
+def edge(row):
+    name, line, column, dossier = row
+    said, output = answer(line)
+    bound = bounds(column)
+    if bound[0] and bound[:2] != said:
+        raise ValueError(name + ": a refusal up to 14 is the answer, too")
+    return [plain(name, said, bound, output, from_hex(dossier))]
+
+
+def with_stores(row):
+    name, sizes, line, nodes, hashes, cells, frames, left, dossier = row
+    node_records, hash_bytes, cell_bytes, frame_records, answer_bytes, fill = map(int, sizes.split())
+    said, output = answer(line)
+    stores = [number_list(nodes), from_hex(hashes), from_hex(cells), number_list(frames), from_hex(left)]
+    lent_sizes = [4 * node_records, hash_bytes, cell_bytes, 3 * frame_records, answer_bytes]
+    return [lent(name, said, fill, lent_sizes, output, from_hex(dossier), stores)]
+
+
+# A run of the original, once from zeros and once from ones where it tells the cells.
+def output(row):
+    name, line, _, zeros, ones, dossier = row
+    said, bits = answer(line)
+    if zeros == "*":
+        return [lent(name, said, 165, LARGEST, bits, from_hex(dossier), [b""] * 5)]
+    made = []
+    for fill, cells in ((0, from_hex(zeros)), (255, from_hex(ones))):
+        sizes = LARGEST[:2] + [len(cells)] + LARGEST[3:]
+        made.append(lent(name, said, fill, sizes, bits, from_hex(dossier), [b"", b"", cells, b"", b""]))
+    return made
+
+
+# The original's bounds of a dossier, or the first limit that one of them is over.
+def bound(row):
+    name, cells, frames, cost, _, _, _, dossier = row
+    found = [int(cells), int(frames), int(cost)]
+    over = [place for place in range(3) if found[place] > LIMITS[place]]
+    if over:
+        return [plain(name, [14, over[0]], [14, over[0], 0, 0], b"", from_hex(dossier))]
+    return [plain(name, NO_ANSWER, [0] + found, b"", from_hex(dossier))]
+
+
+FILES = {
+    "cases": (("edges", edge, "replay"), ("random", edge, "replay"), ("stores", with_stores, "stores_test")),
+    "original": (("bounds", bound, "replay"), ("outputs", output, "stores_test")),
+}
+
+
+def main(kind, source, crates):
+    for name, packed, crate in FILES[kind]:
+        made = [one for row in rows(f"{source}/{name}.tsv") for one in packed(row)]
+        open(f"{crates}/{crate}/data/{name}", "wb").write(b"".join(made))
+        print(len(made), name, sum(map(len, made)), "bytes")
+
+
+if __name__ == "__main__":
+    main(*sys.argv[1:])
