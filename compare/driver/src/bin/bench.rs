@@ -1,0 +1,221 @@
+//! Times of the proved library and of the original on the same inputs, in one run.
+//!
+//!   bench [--quick] [--only naturals|decode|machine]
+//!
+//! Each figure is the best and the median of several batches, in processor time of one thread, all
+//! rivals in turns; figures of different runs are not to be compared. Answers are compared before
+//! anything is timed.
+//!
+//! Stores that the library is lent are not cleared between calls: each call finds what the last one
+//! left. One column clears all five stores first. The original makes its own stores: this is counted
+//! in "whole" and left out of "exec" and "input to output bits", where the machine is made beforehand.
+
+use compare::clock::{clocked, race, task, Effort, Time};
+use compare::making::{any_value, families, types, Made};
+use compare::original::{decode, nodes, write};
+use compare::rng::Rng;
+use compare::row::Row;
+use compare::timed::{self, Largest};
+use drevaloci::{Answer, Decoded};
+use simplicity::types::Final;
+use simplicity::Value;
+use std::cell::RefCell;
+use std::hint::black_box;
+use std::sync::Arc;
+use std::time::Duration;
+
+/// Prints the head of a table: the rivals, then which is held against which.
+fn heading(text: &str, rivals: &[&str], pairs: &[(usize, usize)]) {
+    let factors: Vec<String> = pairs.iter().map(|(a, b)| format!("{} / {}", rivals[*a], rivals[*b])).collect();
+    println!("\n{text}\n\n| input | {} | {} |", rivals.join(" | "), factors.join(" | "));
+    println!("{}", "|---".repeat(1 + rivals.len() + pairs.len()) + "|");
+}
+
+/// Prints one row: best and median of each rival in microseconds, then the factors of the best.
+fn print(what: &str, times: &[Time], pairs: &[(usize, usize)]) {
+    let cells: Vec<String> = times.iter().map(|t| format!("{:.2} ({:.2})", t.best / 1e3, t.median / 1e3)).collect();
+    let factors: Vec<String> = pairs.iter().map(|(a, b)| format!("{:.2}", times[*a].best / times[*b].best)).collect();
+    println!("| {what} | {} | {} |", cells.join(" | "), factors.join(" | "));
+}
+
+const NATURALS: [&str; 2] = ["original", "library"];
+const NATURAL_PAIRS: [(usize, usize); 1] = [(1, 0)];
+const DECODE: [&str; 5] = [
+    "original, all freed",
+    "original, nothing freed",
+    "original, reading alone",
+    "library, stores just large enough",
+    "library, largest stores",
+];
+const DECODE_PAIRS: [(usize, usize); 2] = [(3, 1), (3, 2)];
+const RUN: [&str; 8] = [
+    "original, exec",
+    "original, input to output bits",
+    "original, whole",
+    "library, whole",
+    "library, whole, stores cleared first",
+    "library, on tables",
+    "library, checks of tables alone",
+    "library, on tables less checks",
+];
+const RUN_PAIRS: [(usize, usize); 2] = [(7, 1), (3, 2)];
+
+/// Naturals of some range, one after the other.
+fn naturals(effort: &Effort, name: &str, pick: fn(&mut Rng) -> usize) {
+    let mut rng = Rng::new(7);
+    let values: Vec<usize> = (0..8_000).map(|_| pick(&mut rng)).collect();
+    let (bytes, _) = write::naturals(&values);
+    let want: u64 = values.iter().map(|v| *v as u64).sum();
+    assert!(bytes.len() <= 32_768);
+    assert_eq!(timed::original_naturals(&bytes, values.len()), want);
+    assert_eq!(timed::library_naturals(&bytes, values.len()), want);
+    let tasks = vec![
+        task(|| clocked(|| timed::original_naturals(black_box(&bytes), values.len()))),
+        task(|| clocked(|| timed::library_naturals(black_box(&bytes), values.len()))),
+    ];
+    print(&format!("8,000 naturals, {name}"), &race(effort, tasks), &NATURAL_PAIRS);
+}
+
+/// One program, decoded.
+fn decoding_of(effort: &Effort, name: &str, rows: &[Row]) {
+    let bytes = write::program(rows);
+    let longer = write::program(&[rows, &[Row::Iden]].concat());
+    assert!(decode::decode(&bytes).is_ok_and(|(back, _)| back == rows));
+    let hashes: usize = rows.iter().map(|row| row.hash_bytes().len()).sum();
+    let library = |numbers: usize, hash_bytes: usize| {
+        let (mut nodes, mut store) = (vec![0; numbers], vec![0; hash_bytes]);
+        let bytes = &bytes;
+        move || {
+            clocked(|| {
+                let done = drevaloci::decode(black_box(bytes), &mut nodes, &mut store);
+                assert!(matches!(done, Decoded::Table { nodes, .. } if nodes as usize == rows.len()));
+            })
+        }
+    };
+    let tasks = vec![
+        task(|| clocked(|| timed::original_decode(&bytes))),
+        task(|| timed::original_decode(&bytes)),
+        task(|| timed::original_reading(&longer)),
+        task(library(4 * rows.len(), hashes)),
+        task(library(drevaloci::NODE_NUMBERS, drevaloci::HASH_BYTES)),
+    ];
+    let what = format!("{name}, {} nodes, {} bytes", rows.len(), bytes.len());
+    print(&what, &race(effort, tasks), &DECODE_PAIRS);
+}
+
+/// One program, run.
+fn running(effort: &Effort, name: &str, made: &Made, input: Value) {
+    let job = timed::job(made, input);
+    let largest = RefCell::new(Largest::new());
+    let want = Answer::Value(job.output as u32);
+    assert_eq!(largest.borrow_mut().run(&job.bytes), want);
+    assert_eq!(largest.borrow_mut().tables(&job.bytes, &job.table, true), want);
+    let cleared = || {
+        largest.borrow_mut().clear();
+        largest.borrow_mut().run(&job.bytes)
+    };
+    let tasks = vec![
+        task(|| timed::original_exec(&job, false)),
+        task(|| timed::original_exec(&job, true)),
+        task(|| clocked(|| timed::original_whole(&job.bytes))),
+        task(|| clocked(|| largest.borrow_mut().run(&job.bytes))),
+        task(|| clocked(cleared)),
+        task(|| clocked(|| largest.borrow_mut().tables(&job.bytes, &job.table, true))),
+        task(|| clocked(|| largest.borrow_mut().tables(&job.bytes, &job.table, false))),
+    ];
+    let mut times = race(effort, tasks);
+    let (all, checks) = (&times[5], &times[6]);
+    let machine = Time { best: all.best - checks.best, median: all.median - checks.median };
+    times.push(machine);
+    let needs = nodes::needs(&job.made);
+    let what = format!("{name}; cost {}, {} cells, {} frames", needs.cost, needs.cells, needs.frames);
+    print(&what, &times, &RUN_PAIRS);
+}
+
+/// Large copies: aligned, random and zero, and with cursors at different places in a byte.
+fn copies(effort: &Effort) {
+    let w = types::word;
+    let mut rng = Rng::new(3);
+    let wide = w(15);
+    let iden = |k: usize| families::fixed(families::doubled_iden(k), &wide, &wide);
+    running(effort, "copy of 32,768 bits, random", &iden(0), any_value(&mut rng, &wide));
+    running(effort, "the same 64 times", &iden(6), any_value(&mut rng, &wide));
+    running(effort, "the same 64 times, zeros", &iden(6), Value::zero(&wide));
+    let source = types::product(&w(0), &w(14));
+    let target = types::sum(&w(14), &Final::unit());
+    let rows = vec![Row::Iden, Row::Drop(0), Row::InjL(1)];
+    let made = families::fixed(rows, &source, &target);
+    running(effort, "copy of 16,384 bits, not aligned, random", &made, any_value(&mut rng, &source));
+}
+
+/// Comps: deep and doubled, at several widths.
+fn comps(effort: &Effort) {
+    let mut rng = Rng::new(4);
+    let mut at = |name: &str, rows: Vec<Row>, ty: &Arc<Final>| {
+        running(effort, name, &families::fixed(rows, ty, ty), any_value(&mut rng, ty));
+    };
+    at("1,022 nested comps, width 0", families::nested_comp(1_022), &Final::unit());
+    at("1,022 nested comps, width 1", families::nested_comp(1_022), &types::word(0));
+    at("1,022 nested comps, width 128", families::nested_comp(1_022), &types::word(7));
+    at("comp doubled 17 times, width 0", families::doubled_iden(17), &Final::unit());
+    at("comp doubled 17 times, width 8", families::doubled_iden(17), &types::word(3));
+}
+
+/// Mixed programs, and witnesses that are visited often.
+fn mixtures(effort: &Effort) {
+    let mut rng = Rng::new(6);
+    let tree = families::fixed(families::xor_tree(14), &types::word(1), &types::word(0));
+    running(
+        effort,
+        "exclusive or, 14 levels: pair, comp, case, take, drop",
+        &tree,
+        any_value(&mut rng, &types::word(1)),
+    );
+    let deep = families::thrown_witness(11, &families::deep_type(400));
+    running(effort, "witness of 400 bits, 800 records deep, 2,048 times", &deep, Value::unit());
+    let flat = families::thrown_witness(11, &types::of_width(400));
+    running(effort, "witness of 400 bits, flat, 2,048 times", &flat, Value::unit());
+    let small =
+        families::fixed(vec![Row::Unit, Row::InjL(0)], &Final::unit(), &types::sum(&Final::unit(), &types::word(0)));
+    running(effort, "the 81-byte dossier: injl of unit", &small, Value::unit());
+}
+
+/// Measures what is asked for.
+fn measure() {
+    let args: Vec<String> = std::env::args().collect();
+    let quick = args.iter().any(|arg| arg == "--quick");
+    let only = args.iter().position(|arg| arg == "--only").map(|at| args[at + 1].clone());
+    let wanted = |part: &str| only.as_deref().is_none_or(|name| name == part);
+    let effort =
+        Effort { batch: Duration::from_millis(if quick { 4 } else { 20 }), batches: if quick { 5 } else { 31 } };
+    println!("Microseconds: the best of {} batches (the median), processor time of one thread.", effort.batches);
+    println!("Stores lent to the library are not cleared between calls, except where a column says so.");
+    if wanted("naturals") {
+        heading("Naturals", &NATURALS, &NATURAL_PAIRS);
+        naturals(&effort, "1 to 8", |rng| 1 + rng.below(8));
+        naturals(&effort, "1 to 2,048", |rng| 1 + rng.below(2_048));
+        naturals(&effort, "of any length", |rng| {
+            let bits = rng.below(32);
+            (1usize << bits) + rng.below(1 << bits)
+        });
+    }
+    if wanted("decode") {
+        heading("Decoding", &DECODE, &DECODE_PAIRS);
+        for n in [1_000, 1_500, 2_048] {
+            decoding_of(&effort, "chain", &families::chain(n, 1));
+            decoding_of(&effort, "pairs", &families::pairs(n, 1));
+            decoding_of(&effort, "gates", &families::gates(n, 1));
+        }
+    }
+    if wanted("machine") {
+        heading("The machine and the whole job", &RUN, &RUN_PAIRS);
+        copies(&effort);
+        comps(&effort);
+        mixtures(&effort);
+    }
+}
+
+fn main() {
+    let big = std::thread::Builder::new().stack_size(512 << 20);
+    big.spawn(measure).unwrap().join().unwrap();
+}

@@ -1,0 +1,2 @@
+// Stands in for the missing node/hiding.rs: the name only.
+pub struct Hiding(());
