@@ -26,7 +26,7 @@ extern "C" {
 #endif
 
 /* Stack that is enough for any call. */
-#define DREVALOCI_STACK_BYTES (8u << 20)
+#define DREVALOCI_STACK_BYTES (4u << 20)
 
 /* Store sizes, in elements, that are enough for every dossier. */
 #define DREVALOCI_NODE_NUMBERS (4 * 2048)

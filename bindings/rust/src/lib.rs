@@ -16,7 +16,7 @@ pub use calls::{
 pub use refusal::Refusal;
 
 /// Stack that is enough for any call.
-pub const STACK_BYTES: usize = 8 << 20;
+pub const STACK_BYTES: usize = 4 << 20;
 /// Numbers of a node store that is enough for every dossier.
 pub const NODE_NUMBERS: usize = 4 * 2048;
 /// Bytes of a hash store that is enough for every dossier.
