@@ -246,7 +246,26 @@ fn byte_stores_right(record: &[u8], hashes: &[u8], cells: &[u8], answer: &[u8]) 
     begins(answer, part(record, 2))
 }
 
-// Whether a run in these stores says and leaves what the record says.
+// Whether a run said and left what the record says.
+fn end_right(
+    record: &[u8],
+    said: Answer,
+    nodes: &[u32],
+    hashes: &[u8],
+    cells: &[u8],
+    frames: &[u32],
+    answer: &[u8],
+) -> bool {
+    if !answer_right(record, said) {
+        return false;
+    }
+    if !number_stores_right(record, nodes, frames) {
+        return false;
+    }
+    byte_stores_right(record, hashes, cells, answer)
+}
+
+// A run in these stores, and whether it says and leaves what the record says.
 fn run_right(
     record: &[u8],
     nodes: &mut [u32],
@@ -256,13 +275,7 @@ fn run_right(
     answer: &mut [u8],
 ) -> bool {
     let said = dossier::run(part(record, 1), nodes, hashes, cells, frames, answer);
-    if !answer_right(record, said) {
-        return false;
-    }
-    if !number_stores_right(record, nodes, frames) {
-        return false;
-    }
-    byte_stores_right(record, hashes, cells, answer)
+    end_right(record, said, nodes, hashes, cells, frames, answer)
 }
 
 // The size of a store: number k of the record, two more where told so, and at most the largest.
