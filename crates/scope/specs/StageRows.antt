@@ -4,13 +4,14 @@ use mathlib.Core.Path.{_≡_, refl}
 use mathlib.Core.Bool.{Bool, true, false}
 use mathlib.Core.List.{List, [], _∷_, _++_}
 use Prim.Native.Nat.{ℕ, _+_, _*_, _^_}
+use lib.Dec.{eqb}
 use lib.ListN.{replicate}
 use Rattle.limits.specs.Limits.{nodeCount, typeCount, dossierBytes}
 use Rattle.scope.specs.Check.{Check}
 use Rattle.scope.specs.Numbers.{zeros, every, same, tabulate}
 use Rattle.scope.specs.Header1.{opened}
 use Rattle.scope.specs.Nodes.{nodeRecords, nodesOf}
-use Rattle.scope.specs.Hashes13.{branchHash}
+use Rattle.scope.specs.Hashes13.{countPlace, branchHash}
 use Rattle.scope.specs.Run.{Left}
 use Rattle.scope.specs.Stages26.{counted, walkStage, arrowStage, hashStage, boundsStage, runStage}
 use Rattle.scope.specs.Rows.{digits, bytes, said}
@@ -141,3 +142,13 @@ branch-hashes : every (
     ∷ []) ≡ true
 unfolding branchHash nodesOf nodeRecords tabulate same every
 branch-hashes = refl
+
+-- a count of hashes is its own place up to the last place there is, which stands for every larger one
+count-places : every (
+    eqb (countPlace 0) 0
+    ∷ eqb (countPlace 2048) 2048
+    ∷ eqb (countPlace 4294967295) 4294967295
+    ∷ eqb (countPlace 4294967296) 4294967295
+    ∷ []) ≡ true
+unfolding every
+count-places = refl
