@@ -4,10 +4,8 @@
 use decode::Decoded;
 use header::HeaderAnswer;
 use refusal::Answer;
-use refusal::Refusal;
 use table::Checked;
 ghost use mathlib.Core.Path.{_≡_};
-ghost use lib.ListN.{length};
 ghost use Rattle.scope.specs.Header1.{checkHeader};
 ghost use Rattle.scope.specs.Run.{untouched, ended, run};
 ghost use Rattle.table.specs.Answers.{checkOf};
