@@ -28,12 +28,12 @@ use Rattle.layout.specs.Rules.{bitWritten, bitsWritten, skipped, copied, forwar
 use Rattle.layout.specs.Exec.{runTerm, pairing, composing, disconnecting}
 use Rattle.layout.specs.Safe.{WriteOk, ReadOk, CopyOk, Safe}
 use Rattle.table.proofs.Hashes.{hidden-kind}
-use Rattle.bit_machine.specs.Lookup.{paddingIn, recordAt, aroundBy, aroundIn}
+use Rattle.lookup.specs.Lookup.{paddingIn, recordAt, aroundBy, aroundIn}
 use Rattle.ready.specs.Lent.{lentNodes, programAt, Reads, TypesShown, Shown}
 use Rattle.bit_machine.specs.Engine.{OneOk, TwoKind, aroundOf}
-use Rattle.bit_machine.specs.declared.Around.{Around}
-use Rattle.bit_machine.specs.declared.Around.the-variants.{Pairing, Composing, Disconnecting}
-use Rattle.bit_machine.proofs.Lookup.{around-pair, around-comp, around-disconnect}
+use Rattle.lookup.specs.declared.Around.{Around}
+use Rattle.lookup.specs.declared.Around.the-variants.{Pairing, Composing, Disconnecting}
+use Rattle.lookup.proofs.Lookup.{around-pair, around-comp, around-disconnect}
 use Rattle.bit_machine.proofs.Nodes
 use Rattle.bit_machine.proofs.Nodes.{TwoOk}
 use Rattle.bit_machine.proofs.Lent

@@ -31,7 +31,7 @@ use Rattle.bititer.proofs.Bits.{length-bits}
 use Rattle.value.proofs.Types.{read-fit}
 use Rattle.types.proofs.Tables.{tabulate-at}
 use Rattle.branch.proofs.Hashes.{branch-bits}
-use Rattle.bit_machine.specs.Lookup.{paddingIn, recordAt}
+use Rattle.lookup.specs.Lookup.{paddingIn, recordAt}
 use Rattle.ready.specs.Lent.{lentNodes, valueOf, programAt, Reads, TypesShown, Shown}
 use Rattle.bit_machine.proofs.Words.{word-cells, no-word-cells}
 use Rattle.bit_machine.proofs.Types.{width-found, left-found, right-found}

@@ -1,6 +1,5 @@
 pub mod Bits
 pub mod Words
-pub mod Lookup
 pub mod Types
 pub mod Frames
 pub mod Needs

@@ -16,8 +16,8 @@ use Rattle.layout.specs.Safe.{Fed, PushOk, MoveOk, DropOk, WriteOk, ReadOk, Bac
 use Rattle.bit_machine.specs.Machine.{machineOf, Within}
 use Rattle.bit_machine.specs.declared.Heights.{Heights}
 use Rattle.bit_machine.specs.Engine.{aroundOf, handed}
-use Rattle.bit_machine.specs.declared.Around.{Around}
-use Rattle.bit_machine.specs.declared.Around.the-variants.{Pairing, Composing, Disconnecting}
+use Rattle.lookup.specs.declared.Around.{Around}
+use Rattle.lookup.specs.declared.Around.the-variants.{Pairing, Composing, Disconnecting}
 use Rattle.exactness.specs.Values.{width-word}
 
 -- stores within the limits of a run are small enough for every sum

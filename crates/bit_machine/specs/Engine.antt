@@ -15,10 +15,10 @@ use Rattle.layout.specs.Exec as Layout
 use Rattle.layout.specs.Exec.{Outcome, returning, runTerm, pairing, composing, disconnecting}
 use Rattle.layout.specs.Safe.{Safe, ReturnOk}
 use Rattle.bit_machine.specs.Machine.{machineOf}
-use Rattle.bit_machine.specs.Lookup.{recordAt}
+use Rattle.lookup.specs.Lookup.{recordAt}
 use Rattle.bit_machine.specs.declared.Heights.{Heights}
-use Rattle.bit_machine.specs.declared.Around.{Around}
-use Rattle.bit_machine.specs.declared.Around.the-variants.{Pairing, Composing, Disconnecting}
+use Rattle.lookup.specs.declared.Around.{Around}
+use Rattle.lookup.specs.declared.Around.the-variants.{Pairing, Composing, Disconnecting}
 use Rattle.bit_machine.specs.declared.Reason.{Reason}
 use Rattle.bit_machine.specs.declared.Reason.the-variants.{Failed, Pruned}
 use Rattle.bit_machine.specs.declared.Ran.{Ran}

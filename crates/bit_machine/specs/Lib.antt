@@ -1,4 +1,3 @@
 pub mod Machine
-pub mod Lookup
 pub mod Engine
 pub mod Whole

@@ -1,14 +1,13 @@
 // The engine: a node's own work, its children, and what follows them, over lent tables and stores.
 // `node` and `both` call each other with the index falling; what a node does by itself, and what is done around two children,
 // stands outside their cycle. A stop is handed on as it is, with the heights at the stop.
-use crate::Around;
 use crate::Heights;
 use crate::Plan;
 use crate::Ran;
 use crate::Reason;
 use crate::rules;
-use crate::tables;
 use crate::values;
+use lookup::Around;
 ghost use mathlib.Core.Path.{_≡_};
 ghost use mathlib.Core.List.{List, []};
 ghost use Prim.Native.Nat.{ℕ, _+_, _*_, _^_, _<_, _≤_};
@@ -20,7 +19,7 @@ ghost use Rattle.scope.specs.Program.{termAt};
 ghost use Rattle.layout.specs.Exec.{runTerm, firstOf, secondOf, thirdOf};
 ghost use Rattle.layout.specs.Safe.{Fed, Safe, FirstOk, SecondOk, ThirdOk, HandOk};
 ghost use Rattle.bit_machine.specs.Machine.{machineOf, Within};
-ghost use Rattle.bit_machine.specs.Lookup.{recordAt};
+ghost use Rattle.lookup.specs.Lookup.{recordAt};
 ghost use Rattle.ready.specs.Lent.{programAt, Shown};
 ghost use Rattle.bit_machine.specs.Engine.{outOf, aroundOf, handed, TwoKind, Planned};
 
@@ -55,16 +54,16 @@ fn leaf<'a>(
         return Plan::Stop(Reason::Failed(i));
     }
     if record.kind == table::IDEN {
-        rules::copy(cells, frames, h, tables::source_width(arrows, widths, i));
+        rules::copy(cells, frames, h, lookup::source_width(arrows, widths, i));
         return Plan::Rest;
     }
     if record.kind == table::WITNESS {
-        let k = tables::target_at(arrows, i);
-        let p = tables::position_at(positions, i);
+        let k = lookup::target_at(arrows, i);
+        let p = lookup::position_at(positions, i);
         values::write_value(types, widths, next, k, witness, p, cells, frames, h);
         return Plan::Rest;
     }
-    let n = tables::target_width(arrows, widths, i);
+    let n = lookup::target_width(arrows, widths, i);
     rules::write_bits(program, record.second, n, cells, frames, h);
     Plan::Rest
 }
@@ -97,11 +96,11 @@ fn one_child<'a>(
         return Plan::One(record.first, 0);
     }
     if record.kind == table::DROP {
-        let n = tables::left_width(types, widths, tables::source_at(arrows, i));
+        let n = lookup::left_width(types, widths, lookup::source_at(arrows, i));
         rules::forward(frames, h, n);
         return Plan::One(record.first, n);
     }
-    let padding = tables::padding_at(types, widths, tables::target_at(arrows, i));
+    let padding = lookup::padding_at(types, widths, lookup::target_at(arrows, i));
     if record.kind == table::INJL {
         rules::write_bit(cells, frames, h, 0);
         rules::skip(frames, h, padding.left);
@@ -136,8 +135,8 @@ fn branch<'a>(
     ensures { λ r. ⌜ Planned r (now (nodes .entry)) (programAt (now (types .entry)) (now (nodes .entry)) (now (arrows .entry)) (now (program .entry)) (now (hashes .entry)) (now (given .entry)) (now (witness .entry)) (now (positions .entry))) i (machineOf (bitsOf (now (cells .entry))) (now (frames .entry)) h) (machineOf (bitsOf (now (cells .exit))) (now (frames .exit)) h) ⌝ }
 {
     let record = table::record_at(nodes, i);
-    let sum = tables::left_part(types, tables::source_at(arrows, i));
-    let padding = tables::padding_at(types, widths, sum);
+    let sum = lookup::left_part(types, lookup::source_at(arrows, i));
+    let padding = lookup::padding_at(types, widths, sum);
     let bit = rules::peek(cells, frames, h);
     if bit == 0 {
         if table::hidden_at(nodes, record.first) {
@@ -435,7 +434,7 @@ fn both<'a>(
     requires { ⌜ Safe (termAt (programAt (now types) (now nodes) (now arrows) (now program) (now hashes) (now given) (now witness) (now positions)) i) (machineOf (bitsOf (now cells)) (now frames) h) ⌝ }
     ensures { λ r. ⌜ outOf r (bitsOf (now (cells .exit))) (now (frames .exit)) ≡ runTerm (termAt (programAt (now (types .entry)) (now (nodes .entry)) (now (arrows .entry)) (now (program .entry)) (now (hashes .entry)) (now (given .entry)) (now (witness .entry)) (now (positions .entry))) i) (machineOf (bitsOf (now (cells .entry))) (now (frames .entry)) h) ⌝ }
 {
-    let around = tables::around_at(types, widths, nodes, arrows, i);
+    let around = lookup::around_at(types, widths, nodes, arrows, i);
     let record = table::record_at(nodes, i);
     let x = record.first;
     let y = record.second;

@@ -1,15 +1,15 @@
 // The Bit Machine over lent stores: cells packed in bytes, frame records of three numbers each.
-// `rules` moves bits and frames, `values` writes values and hashes, `tables` looks up what a node needs, `engine` runs a node with all below it,
+// `rules` moves bits and frames, `values` writes values and hashes, `engine` runs a node with all below it,
 // and `run` a whole program. `run_stage` makes every check of a run first: a refusal leaves the stores as they were.
 mod engine;
 mod rules;
 mod run;
-mod tables;
 mod values;
 
 use ready::RunAnswer;
 use refusal::Answer;
 ghost use mathlib.Core.Path.{_≡_};
+ghost use Prim.Native.Nat.{_^_, _<_};
 ghost use Rattle.scope.specs.Run.{untouched};
 ghost use Rattle.scope.specs.Stages26.{runStage};
 
@@ -18,20 +18,6 @@ pub(crate) struct Heights {
     pub(crate) writes: usize,
     pub(crate) reads: usize,
     pub(crate) next: u32,
-}
-
-// How many cells of padding follow the tag of a sum's left part, and of its right part.
-pub(crate) struct Padding {
-    pub(crate) left: u32,
-    pub(crate) right: u32,
-}
-
-// A node with two children, by the widths of what is done around them: a pair's nothing; a comp's middle;
-// a disconnect's source, the part of the left child's target that is kept and the part that is handed to the right child.
-pub(crate) enum Around {
-    Pairing,
-    Composing(u32),
-    Disconnecting(u32, u32, u32),
 }
 
 // Why a run stopped, and at which node: at a fail node, or at an assertion whose pruned branch was picked.
@@ -52,6 +38,13 @@ pub(crate) enum Plan {
     Stop(Reason),
     One(u32, u32),
     Two,
+}
+
+// A number of a table or of a bound as a place.
+pub(crate) fn wide(x: u32) -> usize
+    ensures { λ r. ⌜ (r ≡ x) × (r < 2 ^ 32) ⌝ }
+{
+    x as usize
 }
 
 // A run over lent tables: every check that can be made of them and of what the run is supplied with, then the run.

@@ -6,7 +6,6 @@ use crate::Ran;
 use crate::Reason;
 use crate::engine;
 use crate::rules;
-use crate::tables;
 use crate::values;
 use refusal::Answer;
 use refusal::Refusal;
@@ -109,9 +108,9 @@ fn run_node<'a>(
         reads: 0,
         next: 0,
     };
-    let k = tables::source_at(arrows, i);
+    let k = lookup::source_at(arrows, i);
     let read = open_input(types, widths, next, k, input, cells, frames, none);
-    let n = tables::target_width(arrows, widths, i);
+    let n = lookup::target_width(arrows, widths, i);
     let h = open_output(frames, read, n);
     let ran = engine::node(
         types,
@@ -147,7 +146,7 @@ fn refusal_of(why: Reason) -> Refusal
 fn bytes_for(n: u32) -> usize
     ensures { λ r. ⌜ (r ≡ bytesFor n) × (r < 2 ^ 32) ⌝ }
 {
-    (tables::wide(n) + 7) / 8
+    (crate::wide(n) + 7) / 8
 }
 
 // The compact bits of the value of type k in the cells from `at` on, into the answer, whose last byte is filled with zeros: how many bits.
@@ -201,7 +200,7 @@ pub(crate) fn run_ready<'a>(
 {
     let last = (nodes.len() / limits::NODE_NUMBERS - 1) as u32;
     let bytes = bytes_for(size);
-    let numbers = limits::FRAME_NUMBERS * tables::wide(most);
+    let numbers = limits::FRAME_NUMBERS * crate::wide(most);
     let ran = run_node(
         types,
         widths,
@@ -220,8 +219,8 @@ pub(crate) fn run_ready<'a>(
     );
     match ran {
         Ran::Done(_) => {
-            let k = tables::target_at(arrows, last);
-            let at = tables::source_width(arrows, widths, last);
+            let k = lookup::target_at(arrows, last);
+            let at = lookup::source_width(arrows, widths, last);
             Answer::Value(write_output(types, widths, next, k, cells, at, answer))
         }
         Ran::Stopped(why, _) => Answer::Refused(refusal_of(why)),

@@ -1,6 +1,10 @@
 //! Times of the proved library and of the original on the same inputs, in one run.
 //!
 //!   bench [--quick] [--only naturals|decode|machine]
+//!   bench --write FOLDER
+//!
+//! The second form times nothing: it writes the dossier of each line of the machine into the folder, for a tool
+//! that counts instructions.
 //!
 //! Each figure is the best and the median of several batches, in processor time of one thread, all
 //! rivals in turns; figures of different runs are not to be compared. Answers are compared before
@@ -21,6 +25,7 @@ use simplicity::types::Final;
 use simplicity::Value;
 use std::cell::RefCell;
 use std::hint::black_box;
+use std::path::PathBuf;
 use std::sync::Arc;
 use std::time::Duration;
 
@@ -103,9 +108,22 @@ fn decoding_of(effort: &Effort, name: &str, rows: &[Row]) {
     print(&what, &race(effort, tasks), &DECODE_PAIRS);
 }
 
-/// One program, run.
-fn running(effort: &Effort, name: &str, made: &Made, input: Value) {
+/// What to do with the lines of the machine: time them, or write their dossiers.
+enum Aim {
+    Time(Effort),
+    Write(PathBuf),
+}
+
+/// One program, run; or its dossier, written under the line's name.
+fn running(aim: &Aim, name: &str, made: &Made, input: Value) {
     let job = timed::job(made, input);
+    let effort = match aim {
+        Aim::Time(effort) => effort,
+        Aim::Write(folder) => {
+            let file = folder.join(name.replace(|c: char| !c.is_ascii_alphanumeric(), "_") + ".dossier");
+            return std::fs::write(file, &job.bytes).unwrap();
+        }
+    };
     let largest = RefCell::new(Largest::new());
     let want = Answer::Value(job.output as u32);
     assert_eq!(largest.borrow_mut().run(&job.bytes), want);
@@ -133,26 +151,26 @@ fn running(effort: &Effort, name: &str, made: &Made, input: Value) {
 }
 
 /// Large copies: aligned, random and zero, and with cursors at different places in a byte.
-fn copies(effort: &Effort) {
+fn copies(aim: &Aim) {
     let w = types::word;
     let mut rng = Rng::new(3);
     let wide = w(15);
     let iden = |k: usize| families::fixed(families::doubled_iden(k), &wide, &wide);
-    running(effort, "copy of 32,768 bits, random", &iden(0), any_value(&mut rng, &wide));
-    running(effort, "the same 64 times", &iden(6), any_value(&mut rng, &wide));
-    running(effort, "the same 64 times, zeros", &iden(6), Value::zero(&wide));
+    running(aim, "copy of 32,768 bits, random", &iden(0), any_value(&mut rng, &wide));
+    running(aim, "the same 64 times", &iden(6), any_value(&mut rng, &wide));
+    running(aim, "the same 64 times, zeros", &iden(6), Value::zero(&wide));
     let source = types::product(&w(0), &w(14));
     let target = types::sum(&w(14), &Final::unit());
     let rows = vec![Row::Iden, Row::Drop(0), Row::InjL(1)];
     let made = families::fixed(rows, &source, &target);
-    running(effort, "copy of 16,384 bits, not aligned, random", &made, any_value(&mut rng, &source));
+    running(aim, "copy of 16,384 bits, not aligned, random", &made, any_value(&mut rng, &source));
 }
 
 /// Comps: deep and doubled, at several widths.
-fn comps(effort: &Effort) {
+fn comps(aim: &Aim) {
     let mut rng = Rng::new(4);
     let mut at = |name: &str, rows: Vec<Row>, ty: &Arc<Final>| {
-        running(effort, name, &families::fixed(rows, ty, ty), any_value(&mut rng, ty));
+        running(aim, name, &families::fixed(rows, ty, ty), any_value(&mut rng, ty));
     };
     at("1,022 nested comps, width 0", families::nested_comp(1_022), &Final::unit());
     at("1,022 nested comps, width 1", families::nested_comp(1_022), &types::word(0));
@@ -162,29 +180,35 @@ fn comps(effort: &Effort) {
 }
 
 /// Mixed programs, and witnesses that are visited often.
-fn mixtures(effort: &Effort) {
+fn mixtures(aim: &Aim) {
     let mut rng = Rng::new(6);
     let tree = families::fixed(families::xor_tree(14), &types::word(1), &types::word(0));
-    running(
-        effort,
-        "exclusive or, 14 levels: pair, comp, case, take, drop",
-        &tree,
-        any_value(&mut rng, &types::word(1)),
-    );
+    running(aim, "exclusive or, 14 levels: pair, comp, case, take, drop", &tree, any_value(&mut rng, &types::word(1)));
     let deep = families::thrown_witness(11, &families::deep_type(400));
-    running(effort, "witness of 400 bits, 800 records deep, 2,048 times", &deep, Value::unit());
+    running(aim, "witness of 400 bits, 800 records deep, 2,048 times", &deep, Value::unit());
     let flat = families::thrown_witness(11, &types::of_width(400));
-    running(effort, "witness of 400 bits, flat, 2,048 times", &flat, Value::unit());
+    running(aim, "witness of 400 bits, flat, 2,048 times", &flat, Value::unit());
     let small =
         families::fixed(vec![Row::Unit, Row::InjL(0)], &Final::unit(), &types::sum(&Final::unit(), &types::word(0)));
-    running(effort, "the 81-byte dossier: injl of unit", &small, Value::unit());
+    running(aim, "the 81-byte dossier: injl of unit", &small, Value::unit());
+}
+
+/// Every line of the machine.
+fn machine(aim: &Aim) {
+    copies(aim);
+    comps(aim);
+    mixtures(aim);
 }
 
 /// Measures what is asked for.
 fn measure() {
     let args: Vec<String> = std::env::args().collect();
+    let value = |flag: &str| args.iter().position(|arg| arg == flag).map(|at| args[at + 1].clone());
+    if let Some(folder) = value("--write") {
+        return machine(&Aim::Write(folder.into()));
+    }
     let quick = args.iter().any(|arg| arg == "--quick");
-    let only = args.iter().position(|arg| arg == "--only").map(|at| args[at + 1].clone());
+    let only = value("--only");
     let wanted = |part: &str| only.as_deref().is_none_or(|name| name == part);
     let effort =
         Effort { batch: Duration::from_millis(if quick { 4 } else { 20 }), batches: if quick { 5 } else { 31 } };
@@ -209,9 +233,7 @@ fn measure() {
     }
     if wanted("machine") {
         heading("The machine and the whole job", &RUN, &RUN_PAIRS);
-        copies(&effort);
-        comps(&effort);
-        mixtures(&effort);
+        machine(&Aim::Time(effort));
     }
 }
 

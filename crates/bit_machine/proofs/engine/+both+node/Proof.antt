@@ -13,7 +13,7 @@ use Rattle.bit_machine.proofs.engine.prepare.Reads as prepare-reads
 use Rattle.bit_machine.proofs.engine.second.Reads as second-reads
 use Rattle.bit_machine.proofs.engine.third.Reads as third-reads
 use Rattle.bit_machine.proofs.rules.back.Reads as back-reads
-use Rattle.bit_machine.proofs.tables.around_at.Reads as around-at-reads
+use Rattle.lookup.proofs.around_at.Reads as around-at-reads
 use Rattle.table.proofs.record_at.Reads as record-at-reads
 use Rattle.bit_machine.proofs.engine.+both+node.{statement}
 use Rattle.bit_machine.proofs.engine.+both+node.Tie.{close}

@@ -6,9 +6,9 @@ use Rattle.bit_machine.proofs.engine.branch.Lts as lts
 use Rattle.bit_machine.proofs.rules.forward.Reads as forward-reads
 use Rattle.bit_machine.proofs.rules.peek.Reads as peek-reads
 use Rattle.table.proofs.hidden_at.Reads as hidden-at-reads
-use Rattle.bit_machine.proofs.tables.left_part.Reads as left-part-reads
-use Rattle.bit_machine.proofs.tables.padding_at.Reads as padding-at-reads
-use Rattle.bit_machine.proofs.tables.source_at.Reads as source-at-reads
+use Rattle.lookup.proofs.left_part.Reads as left-part-reads
+use Rattle.lookup.proofs.padding_at.Reads as padding-at-reads
+use Rattle.lookup.proofs.source_at.Reads as source-at-reads
 use Rattle.table.proofs.record_at.Reads as record-at-reads
 use native.Mathlib.Omega.{arith}
 use mathlib.Core.Path.{_≡_, refl, sym, ap, _∙_, subst}
@@ -18,7 +18,7 @@ use Rattle.table.specs.Answers.{recordOf}
 use Rattle.scope.specs.Nodes.{NodeRecord}
 use Rattle.layout.specs.Safe.{read-over, fed-bits}
 use Rattle.bit_machine.proofs.Needs.{within-fed}
-use Rattle.bit_machine.specs.declared.Padding.{Padding}
+use Rattle.lookup.specs.declared.Padding.{Padding}
 
 record-at-requires : tie.Need-record-at-requires
 record-at-requires c κs = search needs

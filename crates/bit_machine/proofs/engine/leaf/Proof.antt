@@ -5,10 +5,10 @@ use Rattle.bit_machine.proofs.engine.leaf.Reads as reads
 use Rattle.bit_machine.proofs.engine.leaf.Lts as lts
 use Rattle.bit_machine.proofs.rules.copy.Reads as copy-reads
 use Rattle.bit_machine.proofs.rules.write_bits.Reads as write-bits-reads
-use Rattle.bit_machine.proofs.tables.position_at.Reads as position-at-reads
-use Rattle.bit_machine.proofs.tables.source_width.Reads as source-width-reads
-use Rattle.bit_machine.proofs.tables.target_at.Reads as target-at-reads
-use Rattle.bit_machine.proofs.tables.target_width.Reads as target-width-reads
+use Rattle.lookup.proofs.position_at.Reads as position-at-reads
+use Rattle.lookup.proofs.source_width.Reads as source-width-reads
+use Rattle.lookup.proofs.target_at.Reads as target-at-reads
+use Rattle.lookup.proofs.target_width.Reads as target-width-reads
 use Rattle.bit_machine.proofs.values.write_value.Reads as write-value-reads
 use Rattle.table.proofs.record_at.Reads as record-at-reads
 use native.Mathlib.Omega.{arith}

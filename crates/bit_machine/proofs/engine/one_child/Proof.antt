@@ -6,10 +6,10 @@ use Rattle.bit_machine.proofs.engine.one_child.Lts as lts
 use Rattle.bit_machine.proofs.rules.forward.Reads as forward-reads
 use Rattle.bit_machine.proofs.rules.skip.Reads as skip-reads
 use Rattle.bit_machine.proofs.rules.write_bit.Reads as write-bit-reads
-use Rattle.bit_machine.proofs.tables.left_width.Reads as left-width-reads
-use Rattle.bit_machine.proofs.tables.padding_at.Reads as padding-at-reads
-use Rattle.bit_machine.proofs.tables.source_at.Reads as source-at-reads
-use Rattle.bit_machine.proofs.tables.target_at.Reads as target-at-reads
+use Rattle.lookup.proofs.left_width.Reads as left-width-reads
+use Rattle.lookup.proofs.padding_at.Reads as padding-at-reads
+use Rattle.lookup.proofs.source_at.Reads as source-at-reads
+use Rattle.lookup.proofs.target_at.Reads as target-at-reads
 use Rattle.table.proofs.record_at.Reads as record-at-reads
 use native.Mathlib.Omega.{arith}
 use mathlib.Core.Path.{_≡_, refl, sym, ap, _∙_, subst}
@@ -19,7 +19,7 @@ use Rattle.table.specs.Answers.{recordOf}
 use Rattle.scope.specs.Nodes.{NodeRecord}
 use Rattle.layout.specs.Safe.{read-over, write-over, fed-bits}
 use Rattle.bit_machine.proofs.Needs.{within-fed}
-use Rattle.bit_machine.specs.declared.Padding.{Padding}
+use Rattle.lookup.specs.declared.Padding.{Padding}
 
 record-at-requires : tie.Need-record-at-requires
 record-at-requires c κs = search needs

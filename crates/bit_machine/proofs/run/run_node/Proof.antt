@@ -19,8 +19,8 @@ use Rattle.bit_machine.proofs.engine.node.Reads as node-reads
 use Rattle.bit_machine.proofs.run.clear.Reads as clear-reads
 use Rattle.bit_machine.proofs.run.open_input.Reads as open-input-reads
 use Rattle.bit_machine.proofs.run.open_output.Reads as open-output-reads
-use Rattle.bit_machine.proofs.tables.source_at.Reads as source-at-reads
-use Rattle.bit_machine.proofs.tables.target_width.Reads as target-width-reads
+use Rattle.lookup.proofs.source_at.Reads as source-at-reads
+use Rattle.lookup.proofs.target_width.Reads as target-width-reads
 
 clear-requires : tie.Need-clear-requires
 clear-requires c κs = search needs

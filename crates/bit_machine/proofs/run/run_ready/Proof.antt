@@ -11,10 +11,10 @@ use Rattle.bit_machine.proofs.run.run_ready.Lts as lts
 use Rattle.bit_machine.proofs.run.bytes_for.Reads as bytes-for-reads
 use Rattle.bit_machine.proofs.run.refusal_of.Reads as refusal-of-reads
 use Rattle.bit_machine.proofs.run.run_node.Reads as run-node-reads
-use Rattle.bit_machine.proofs.tables.wide.Reads as wide-reads
+use Rattle.bit_machine.proofs.wide.Reads as wide-reads
 use Rattle.bit_machine.proofs.run.write_output.Reads as write-output-reads
-use Rattle.bit_machine.proofs.tables.source_width.Reads as source-width-reads
-use Rattle.bit_machine.proofs.tables.target_at.Reads as target-at-reads
+use Rattle.lookup.proofs.source_width.Reads as source-width-reads
+use Rattle.lookup.proofs.target_at.Reads as target-at-reads
 
 sub-last : tie.Need-sub-last
 sub-last c =

@@ -4,7 +4,7 @@ use Rattle.bit_machine.proofs.values.write_hash.Tie as tie
 use Rattle.bit_machine.proofs.values.write_hash.Reads as reads
 use Rattle.bit_machine.proofs.values.write_hash.Lts as lts
 use Rattle.bit_machine.proofs.rules.write_bits.Reads as write-bits-reads
-use Rattle.bit_machine.proofs.tables.wide.Reads as wide-reads
+use Rattle.bit_machine.proofs.wide.Reads as wide-reads
 use Rattle.branch.proofs.branch_hash.Reads as branch-hash-reads
 use native.Mathlib.Omega.{arith}
 use mathlib.Core.Path.{_≡_, refl, sym, ap, _∙_, subst}

@@ -5,7 +5,7 @@ use Rattle.bit_machine.proofs.values.write_value.Reads as reads
 use Rattle.bit_machine.proofs.values.write_value.Lts as lts
 use Rattle.bit_machine.proofs.rules.skip.Reads as skip-reads
 use Rattle.bit_machine.proofs.rules.write_cursor.Reads as write-cursor-reads
-use Rattle.bit_machine.proofs.tables.wide.Reads as wide-reads
+use Rattle.bit_machine.proofs.wide.Reads as wide-reads
 use Rattle.types.proofs.width_at.Reads as width-at-reads
 use Rattle.value.proofs.pad.Reads as pad-reads
 use native.Mathlib.Omega.{arith}

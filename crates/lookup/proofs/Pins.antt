@@ -1,0 +1,57 @@
+-- What each public call promises has one outcome: over the call's own promise, `Post`, two results are the same.
+use mathlib.Core.Path.{_≡_, sym, _∙_}
+use mathlib.Core.List.{List}
+use Prim.Native.Nat.{ℕ}
+use borrow.Fn.Kinds.{PK, RK, Out, Dens, endedOf, resT}
+use contract.Lifetimes.{Lfts}
+use denote.Triple.Clauses.{AtExit}
+use Rattle.lookup.proofs.around_at.Kinds as around-at-kinds
+use Rattle.lookup.proofs.around_at.Reads as around-at-reads
+use Rattle.lookup.proofs.left_part.Kinds as left-part-kinds
+use Rattle.lookup.proofs.left_part.Reads as left-part-reads
+use Rattle.lookup.proofs.left_width.Kinds as left-width-kinds
+use Rattle.lookup.proofs.left_width.Reads as left-width-reads
+use Rattle.lookup.proofs.padding_at.Kinds as padding-at-kinds
+use Rattle.lookup.proofs.padding_at.Reads as padding-at-reads
+use Rattle.lookup.proofs.position_at.Kinds as position-at-kinds
+use Rattle.lookup.proofs.position_at.Reads as position-at-reads
+use Rattle.lookup.proofs.source_at.Kinds as source-at-kinds
+use Rattle.lookup.proofs.source_at.Reads as source-at-reads
+use Rattle.lookup.proofs.source_width.Kinds as source-width-kinds
+use Rattle.lookup.proofs.source_width.Reads as source-width-reads
+use Rattle.lookup.proofs.target_at.Kinds as target-at-kinds
+use Rattle.lookup.proofs.target_at.Reads as target-at-reads
+use Rattle.lookup.proofs.target_width.Kinds as target-width-kinds
+use Rattle.lookup.proofs.target_width.Reads as target-width-reads
+
+-- two results that a promise allows of the same arguments are the same
+abbrev pub OneResult : (n : ℕ) (ps : List (PK n)) (r : RK n) → Out n ps r → Type 0
+OneResult n ps r Post =
+    (κs : Lfts n) (a : Dens κs ps) (s t : resT r κs .Denot) (x y : AtExit (endedOf n ps r) κs) → Post κs a s x → Post κs a t y → s ≡ t
+
+pub around-at : OneResult 4 around-at-kinds.ps around-at-kinds.r around-at-reads.Post
+around-at κs a s t x y p q = p ∙ sym q
+
+pub left-part : OneResult 1 left-part-kinds.ps left-part-kinds.r left-part-reads.Post
+left-part κs a s t x y p q = p ∙ sym q
+
+pub left-width : OneResult 2 left-width-kinds.ps left-width-kinds.r left-width-reads.Post
+left-width κs a s t x y p q = p ∙ sym q
+
+pub padding-at : OneResult 2 padding-at-kinds.ps padding-at-kinds.r padding-at-reads.Post
+padding-at κs a s t x y p q = p ∙ sym q
+
+pub position-at : OneResult 1 position-at-kinds.ps position-at-kinds.r position-at-reads.Post
+position-at κs a s t x y p q = p ∙ sym q
+
+pub source-at : OneResult 1 source-at-kinds.ps source-at-kinds.r source-at-reads.Post
+source-at κs a s t x y p q = p ∙ sym q
+
+pub source-width : OneResult 2 source-width-kinds.ps source-width-kinds.r source-width-reads.Post
+source-width κs a s t x y p q = p ∙ sym q
+
+pub target-at : OneResult 1 target-at-kinds.ps target-at-kinds.r target-at-reads.Post
+target-at κs a s t x y p q = p ∙ sym q
+
+pub target-width : OneResult 2 target-width-kinds.ps target-width-kinds.r target-width-reads.Post
+target-width κs a s t x y p q = p ∙ sym q
