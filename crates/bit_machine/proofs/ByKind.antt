@@ -29,7 +29,7 @@ use Rattle.layout.specs.Exec.{runTerm, pairing, composing, disconnecting}
 use Rattle.layout.specs.Safe.{WriteOk, ReadOk, CopyOk, Safe}
 use Rattle.table.proofs.Hashes.{hidden-kind}
 use Rattle.lookup.specs.Lookup.{paddingIn, recordAt, aroundBy, aroundIn}
-use Rattle.ready.specs.Lent.{lentNodes, programAt, Reads, TypesShown, Shown}
+use Rattle.ready.specs.Lent.{programNodes, programAt, Reads, TypesShown, Shown}
 use Rattle.bit_machine.specs.Engine.{OneOk, TwoKind, aroundOf}
 use Rattle.lookup.specs.declared.Around.{Around}
 use Rattle.lookup.specs.declared.Around.the-variants.{Pairing, Composing, Disconnecting}

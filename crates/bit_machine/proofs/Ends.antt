@@ -21,7 +21,7 @@ use Rattle.scope.specs.Arrows11and12.{arrowRecords, source, target}
 use Rattle.scope.specs.Program.{Program, last, whole, wholeSource, wholeTarget, sourceTy, targetTy, termAt}
 use Rattle.scope.specs.Bounds14.{wholeCells, wholeFrames}
 use Rattle.scope.specs.Machine18and19.{State, Step, machine}
-use Rattle.scope.specs.Run.{Left, programOf, cellsOf, packed, cleared, written, untouched, ends, ran}
+use Rattle.scope.specs.Run.{Left, programOf, cellsOf, packed, cleared, written, leftWith, ends, ran}
 use Rattle.scope.specs.Stages26.{lent}
 use Rattle.exactness.specs.Checks.{clash}
 use Rattle.layout.specs.Mach.{Mach, empty}
@@ -76,8 +76,8 @@ module _ {types widths next nodes arrows program hashes given witnesses position
     target-size = ap (λ (k : ℕ). getD widths k 0) ek ∙ Lent.target-wide shown i ∙ ap (λ (i : ℕ). width (targetTy Q i)) e
 
 -- ends with the same parts
-same-left : {a a′ : Answer} {c c′ f f′ w w′ : List ℕ} → a ≡ a′ → c ≡ c′ → f ≡ f′ → w ≡ w′ → untouched a c f w ≡ untouched a′ c′ f′ w′
-same-left p q r t = λ i. untouched (p i) (q i) (r i) (t i)
+same-left : {a a′ : Answer} {c c′ f f′ w w′ : List ℕ} → a ≡ a′ → c ≡ c′ → f ≡ f′ → w ≡ w′ → leftWith a c f w ≡ leftWith a′ c′ f′ w′
+same-left p q r t = λ i. leftWith (p i) (q i) (r i) (t i)
 
 -- `bytes` and `numbers` of the stores are lent on to the run
 module _ {P : Program} {input : List ℕ} {size most : ℕ} {cells frames answer : List ℕ} (ok : RunOk P input size most cells frames answer)
@@ -186,7 +186,7 @@ module _ {P : Program} {input : List ℕ} {size most : ℕ} {cells frames answer
     pub ends-done : (r : Ran) (h : Heights) → r ≡ Done h → endOf r (bitsOf part) ≡ nodeEnd P i input lentOn
         → (B : Ty) (at : ℕ) → B ≡ wholeTarget P → at ≡ width (wholeSource P) → (n : ℕ) (answer-after : List ℕ)
         → n ≡ length (compact (valueAt B (cellsOf after) at)) → answer-after ≡ written (compact (valueAt B (cellsOf after) at)) answer
-        → Ended (untouched (Value n) after numbers-after answer-after)
+        → Ended (leftWith (Value n) after numbers-after answer-after)
     unfolding cellsAfter laidOut ends
     ends-done r h how e B at eB ea n answer-after told wrote = go step refl (ap (λ (r : Ran). endOf r (bitsOf part)) (sym how) ∙ e ∙ same-end i ei) reached
       where
@@ -194,7 +194,7 @@ module _ {P : Program} {input : List ℕ} {size most : ℕ} {cells frames answer
         found = ap₂ (λ (B : Ty) (at : ℕ). valueAt B (cellsOf after) at) eB ea
 
         go : (o : Step) → step ≡ o → endOf (Done h) (bitsOf part) ≡ cellsAfter (laidOut (8 * bytesFor (wholeCells P)) (wholeFrames P) o)
-            → Ends (wholeCells P) (wholeFrames P) (cellsOf cells) o → Ended (untouched (Value n) after numbers-after answer-after)
+            → Ends (wholeCells P) (wholeFrames P) (cellsOf cells) o → Ended (leftWith (Value n) after numbers-after answer-after)
         go (done s) eo q r =
             let is : bitsOf part ≡ tabulate (8 * bytesFor (wholeCells P)) (s .cells) = cc in
             let v = found ∙ value-is s r is in
@@ -206,12 +206,12 @@ module _ {P : Program} {input : List ℕ} {size most : ℕ} {cells frames answer
 
     -- the run stopped
     stopped : (why : Reason) (h : Heights) → endOf (Stopped why h) (bitsOf part) ≡ nodeEnd P i input lentOn
-        → Ended (untouched (Refused (refusalOf why)) after numbers-after answer)
+        → Ended (leftWith (Refused (refusalOf why)) after numbers-after answer)
     unfolding cellsAfter laidOut ends
     stopped (Failed at) h e = go step refl (e ∙ same-end i ei) reached
       where
         go : (o : Step) → step ≡ o → endOf (Stopped (Failed at) h) (bitsOf part) ≡ cellsAfter (laidOut (8 * bytesFor (wholeCells P)) (wholeFrames P) o)
-            → Ends (wholeCells P) (wholeFrames P) (cellsOf cells) o → Ended (untouched (Refused (FailReached at)) after numbers-after answer)
+            → Ends (wholeCells P) (wholeFrames P) (cellsOf cells) o → Ended (leftWith (Refused (FailReached at)) after numbers-after answer)
         go (done s) eo q r = clash (cc)
         go (failed place s) eo q r =
             let is : bitsOf part ≡ tabulate (8 * bytesFor (wholeCells P)) (s .cells) = cc in
@@ -222,7 +222,7 @@ module _ {P : Program} {input : List ℕ} {size most : ℕ} {cells frames answer
     stopped (Pruned at) h e = go step refl (e ∙ same-end i ei) reached
       where
         go : (o : Step) → step ≡ o → endOf (Stopped (Pruned at) h) (bitsOf part) ≡ cellsAfter (laidOut (8 * bytesFor (wholeCells P)) (wholeFrames P) o)
-            → Ends (wholeCells P) (wholeFrames P) (cellsOf cells) o → Ended (untouched (Refused (PrunedReached at)) after numbers-after answer)
+            → Ends (wholeCells P) (wholeFrames P) (cellsOf cells) o → Ended (leftWith (Refused (PrunedReached at)) after numbers-after answer)
         go (done s) eo q r = clash (cc)
         go (failed place s) eo q r = clash (cc)
         go (pruned place s) eo q r =
@@ -232,6 +232,6 @@ module _ {P : Program} {input : List ℕ} {size most : ℕ} {cells frames answer
         go stuck eo q r = absurd r
 
     pub ends-stopped : (r : Ran) (why : Reason) (h : Heights) → r ≡ Stopped why h → endOf r (bitsOf part) ≡ nodeEnd P i input lentOn
-        → (refusal : Refusal) → refusal ≡ refusalOf why → Ended (untouched (Refused refusal) after numbers-after answer)
+        → (refusal : Refusal) → refusal ≡ refusalOf why → Ended (leftWith (Refused refusal) after numbers-after answer)
     ends-stopped r why h how e refusal ew =
-        ap (λ (refusal : Refusal). untouched (Refused refusal) after numbers-after answer) ew ∙ stopped why h (ap (λ (r : Ran). endOf r (bitsOf part)) (sym how) ∙ e)
+        ap (λ (refusal : Refusal). leftWith (Refused refusal) after numbers-after answer) ew ∙ stopped why h (ap (λ (r : Ran). endOf r (bitsOf part)) (sym how) ∙ e)

@@ -32,7 +32,7 @@ use Rattle.value.proofs.Types.{read-fit}
 use Rattle.types.proofs.Tables.{tabulate-at}
 use Rattle.branch.proofs.Hashes.{branch-bits}
 use Rattle.lookup.specs.Lookup.{paddingIn, recordAt}
-use Rattle.ready.specs.Lent.{lentNodes, valueOf, programAt, Reads, TypesShown, Shown}
+use Rattle.ready.specs.Lent.{programNodes, valueOf, programAt, Reads, TypesShown, Shown}
 use Rattle.bit_machine.proofs.Words.{word-cells, no-word-cells}
 use Rattle.bit_machine.proofs.Types.{width-found, left-found, right-found}
 use Rattle.table.proofs.Records.{node-at}
@@ -171,7 +171,7 @@ module _ {types widths next nodes arrows program hashes given witnesses position
   pub hash-is : (j : ℕ) → padded (wordTy 8) (P .hash j) ≡ bitsOf (branchHash (nodesOf [] hashes (nodeRecords nodes)) given j)
   unfolding programAt programOf lent
   hash-is j =
-      hash-cells (branchHash (lentNodes nodes program hashes) given j) (hash-whole (lentNodes nodes program hashes) given j)
+      hash-cells (branchHash (programNodes nodes program hashes) given j) (hash-whole (programNodes nodes program hashes) given j)
       ∙ ap bitsOf (branch-bits (streamOf program) hashes (nodeRecords nodes) given j)
 
   -- a value that stands at the front of bits takes as many cells as its type is wide
@@ -185,15 +185,15 @@ module _ {types widths next nodes arrows program hashes given witnesses position
   -- a witness's value stands at its position
   pub witness-is : nodeAt (P .nodes) i ≡ Node.witness → getD (P .witnesses) i ⟨⟩ ≡ valueFrom (targetTy P i) (drop (getD positions i 0) (streamOf witnesses))
   unfolding programAt programOf lent targetTy nodeAt valueOf onWitness
-  witness-is e = elim (decLt i (length (lentNodes nodes program hashes))) [
-    | yes h ↦ tabulate-at (valueOf types nodes arrows program hashes witnesses positions) (length (lentNodes nodes program hashes)) i ⟨⟩ h
+  witness-is e = elim (decLt i (length (programNodes nodes program hashes))) [
+    | yes h ↦ tabulate-at (valueOf types nodes arrows program hashes witnesses positions) (length (programNodes nodes program hashes)) i ⟨⟩ h
         ∙ ap (λ (n : Node). onWitness n (valueFrom (tyAt (typeRecords types) (target (arrowRecords arrows) i)) (drop (getD positions i 0) (streamOf witnesses))) ⟨⟩) e
-    | no n ↦ absurd (past (let h : length (lentNodes nodes program hashes) ≤ i = omega arith in h))
+    | no n ↦ absurd (past (let h : length (programNodes nodes program hashes) ≤ i = omega arith in h))
   ]
     where
-      past : length (lentNodes nodes program hashes) ≤ i → ⊥
+      past : length (programNodes nodes program hashes) ≤ i → ⊥
       past h =
-          let d : nodeAt (lentNodes nodes program hashes) i ≡ Node.hidden [] = List·getD-eq-default (lentNodes nodes program hashes) (Node.hidden []) {n = i} h in
+          let d : nodeAt (programNodes nodes program hashes) i ≡ Node.hidden [] = List·getD-eq-default (programNodes nodes program hashes) (Node.hidden []) {n = i} h in
           let z : _≡_ {A = ℕ} 0 1 = cc in
           omega arith
 

@@ -6,7 +6,7 @@ use borrow.Fn.Kinds.{Dens, endedOf, resT}
 use contract.Lifetimes.{Lfts}
 use denote.Ref.{now}
 use denote.Triple.Clauses.{AtExit}
-use Rattle.scope.specs.Run.{Left, untouched}
+use Rattle.scope.specs.Run.{Left, leftWith}
 use Rattle.bit_machine.proofs.run_stage.Kinds as kinds
 use Rattle.bit_machine.proofs.run_stage.Reads as reads
 
@@ -26,7 +26,7 @@ module _ (κs : Lfts 4) where
 
   pub run-stage : (a : Dens κs kinds.ps) (s t : resT kinds.r κs .Denot) (x y : Exit) → reads.Post κs a s x → reads.Post κs a t y
       → (s ≡ t) × (cells x ≡ cells y) × (frames x ≡ frames y) × (answer x ≡ answer y)
-  unfolding untouched
+  unfolding leftWith
   run-stage a s t x y p q =
       let e = p ∙ sym q in
       (ap (λ (l : Left). l .says) e, ap (λ (l : Left). l .cells) e, ap (λ (l : Left). l .frames) e, ap (λ (l : Left). l .answer) e)

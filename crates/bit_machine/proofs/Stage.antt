@@ -13,7 +13,7 @@ use Rattle.scope.specs.Nodes.{nodeRecords}
 use Rattle.scope.specs.Program.{Program, valueFrom, whole, wholeSource, wholeTarget}
 use Rattle.scope.specs.Bounds14.{wholeCells, wholeFrames}
 use Rattle.scope.specs.Machine18and19.{machine}
-use Rattle.scope.specs.Run.{Ready, Left, cellsOf, untouched, ran}
+use Rattle.scope.specs.Run.{Ready, Left, cellsOf, leftWith, ran}
 use Rattle.scope.specs.Stages26.{lent, runStage}
 use Rattle.table.proofs.Records.{length-records}
 use Rattle.types.specs.Table.{typeWidths, typeNext}
@@ -31,7 +31,7 @@ module _ (types nodes arrows program hashes given witness : List ℕ) (witnessBi
   Staged left = left ≡ runStage types nodes arrows program hashes given witness witnessBits input inputBits cells frames answer
 
   -- no run
-  pub not-begun : (why : Refusal) → p .answer ≡ NoRun why → Staged (untouched (Refused why) cells frames answer)
+  pub not-begun : (why : Refusal) → p .answer ≡ NoRun why → Staged (leftWith (Refused why) cells frames answer)
   not-begun why e = sym (told-refused types nodes arrows program hashes given witness witnessBits input inputBits cells frames answer p is why e)
 
   -- a run

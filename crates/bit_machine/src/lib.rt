@@ -10,7 +10,7 @@ use ready::RunAnswer;
 use refusal::Answer;
 ghost use mathlib.Core.Path.{_≡_};
 ghost use Prim.Native.Nat.{_^_, _<_};
-ghost use Rattle.scope.specs.Run.{untouched};
+ghost use Rattle.scope.specs.Run.{leftWith};
 ghost use Rattle.scope.specs.Stages26.{runStage};
 
 // How many write frames and read frames stand, and the first cell above all frames.
@@ -64,7 +64,7 @@ pub fn run_stage<'a>(
     frames: &mut [u32],
     answer: &mut [u8],
 ) -> Answer
-    ensures { λ r. ⌜ untouched r (now (cells .exit)) (now (frames .exit)) (now (answer .exit))
+    ensures { λ r. ⌜ leftWith r (now (cells .exit)) (now (frames .exit)) (now (answer .exit))
         ≡ runStage (now (types .entry)) (now (nodes .entry)) (now (arrows .entry)) (now (program .entry)) (now (hashes .entry)) (now (given .entry)) (now (witness .entry)) «witness_bits»
         (now (input .entry)) «input_bits» (now (cells .entry)) (now (frames .entry)) (now (answer .entry)) ⌝ }
 {

@@ -26,7 +26,7 @@ use Rattle.scope.specs.Reading3to5.{Table}
 use Rattle.scope.specs.Walk6to9.{checkWalk}
 use Rattle.scope.specs.Closing10.{decode}
 use Rattle.scope.specs.Arrows11and12.{arrowRecords}
-use Rattle.scope.specs.Run.{Tables, checkTables, tablesOf, Left, untouched, runTables}
+use Rattle.scope.specs.Run.{Tables, checkTables, tablesOf, Left, leftWith, runTables}
 use Rattle.scope.specs.Stages26.{counted, noRecord, recordRule, checkRecords, lentTables, lent, hashStage, runStage}
 use Rattle.exactness.specs.Checks.{every-all, all-every, holds-require, then-passes, holds-each}
 use Rattle.exactness.specs.Nodes.{recordsFrom, hashesOf, layout}
@@ -122,7 +122,7 @@ module _ (program : List ℕ) (records bytes : ℕ) (t : Table) (read : decode p
 
 -- how the run stage ends on tables that pass the tests of lent tables: 11 to 13, or as their run does
 abbrev pub stage : Check (Unit {0}) → Tables → (cells frames answer : List ℕ) → Left
-stage c T cells frames answer = elim c [ passed x ↦ runTables T cells frames answer | refused r ↦ untouched (Refused r) cells frames answer ]
+stage c T cells frames answer = elim c [ passed x ↦ runTables T cells frames answer | refused r ↦ leftWith (Refused r) cells frames answer ]
 
 -- the tables of a dossier that passed 1 to 10
 module _ (d : List ℕ) (records bytes : ℕ) (t : Table) (header : checkHeader d ≡ passed tt) (typed : checkTypes (typeRecords (section d sTypes)) ≡ passed tt)

@@ -23,7 +23,7 @@ use Rattle.scope.specs.Closing10.{decode}
 use Rattle.scope.specs.Program.{whole, wholeSource, wholeTarget}
 use Rattle.scope.specs.Bounds14.{wholeCells, wholeFrames, wholeCost}
 use Rattle.scope.specs.Machine18and19.{machine}
-use Rattle.scope.specs.Run.{Ready, checkReady, tablesOf, checkDossier, untouched, runTables, cellsOf, Ended, ended, run}
+use Rattle.scope.specs.Run.{Ready, checkReady, tablesOf, checkDossier, leftWith, runTables, cellsOf, Ended, ended, run}
 use Rattle.exactness.specs.Nodes.{layout}
 use Rattle.exactness.specs.Programs.{IsProgram}
 use Rattle.exactness.specs.Decoding.{decoded-is-program}
@@ -60,7 +60,7 @@ module _ (d nodes hashes cells frames answer : List ℕ) (r : Answer) (nodes′ 
     -- Against a check of 14 to 17 it is refused for it, and the other stores are as they were.
     pub refused-late : (why : Refusal) → checkReady (tablesOf d t) cells frames answer ≡ refused why
         → (r ≡ Refused why) × (cells′ ≡ cells) × (frames′ ≡ frames) × (answer′ ≡ answer)
-    unfolding run ended runTables untouched
+    unfolding run ended runTables leftWith
     refused-late why e = (
       ap (λ (e : Ended). e .says) promise ∙ rw (passes, run) (rw (e, runTables)),
       ap (λ (e : Ended). e .cells) promise ∙ rw (passes, run) (rw (e, runTables)),

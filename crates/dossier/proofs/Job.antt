@@ -22,7 +22,7 @@ use Rattle.scope.specs.Types2.{typeRecords, checkTypes}
 use Rattle.scope.specs.Nodes.{nodeNumbersOf}
 use Rattle.scope.specs.Reading3to5.{Table}
 use Rattle.scope.specs.Closing10.{decode}
-use Rattle.scope.specs.Run.{Tables, checkTables, tablesOf, checkDossier, Left, untouched, runTables, Ended, ended, run}
+use Rattle.scope.specs.Run.{Tables, checkTables, tablesOf, checkDossier, Left, leftWith, runTables, Ended, ended, run}
 use Rattle.exactness.specs.Checks.{both-passed, then-passes}
 use Rattle.exactness.specs.Nodes.{layout}
 use Rattle.exactness.specs.Decoding.{decoded-is-program}
@@ -111,8 +111,8 @@ module _ (d nodes hashes cells frames answer : List ℕ) where
           ∙ ap (λ (c : Check (Unit {0})). c >>= λ tables. passed t) e
 
       -- 11 to 13 leave no table
-      job-tables : (r : Refusal) → checkTables (tablesOf d t) ≡ refused r → jobEnd (untouched (Refused r) cells frames answer) ≡ run d nodes hashes cells frames answer
-      unfolding settled untouched _>>=_
+      job-tables : (r : Refusal) → checkTables (tablesOf d t) ≡ refused r → jobEnd (leftWith (Refused r) cells frames answer) ≡ run d nodes hashes cells frames answer
+      unfolding settled leftWith _>>=_
       job-tables r q =
           let clears : keeps (Refused r) ≡ false = early-clears r (tables-refuse (tablesOf d t) r q) in
           rw (clears, settled)

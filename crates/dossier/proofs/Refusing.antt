@@ -30,7 +30,7 @@ use Rattle.scope.specs.Witness15.{Values, valuesFrom, checkWitness}
 use Rattle.scope.specs.Input16.{checkInput}
 use Rattle.scope.specs.Stores17.{checkStores}
 use Rattle.scope.specs.Machine18and19.{Step, machine}
-use Rattle.scope.specs.Run.{Tables, Ready, programOf, checkTables, checkReady, Left, untouched, cellsOf, ends, ran, runTables}
+use Rattle.scope.specs.Run.{Tables, Ready, programOf, checkTables, checkReady, Left, leftWith, cellsOf, ends, ran, runTables}
 use Rattle.exactness.specs.Checks as Checks
 
 -- while the tables are checked, and after
@@ -145,7 +145,7 @@ LateAnswer (Refused r) = Late r
 
 -- 18 and 19, or an output
 ends-late : (P : Program) (s : Step) (cells frames answer : List ℕ) → LateAnswer (ends P s cells frames answer .says)
-unfolding ends untouched
+unfolding ends leftWith
 ends-late P (done s) cells frames answer = tt
 ends-late P (failed place s) cells frames answer = omega arith
 ends-late P (pruned place s) cells frames answer = omega arith
@@ -153,11 +153,11 @@ ends-late P stuck cells frames answer = omega arith
 
 -- what is said once the tables stand
 pub tables-late : (T : Tables) (cells frames answer : List ℕ) → LateAnswer (runTables T cells frames answer .says)
-unfolding runTables ran untouched
+unfolding runTables ran leftWith
 tables-late T cells frames answer = go (checkReady T cells frames answer) (ready-refuses T cells frames answer)
   where
     left : Check Ready → Left
-    left c = elim c [ passed R ↦ ran R cells frames answer | refused r ↦ untouched (Refused r) cells frames answer ]
+    left c = elim c [ passed R ↦ ran R cells frames answer | refused r ↦ leftWith (Refused r) cells frames answer ]
 
     go : (c : Check Ready) → Refuses Late c → LateAnswer (left c .says)
     go (passed R) h =

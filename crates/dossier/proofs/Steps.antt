@@ -17,7 +17,7 @@ use Rattle.scope.specs.Reading3to5.{Table}
 use Rattle.scope.specs.Closing10 as Closing10
 use Rattle.scope.specs.Closing10.{nodesLeft, hashesLeft}
 use Rattle.scope.specs.Stages26.{runStage}
-use Rattle.scope.specs.Run.{checkTables, tablesOf, Left, untouched, Ended, ended, run}
+use Rattle.scope.specs.Run.{checkTables, tablesOf, Left, leftWith, Ended, ended, run}
 use Rattle.exactness.specs.Checks.{clash, both-passed}
 use Rattle.table.specs.Answers.{checkOf}
 use Rattle.table.specs.declared.Checked.{Checked}
@@ -134,17 +134,17 @@ module _ (d nodes hashes cells frames answer : List ℕ) (checked : Checked) (ch
       front-is numbers store begun k e f = ap (take k) f ∙ take-at numbers (zeros (length store - length numbers)) k (sym e)
 
       -- 11 to 19, or an output: the stores are settled by what the run stage answered
-      pub ends-settled : (said : Answer) (c f a : List ℕ) → untouched said c f a ≡ sectionsRun d (take (nodeNumbers * sizes .nodes) n) (take (sizes .hashes) h) cells frames answer
+      pub ends-settled : (said : Answer) (c f a : List ℕ) → leftWith said c f a ≡ sectionsRun d (take (nodeNumbers * sizes .nodes) n) (take (sizes .hashes) h) cells frames answer
           → (n′ h′ : List ℕ) → n′ ≡ settled said n → h′ ≡ settled said h → ended said n′ h′ c f a ≡ run d nodes hashes cells frames answer
-      unfolding sectionsRun untouched front
+      unfolding sectionsRun leftWith front
       ends-settled said c f a e n′ h′ en eh =
           let t : Table = stands .0 in
           let s : Stands t = stands .1 in
           let both = both-passed (checkHeader d) (λ header. checkTypes (typeRecords (section d sTypes))) tt typed in
-          let own : untouched said c f a ≡ stage (checkTables (tablesOf d t)) (tablesOf d t) cells frames answer = e
+          let own : leftWith said c f a ≡ stage (checkTables (tablesOf d t)) (tablesOf d t) cells frames answer = e
           ∙ ap₂ (λ (ns hs : List ℕ). sectionsRun d ns hs cells frames answer)
           (front-is (nodeNumbersOf (t .records)) nodes n (nodeNumbers * sizes .nodes) (s .nodes-size) (s .nodes-are))
           (front-is (t .hashes) hashes h (sizes .hashes) (s .hashes-size) (s .hashes-are))
           ∙ stage-own d (length nodes / nodeNumbers) (length hashes) t (both .1) (both .2) (s .read-is) cells frames answer in
           ap₂ (λ (x y : List ℕ). ended said x y c f a) (en ∙ ap (settled said) (s .nodes-are)) (eh ∙ ap (settled said) (s .hashes-are))
-          ∙ job-ran d nodes hashes cells frames answer typed t (s .read-is) (untouched said c f a) own
+          ∙ job-ran d nodes hashes cells frames answer typed t (s .read-is) (leftWith said c f a) own

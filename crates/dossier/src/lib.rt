@@ -7,7 +7,7 @@ use refusal::Answer;
 use table::Checked;
 ghost use mathlib.Core.Path.{_≡_};
 ghost use Rattle.scope.specs.Header1.{checkHeader};
-ghost use Rattle.scope.specs.Run.{untouched, ended, run};
+ghost use Rattle.scope.specs.Run.{leftWith, ended, run};
 ghost use Rattle.table.specs.Answers.{checkOf};
 ghost use Rattle.dossier.specs.Ends.{front, keeps, settled, refusedOf, undecodedOf, sectionsRun};
 
@@ -99,7 +99,7 @@ fn run_decoded<'a>(
     frames: &mut [u32],
     answer: &mut [u8],
 ) -> Answer
-    ensures { λ r. ⌜ untouched r (now (cells .exit)) (now (frames .exit)) (now (answer .exit))
+    ensures { λ r. ⌜ leftWith r (now (cells .exit)) (now (frames .exit)) (now (answer .exit))
         ≡ sectionsRun (now (dossier .entry)) (now (nodes .entry)) (now (hashes .entry)) (now (cells .entry)) (now (frames .entry)) (now (answer .entry)) ⌝ }
 {
     bit_machine::run_stage(

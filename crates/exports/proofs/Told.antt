@@ -10,7 +10,7 @@ use Rattle.scope.specs.Check.{Check, passed, refused}
 use Rattle.scope.specs.Reading3to5.{Table, Got, got, fault}
 use Rattle.scope.specs.Closing10.{nodesLeft, hashesLeft}
 use Rattle.scope.specs.Bounds14.{Bound}
-use Rattle.scope.specs.Run.{Left, untouched, Ended, ended}
+use Rattle.scope.specs.Run.{Left, leftWith, Ended, ended}
 use Rattle.exactness.specs.Checks.{clash}
 use Rattle.bititer.specs.Answers.{naturalFault, gotNatural}
 use Rattle.bititer.specs.declared.NaturalFault.{NaturalFault}
@@ -88,9 +88,9 @@ module _ (r : NaturalRead) (g : Got ℕ) (e : gotNatural r ≡ g) where
   fault-told why q code ec = ap (λ (x : ℕ). read x 0 0) ec ∙ ap readBy (ap gotNatural (sym q) ∙ e)
 
 -- the run stage, and the whole job
-pub stage-told : (left : Left) (said : Answer) (cells frames answer : List ℕ) → untouched said cells frames answer ≡ left
+pub stage-told : (left : Left) (said : Answer) (cells frames answer : List ℕ) → leftWith said cells frames answer ≡ left
     → (code place : ℕ) → code ≡ answerCode said → place ≡ answerTold said → staged code place cells frames answer ≡ stagedBy left
-unfolding stagedBy untouched
+unfolding stagedBy leftWith
 stage-told left said cells frames answer e code place ec ep = ap₂ (λ (x y : ℕ). staged x y cells frames answer) ec ep ∙ ap stagedBy e
 
 pub job-told : (end : Ended) (said : Answer) (nodes hashes cells frames answer : List ℕ) → ended said nodes hashes cells frames answer ≡ end

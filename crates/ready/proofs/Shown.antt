@@ -45,7 +45,7 @@ use Rattle.arrow.proofs.Passed.{LentPassed, lent-passed, stage-passed, stage-ar
 use Rattle.types.specs.Table.{checkTable, typeWidths, typeNext}
 use Rattle.types.proofs.Sound.{counted-passed}
 use Rattle.types.proofs.Tables.{length-tabulate, tabulate-at, tabulate-more}
-use Rattle.ready.specs.Lent.{lentNodes, valueOf, programAt, Reads, TypesShown, Shown}
+use Rattle.ready.specs.Lent.{programNodes, valueOf, programAt, Reads, TypesShown, Shown}
 use Rattle.ready.specs.Positions.{readFor, positionAt, positionsOf}
 use Rattle.ready.proofs.FirstBits.{in-all}
 use Rattle.ready.proofs.Passes.{limits-kept, stores-fit, input-read}
@@ -128,7 +128,7 @@ module _ (types nodes arrows program hashes given witnesses : List ℕ) (witness
   T = lent types nodes arrows program hashes given witnesses witnessBits input inputBits
 
   abbrev pub positions : List ℕ
-  positions = positionsOf (typeRecords types) (lentNodes nodes program hashes) (arrowRecords arrows) witnesses witnessBits
+  positions = positionsOf (typeRecords types) (programNodes nodes program hashes) (arrowRecords arrows) witnesses witnessBits
 
   checked : Checked T
   checked = lent-checked types nodes arrows program hashes given witnesses witnessBits input inputBits tablesPass
@@ -153,36 +153,36 @@ module _ (types nodes arrows program hashes given witnesses : List ℕ) (witness
   }
 
   -- children stand below their node, and past the table's end there are none
-  all-below : (i : ℕ) → AllBelow i (children (nodeAt (lentNodes nodes program hashes) i))
+  all-below : (i : ℕ) → AllBelow i (children (nodeAt (programNodes nodes program hashes) i))
   unfolding lent nodeAt children
-  all-below i = go (decLt i (length (lentNodes nodes program hashes)))
+  all-below i = go (decLt i (length (programNodes nodes program hashes)))
     where
-      go : Dec (i < length (lentNodes nodes program hashes)) → AllBelow i (children (nodeAt (lentNodes nodes program hashes) i))
+      go : Dec (i < length (programNodes nodes program hashes)) → AllBelow i (children (nodeAt (programNodes nodes program hashes) i))
       go (yes h) = checked .below i h
       go (no h) =
-          subst (λ (n : Node). AllBelow i (children n)) (sym (List·getD-eq-default (lentNodes nodes program hashes) (hidden []) {n = i} (omega arith))) tt
+          subst (λ (n : Node). AllBelow i (children n)) (sym (List·getD-eq-default (programNodes nodes program hashes) (hidden []) {n = i} (omega arith))) tt
 
   -- a node other than a hidden one is in the table
-  in-table : (i : ℕ) (n : Node) → nodeAt (lentNodes nodes program hashes) i ≡ n → (n ≡ hidden [] → ⊥) → i < length (lentNodes nodes program hashes)
+  in-table : (i : ℕ) (n : Node) → nodeAt (programNodes nodes program hashes) i ≡ n → (n ≡ hidden [] → ⊥) → i < length (programNodes nodes program hashes)
   unfolding nodeAt
-  in-table i n e other = elim (decLt i (length (lentNodes nodes program hashes))) [
+  in-table i n e other = elim (decLt i (length (programNodes nodes program hashes))) [
     | yes h ↦ h
-    | no h ↦ absurd (other (sym e ∙ List·getD-eq-default (lentNodes nodes program hashes) (hidden []) {n = i} (omega arith)))
+    | no h ↦ absurd (other (sym e ∙ List·getD-eq-default (programNodes nodes program hashes) (hidden []) {n = i} (omega arith)))
   ]
 
   -- the type of a word
-  word-typed : (i n : ℕ) (bits : List Bit) → nodeAt (lentNodes nodes program hashes) i ≡ word n bits
+  word-typed : (i n : ℕ) (bits : List Bit) → nodeAt (programNodes nodes program hashes) i ≡ word n bits
       → tyAt (typeRecords types) (target (arrowRecords arrows) i) ≡ wordTy (n - 1)
   unfolding toTy
   word-typed i n bits e =
       let h = in-table i (word n bits) e (λ f. clash (cc)) in
       let r = stage-arrows types nodes program hashes arrows arrowsPass i (omega (arith, length-nodes (streamOf program) hashes (nodeRecords nodes))) in
       go (fromTy (typeRecords types) (arrowRecords arrows) i) (toTy (typeRecords types) (arrowRecords arrows) i)
-      (subst (λ (m : Node). NodeTyped (lentNodes nodes program hashes) (fromTy (typeRecords types) (arrowRecords arrows)) (toTy (typeRecords types) (arrowRecords arrows)) m
+      (subst (λ (m : Node). NodeTyped (programNodes nodes program hashes) (fromTy (typeRecords types) (arrowRecords arrows)) (toTy (typeRecords types) (arrowRecords arrows)) m
       (fromTy (typeRecords types) (arrowRecords arrows) i) (toTy (typeRecords types) (arrowRecords arrows) i)) e
-      (arrow-typed (typeRecords types) (types-pass (typeRecords types) (lentPass .types-kept)) (lentNodes nodes program hashes) (arrowRecords arrows) i r))
+      (arrow-typed (typeRecords types) (types-pass (typeRecords types) (lentPass .types-kept)) (programNodes nodes program hashes) (arrowRecords arrows) i r))
     where
-      go : (A B : Ty) → NodeTyped (lentNodes nodes program hashes) (fromTy (typeRecords types) (arrowRecords arrows)) (toTy (typeRecords types) (arrowRecords arrows)) (word n bits) A B
+      go : (A B : Ty) → NodeTyped (programNodes nodes program hashes) (fromTy (typeRecords types) (arrowRecords arrows)) (toTy (typeRecords types) (arrowRecords arrows)) (word n bits) A B
           → B ≡ wordTy (n - 1)
       go A B Word = refl
 
@@ -206,11 +206,11 @@ module _ (types nodes arrows program hashes given witnesses : List ℕ) (witness
         let d = both-passed (checkStores P cells frames answer) (λ stored. passed (record { program = programOf T (b .0); input = c .0 })) R (c .2) in
         (b .0, c .0, a .1, b .1, c .1, d .1, cc)
 
-    witness-held : (i : ℕ) → nodeAt (lentNodes nodes program hashes) i ≡ witness
+    witness-held : (i : ℕ) → nodeAt (programNodes nodes program hashes) i ≡ witness
         → Reads (tyAt (typeRecords types) (target (arrowRecords arrows) i)) (drop (getD positions i 0) (streamOf witnesses))
     unfolding lent
     witness-held i w =
-        let m = witness-here (typeRecords types) (lentNodes nodes program hashes) (arrowRecords arrows) witnesses witnessBits (parts .0) (parts .3) i
+        let m = witness-here (typeRecords types) (programNodes nodes program hashes) (arrowRecords arrows) witnesses witnessBits (parts .0) (parts .3) i
         (in-table i witness w (λ f. clash (cc))) w _ refl in
         (_, m .0, m .1)
 
@@ -231,7 +231,7 @@ module _ (types nodes arrows program hashes given witnesses : List ℕ) (witness
     unfolding programAt valueOf lent programOf
     program-is =
         ap (λ (vs : List Val). programOf (lent types nodes arrows program hashes given witnesses 0 [] 0) vs)
-        (values-in (typeRecords types) (lentNodes nodes program hashes) (arrowRecords arrows) witnesses witnessBits (parts .0) (parts .3))
+        (values-in (typeRecords types) (programNodes nodes program hashes) (arrowRecords arrows) witnesses witnessBits (parts .0) (parts .3))
         ∙ sym (ap (λ (Q : Ready). Q .program) (parts .6))
 
     abbrev P : Program

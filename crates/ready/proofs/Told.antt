@@ -10,7 +10,7 @@ use Rattle.scope.specs.Check.{Check, passed, refused, _>>=_}
 use Rattle.scope.specs.Numbers.{zeros}
 use Rattle.scope.specs.Bounds14.{wholeCells, wholeFrames}
 use Rattle.scope.specs.Stores17.{checkStores}
-use Rattle.scope.specs.Run.{Tables, Ready, checkReady, Left, untouched, ran, runTables}
+use Rattle.scope.specs.Run.{Tables, Ready, checkReady, Left, leftWith, ran, runTables}
 use Rattle.scope.specs.Stages26.{lent, hashStage, runStage}
 use Rattle.exactness.specs.Checks.{clash, both-passed}
 use Rattle.types.specs.Table.{typeWidths, typeNext}
@@ -94,7 +94,7 @@ module _ (types nodes arrows program hashes given witness : List ℕ) (witnessBi
 
     -- A REFUSAL: THE STAGE IS REFUSED, ALL STORES UNTOUCHED
     pub told-refused : (why : Refusal) → r .answer ≡ NoRun why
-        → runStage types nodes arrows program hashes given witness witnessBits input inputBits cells frames answer ≡ untouched (Refused why) cells frames answer
+        → runStage types nodes arrows program hashes given witness witnessBits input inputBits cells frames answer ≡ leftWith (Refused why) cells frames answer
     unfolding runStage runTables _>>=_
     told-refused why e = go (hashStage types nodes arrows program hashes given) (checkReady T cells frames answer) refl refl
       where
@@ -103,18 +103,18 @@ module _ (types nodes arrows program hashes given witness : List ℕ) (witnessBi
 
         stage : Check (Unit {0}) → Check Ready → Left
         stage a b = elim a [
-          | passed x ↦ (elim b [ passed R ↦ ran R cells frames answer | refused w ↦ untouched (Refused w) cells frames answer ])
-          | refused w ↦ untouched (Refused w) cells frames answer
+          | passed x ↦ (elim b [ passed R ↦ ran R cells frames answer | refused w ↦ leftWith (Refused w) cells frames answer ])
+          | refused w ↦ leftWith (Refused w) cells frames answer
         ]
 
         go : (a : Check (Unit {0})) (b : Check Ready) → hashStage types nodes arrows program hashes given ≡ a → checkReady T cells frames answer ≡ b
-            → runStage types nodes arrows program hashes given witness witnessBits input inputBits cells frames answer ≡ untouched (Refused why) cells frames answer
+            → runStage types nodes arrows program hashes given witness witnessBits input inputBits cells frames answer ≡ leftWith (Refused why) cells frames answer
         go (refused w) b x y =
             let f : NoRun why ≡ NoRun w = says (refused w) (λ k. x k >>= λ tables. y k) in
-            (λ k. stage (x k) (y k)) ∙ ap (λ (z : Refusal). untouched (Refused z) cells frames answer) (let g : w ≡ why = cc in g)
+            (λ k. stage (x k) (y k)) ∙ ap (λ (z : Refusal). leftWith (Refused z) cells frames answer) (let g : w ≡ why = cc in g)
         go (passed u) (refused w) x y =
             let f : NoRun why ≡ NoRun w = says (refused w) (λ k. x k >>= λ tables. y k) in
-            (λ k. stage (x k) (y k)) ∙ ap (λ (z : Refusal). untouched (Refused z) cells frames answer) (let g : w ≡ why = cc in g)
+            (λ k. stage (x k) (y k)) ∙ ap (λ (z : Refusal). leftWith (Refused z) cells frames answer) (let g : w ≡ why = cc in g)
         go (passed u) (passed R) x y =
             let f : NoRun why ≡ Bounds (wholeCells (R .program)) (wholeFrames (R .program)) = says (passed R) (λ k. x k >>= λ tables. y k) in
             clash (cc)

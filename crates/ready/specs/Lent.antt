@@ -22,14 +22,14 @@ use Rattle.types.specs.Table.{checkTable, typeWidths, typeNext}
 use Rattle.exactness.specs.Bits.{AllBelow}
 
 -- the nodes of a lent table, with its program's bits and its hash bytes
-abbrev pub lentNodes : (nodes program hashes : List ℕ) → List Node
-lentNodes nodes program hashes = nodesOf (streamOf program) hashes (nodeRecords nodes)
+abbrev pub programNodes : (nodes program hashes : List ℕ) → List Node
+programNodes nodes program hashes = nodesOf (streamOf program) hashes (nodeRecords nodes)
 
 -- the value at the position of node i, where it is a witness
 unfoldable pub valueOf : (types nodes arrows program hashes witnesses positions : List ℕ) → (i : ℕ) → Val
 unfolding onWitness valueFrom tyAt target streamOf
 valueOf types nodes arrows program hashes witnesses positions i =
-    onWitness (nodeAt (lentNodes nodes program hashes) i)
+    onWitness (nodeAt (programNodes nodes program hashes) i)
     (valueFrom (tyAt (typeRecords types) (target (arrowRecords arrows) i)) (drop (getD positions i 0) (streamOf witnesses)))
     ⟨⟩
 
@@ -38,7 +38,7 @@ unfoldable pub programAt : (types nodes arrows program hashes given witnesses po
 unfolding programOf lent tabulate valueOf
 programAt types nodes arrows program hashes given witnesses positions =
     programOf (lent types nodes arrows program hashes given witnesses 0 [] 0)
-    (tabulate (length (lentNodes nodes program hashes)) (valueOf types nodes arrows program hashes witnesses positions))
+    (tabulate (length (programNodes nodes program hashes)) (valueOf types nodes arrows program hashes witnesses positions))
 
 -- a value of the type stands at the front of the bits
 abbrev pub Reads : Ty → List Bit → Type 0
@@ -54,13 +54,13 @@ pub record TypesShown (types widths next : List ℕ) : Type 0 where
 -- what is shown of the lent tables before a run
 pub record Shown (types widths next nodes arrows program hashes given witnesses positions : List ℕ) : Type 0 where
   -- children stand below their node
-  pub below : (i : ℕ) → AllBelow i (children (nodeAt (lentNodes nodes program hashes) i))
+  pub below : (i : ℕ) → AllBelow i (children (nodeAt (programNodes nodes program hashes) i))
   pub typed : TypesShown types widths next
   -- a word has the type of words of its length, and all its bits
   pub programFits : length program ≤ dossierBytes
-  pub wordTyped : (i n : ℕ) (bits : List Bit) → nodeAt (lentNodes nodes program hashes) i ≡ word n bits
+  pub wordTyped : (i n : ℕ) (bits : List Bit) → nodeAt (programNodes nodes program hashes) i ≡ word n bits
       → tyAt (typeRecords types) (target (arrowRecords arrows) i) ≡ wordTy (n - 1)
-  pub wordWhole : (i n : ℕ) (bits : List Bit) → nodeAt (lentNodes nodes program hashes) i ≡ word n bits → length bits ≡ 2 ^ (n - 1)
+  pub wordWhole : (i n : ℕ) (bits : List Bit) → nodeAt (programNodes nodes program hashes) i ≡ word n bits → length bits ≡ 2 ^ (n - 1)
   -- the value of a witness stands at its position
-  pub witnessHeld : (i : ℕ) → nodeAt (lentNodes nodes program hashes) i ≡ witness
+  pub witnessHeld : (i : ℕ) → nodeAt (programNodes nodes program hashes) i ≡ witness
       → Reads (tyAt (typeRecords types) (target (arrowRecords arrows) i)) (drop (getD positions i 0) (streamOf witnesses))

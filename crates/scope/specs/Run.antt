@@ -82,8 +82,9 @@ pub record Left : Type 0 where
   pub frames : List ℕ
   pub answer : List ℕ
 
-unfoldable pub untouched : Answer → (cells frames answer : List ℕ) → Left
-untouched says cells frames answer = record { says = says; cells = cells; frames = frames; answer = answer }
+-- an end as a call meets it: what it says, and the three stores with it
+unfoldable pub leftWith : Answer → (cells frames answer : List ℕ) → Left
+leftWith says cells frames answer = record { says = says; cells = cells; frames = frames; answer = answer }
 
 -- the cells of a store of bytes, and a store of as many bytes with these cells
 unfoldable pub cellsOf : List ℕ → Cells
@@ -105,7 +106,7 @@ written bits answer = bytesOf (bytesFor (length bits)) (bits ++ zeros 7) ++ drop
 
 -- how a run ends; it is never stuck
 unfoldable pub ends : Program → Step → (cells frames answer : List ℕ) → Left
-unfolding packed cleared written compact valueAt wholeSource wholeTarget width wholeFrames untouched
+unfolding packed cleared written compact valueAt wholeSource wholeTarget width wholeFrames leftWith
 ends P (done s) cells frames answer =
     let bits = compact (valueAt (wholeTarget P) (s .cells) (width (wholeSource P))) in
     record { says = Value (length bits); cells = packed (length cells) (s .cells); frames = cleared (wholeFrames P) frames; answer = written bits answer }
@@ -113,7 +114,7 @@ ends P (failed place s) cells frames answer =
     record { says = Refused (FailReached place); cells = packed (length cells) (s .cells); frames = cleared (wholeFrames P) frames; answer = answer }
 ends P (pruned place s) cells frames answer =
     record { says = Refused (PrunedReached place); cells = packed (length cells) (s .cells); frames = cleared (wholeFrames P) frames; answer = answer }
-ends P stuck cells frames answer = untouched (Refused (StoreShort 0)) cells frames answer
+ends P stuck cells frames answer = leftWith (Refused (StoreShort 0)) cells frames answer
 
 -- the run itself, in the cells and frames of the bounds
 unfoldable pub ran : Ready → (cells frames answer : List ℕ) → Left
@@ -124,10 +125,10 @@ ran R cells frames answer =
 
 -- 14 to 17, and the run
 unfoldable pub runTables : Tables → (cells frames answer : List ℕ) → Left
-unfolding checkReady ran untouched
+unfolding checkReady ran leftWith
 runTables T cells frames answer = elim (checkReady T cells frames answer) [
   | passed R ↦ ran R cells frames answer
-  | refused r ↦ untouched (Refused r) cells frames answer
+  | refused r ↦ leftWith (Refused r) cells frames answer
 ]
 
 -- what the whole job leaves, and what it says

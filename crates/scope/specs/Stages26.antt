@@ -16,7 +16,7 @@ use Rattle.scope.specs.Walk6to9.{checkWalk}
 use Rattle.scope.specs.Arrows11and12.{arrowRecords, checkArrows}
 use Rattle.scope.specs.Hashes13.{checkHashes}
 use Rattle.scope.specs.Bounds14.{checkBounds}
-use Rattle.scope.specs.Run.{Tables, programOf, checkTables, Left, untouched, runTables}
+use Rattle.scope.specs.Run.{Tables, programOf, checkTables, Left, leftWith, runTables}
 
 -- a table has a record, and not too many
 unfoldable pub counted : (records most : ℕ) → Check (Unit {0})
@@ -116,9 +116,9 @@ boundsStage types nodes arrows program hashes = do
 -- all of it, and the run
 unfoldable pub runStage : (types nodes arrows program hashes given witness : List ℕ) → (witnessBits : ℕ) → (input : List ℕ) → (inputBits : ℕ)
     → (cells frames answer : List ℕ) → Left
-unfolding hashStage lent runTables untouched
+unfolding hashStage lent runTables leftWith
 runStage types nodes arrows program hashes given witness witnessBits input inputBits cells frames answer =
     elim (hashStage types nodes arrows program hashes given) [
       | passed x ↦ runTables (lent types nodes arrows program hashes given witness witnessBits input inputBits) cells frames answer
-      | refused r ↦ untouched (Refused r) cells frames answer
+      | refused r ↦ leftWith (Refused r) cells frames answer
     ]

@@ -24,7 +24,7 @@ use Rattle.scope.specs.Walk6to9.{checkWalk}
 use Rattle.scope.specs.Closing10.{decode}
 use Rattle.scope.specs.Program.{Program, whole, wholeSource}
 use Rattle.scope.specs.Stores17.{checkStores}
-use Rattle.scope.specs.Run.{Tables, Ready, checkTables, checkReady, tablesOf, checkDossier, untouched, runTables, Ended, ended, run}
+use Rattle.scope.specs.Run.{Tables, Ready, checkTables, checkReady, tablesOf, checkDossier, leftWith, runTables, Ended, ended, run}
 use Rattle.exactness.specs.Checks.{clash, both-passed}
 use Rattle.exactness.specs.Bits.{AllBelow}
 use Rattle.exactness.specs.Nodes.{ContentFits, NodeFits, WellFormed, fit-at}
@@ -113,7 +113,7 @@ job-refused d nodes hashes cells frames answer r e = rw (e, run)
 -- refused by 14 to 17
 pub job-unready : (d nodes hashes cells frames answer : List ℕ) (t : Table) (r : Refusal) → checkDossier d nodes hashes ≡ passed t
     → checkReady (tablesOf d t) cells frames answer ≡ refused r → (run d nodes hashes cells frames answer) .says ≡ Refused r
-unfolding run ended runTables untouched
+unfolding run ended runTables leftWith
 job-unready d nodes hashes cells frames answer t r e p = rw (e, run) (rw (p, runTables))
 
 -- the same dossier with stores of the same sizes
