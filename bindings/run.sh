@@ -1,7 +1,8 @@
 #!/bin/sh
 # Builds the proved library, the C example and the Rust bindings with their tests and example, and
 # runs them. Needs the Rattle kit (rt), a C compiler and cargo; no network.
-# DREVALOCI_LIB names a folder that holds libexports.a already; then rt is not called.
+# DREVALOCI_LIB names a folder that holds libexports.a already; then rt is not called. The library is for x86-64:
+# on another processor CC names a compiler for it, EMULATOR what runs it, and cargo's own variables do the same for Rust.
 set -eu
 here=$(cd "$(dirname "$0")" && pwd)
 root=$(dirname "$here")
@@ -14,18 +15,20 @@ fi
 export DREVALOCI_LIB
 cd "$root"
 mkdir -p target/bindings
-cc -std=c99 -Wall -Wextra -Werror -O2 bindings/examples/vault.c "$DREVALOCI_LIB/libexports.a" -o target/bindings/vault-c
-cd bindings
-cargo test --manifest-path rust/Cargo.toml --release --quiet
-cargo build --manifest-path rust/Cargo.toml --release --quiet --example vault
-cd ..
+"${CC:-cc}" -std=c99 -Wall -Wextra -Werror -O2 bindings/examples/vault.c "$DREVALOCI_LIB/libexports.a" -o target/bindings/vault-c
+in_c() {
+  ${EMULATOR:-} target/bindings/vault-c "$@" || true
+}
+in_rust() {
+  (cd bindings && cargo run --manifest-path rust/Cargo.toml --release --quiet --example vault -- "$@")
+}
 expect() {
   echo "$1: $2"
   [ "$2" = "$3" ] || { echo "$1: expected $3" >&2; exit 1; }
 }
-expect "C" "$(target/bindings/vault-c)" "value 1 0"
-expect "Rust" "$(target/cargo/release/examples/vault | tail -n 1)" "value 1 0"
+(cd bindings && cargo test --manifest-path rust/Cargo.toml --release --quiet)
+expect "C" "$(in_c)" "value 1 0"
+expect "Rust" "$(in_rust | tail -n 1)" "value 1 0"
 # A dossier of no bytes has a wrong size.
-target/bindings/vault-c /dev/null > target/bindings/refused || true
-expect "C, an empty dossier" "$(cat target/bindings/refused)" "refused 1 0"
-expect "Rust, an empty dossier" "$(target/cargo/release/examples/vault /dev/null)" "refused 1 0"
+expect "C, an empty dossier" "$(in_c /dev/null)" "refused 1 0"
+expect "Rust, an empty dossier" "$(in_rust /dev/null)" "refused 1 0"

@@ -2,6 +2,7 @@
 # Measures the proved library beside the original, and the stack that calls take: compare/bench.sh [ARGS]
 #   --quick                       fewer and shorter batches
 #   --only naturals|decode|machine
+#   --write FOLDER                times nothing: writes the dossiers of the machine's lines
 # Needs the Rattle kit (rt) and cargo; no network. Nothing else should run on the machine.
 set -eu
 here=$(cd "$(dirname "$0")" && pwd)
@@ -11,9 +12,8 @@ if [ -n "${DREVALOCI_LIB:-}" ]; then
 fi
 "$here/prepare.sh"
 cd "$here"
-cargo build --release --quiet --package compare
 rustc --version
 grep -m 1 "model name" /proc/cpuinfo || true
-../target/cargo/release/bench "$@"
+cargo run --release --quiet --package compare --bin bench -- "$@"
 echo
-../target/cargo/release/stack
+cargo run --release --quiet --package compare --bin stack

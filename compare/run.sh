@@ -15,6 +15,5 @@ fi
 "$here/prepare.sh"
 cd "$here"
 cargo test --release --quiet --package compare
-cargo build --release --quiet --package compare
 echo "compare $*"
-../target/cargo/release/compare --saved ../target/compare/differences "$@"
+cargo run --release --quiet --package compare --bin compare -- --saved ../target/compare/differences "$@"
