@@ -8,7 +8,7 @@ use lib.Seq.{sets}
 use Rattle.report.specs.Bits.{bitsOf}
 use Rattle.scope.specs.Numbers.{zeros}
 use Rattle.bititer.proofs.Bits.{Bytes, bits-tell}
-use Rattle.cells.specs.Copying.{copyBits}
+use Rattle.cells.specs.Copying.{copyBits, bitsFrom}
 
 -- two stores with the same bits
 same-store : (bits s t : List ℕ) → Bytes s → Bytes t → bitsOf s ≡ bits → bitsOf t ≡ bits → s ≡ t
@@ -25,3 +25,7 @@ copy-cells cells s t from to n hs ht d e = same-store (copyBits (bitsOf cells) f
 
 pub zero-cells : (cells s t : List ℕ) (at n : ℕ) → Bytes s → Bytes t → bitsOf s ≡ sets (bitsOf cells) at (zeros n) → bitsOf t ≡ sets (bitsOf cells) at (zeros n) → s ≡ t
 zero-cells cells s t at n hs ht d e = same-store (sets (bitsOf cells) at (zeros n)) s t hs ht d e
+
+pub put-bits : (source cells s t : List ℕ) (p n at : ℕ) → Bytes s → Bytes t → bitsOf s ≡ sets (bitsOf cells) at (bitsFrom (bitsOf source) p n)
+    → bitsOf t ≡ sets (bitsOf cells) at (bitsFrom (bitsOf source) p n) → s ≡ t
+put-bits source cells s t p n at hs ht d e = same-store (sets (bitsOf cells) at (bitsFrom (bitsOf source) p n)) s t hs ht d e

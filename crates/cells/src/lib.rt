@@ -7,7 +7,7 @@ ghost use lib.ListN.{getD, set};
 ghost use lib.Seq.{sets};
 ghost use Rattle.report.specs.Bits.{byteBits, bitsOf};
 ghost use Rattle.scope.specs.Numbers.{zeros};
-ghost use Rattle.cells.specs.Copying.{copyBits};
+ghost use Rattle.cells.specs.Copying.{copyBits, bitsFrom};
 
 // The byte x with its bit k, from the top, set to b.
 fn with_bit(x: u8, k: usize, b: u8) -> u8
@@ -77,5 +77,17 @@ pub fn zero_cells(cells: &mut [u8], at: u32, n: u32)
     while done < n {
         put_cell(cells, at as usize + done as usize, 0);
         done += 1;
+    }
+}
+
+// n bits of a source from bit p on, put into the cells from `at` on; a bit past the source's end is 0.
+pub fn put_bits(source: &[u8], p: u32, n: u32, cells: &mut [u8], at: u32)
+    ensures { λ _. ⌜ bitsOf (now (cells .exit)) ≡ sets (bitsOf (now (cells .entry))) at (bitsFrom (bitsOf (now (source .entry))) p n) ⌝ }
+{
+    let mut put: u32 = 0;
+    while put < n {
+        let b = cell(source, p as usize + put as usize);
+        put_cell(cells, at as usize + put as usize, b);
+        put += 1;
     }
 }
