@@ -1,17 +1,21 @@
 -- One cell set: what that does to its byte is one test, computed over all bytes, places and both bits; a law carries it to the whole string.
-use mathlib.Core.Path.{_≡_, ap, sym, _∙_}
+-- Eight cells at once: a byte stored is eight bits put, and the eight bits from any place on are two neighbours shifted together.
+use mathlib.Core.Path.{_≡_, refl, ap, ap₂, sym, subst, _∙_}
 use mathlib.Core.Bool.{Bool}
 use mathlib.Core.List.{List, [], _∷_, _++_}
 use Prim.Native.Nat.{ℕ, zero, suc, _+_, _*_, _-_, _/_, _%_, _^_, _≤_, _<_}
 use native.Mathlib.Nat.{not-suc-le-zero, zero-add, suc-add}
 use native.Mathlib.Omega.{arith}
-use lib.Dec.{T, leb, ltb, leb→le, ltb→lt}
-use lib.ListN.{length, getD, set, List·getD-eq-default}
-use lib.Seq.{set-append-left, set-out}
-use Rattle.report.specs.Bits.{byteBits, bitsOf}
-use Rattle.scope.specs.Numbers.{same}
+use lib.Dec.{T, leb, ltb, leb→le, ltb→lt, lit<}
+use lib.ListN.{length, getD, set, length-append, length-replicate, replicate-append-replicate, List·getD-eq-default}
+use lib.Seq.{sets, set-append-left, set-out, take-all}
+use Rattle.report.specs.Bits.{byteBits, bitsOf, numberFrom, bytesOf}
+use Rattle.scope.specs.Numbers.{same, zeros}
 use Rattle.bititer.proofs.Tests.{both, both-left, both-right, below, below-at, same-eq}
-use Rattle.bititer.proofs.Bits.{length-bits}
+use Rattle.bititer.proofs.Bits.{Bytes, length-bits, bit-small, byte-at, unpacking}
+use Rattle.bititer.proofs.Octets.{byte-split}
+use Rattle.cells.specs.Copying.{bitsFrom}
+use Rattle.cells.proofs.Parts.{length-bits-from, bits-within, bits-alike}
 
 -- the unit of a byte's bit k, what stands there, and the byte with bit b there, as the code computes them
 abbrev pub unit : ℕ → ℕ
@@ -89,3 +93,94 @@ past-set s p b h = set-out (bitsOf s) p b (omega (arith, length-bits s))
 
 pub past-read : (s : List ℕ) (p : ℕ) → length s ≤ p / 8 → getD (bitsOf s) p 0 ≡ 0
 past-read s p h = let l : length (bitsOf s) ≤ p = omega (arith, length-bits s) in List·getD-eq-default (bitsOf s) 0 l
+
+-- a whole byte stored is its eight bits put
+sets-append-add : (xs ys : List ℕ) (n : ℕ) (vs : List ℕ) → sets (xs ++ ys) (length xs + n) vs ≡ xs ++ sets ys n vs
+sets-append-add xs ys n [] = refl
+sets-append-add xs ys n (a ∷ vs) =
+    let e : suc (length xs + n) ≡ length xs + suc n = omega arith in
+    ap₂ (λ (l : List ℕ) (j : ℕ). sets l j vs) (set-append-add xs ys n a) e ∙ sets-append-add xs (set ys n a) (suc n) vs
+
+pub byte-set : (s : List ℕ) (i x : ℕ) → i < length s → bitsOf (set s i x) ≡ sets (bitsOf s) (8 * i) (byteBits x)
+unfolding bitsOf
+byte-set [] i x h = absurd (not-suc-le-zero h)
+byte-set (y ∷ s) zero x h = refl
+byte-set (y ∷ s) (suc i) x h =
+    let z : 8 * suc i ≡ 8 + 8 * i = omega arith in
+    ap (λ (t : List ℕ). byteBits y ++ t) (byte-set s i x (omega arith))
+    ∙ sym (sets-append-add (byteBits y) (bitsOf s) (8 * i) (byteBits x))
+    ∙ ap (λ (n : ℕ). sets (byteBits y ++ bitsOf s) n (byteBits x)) (sym z)
+
+sets-out : (l : List ℕ) (t : ℕ) (vs : List ℕ) → length l ≤ t → sets l t vs ≡ l
+sets-out l t [] h = refl
+sets-out l t (a ∷ vs) h = ap (λ (m : List ℕ). sets m (suc t) vs) (set-out l t a h) ∙ sets-out l (suc t) vs (omega arith)
+
+pub past-byte : (s : List ℕ) (i x : ℕ) → length s ≤ i → sets (bitsOf s) (8 * i) (byteBits x) ≡ bitsOf s
+past-byte s i x h = sets-out (bitsOf s) (8 * i) (byteBits x) (omega (arith, length-bits s))
+
+-- zeros behind a list are what is read past its end anyway
+getD-padded : (l : List ℕ) (n j : ℕ) → getD (l ++ zeros n) j 0 ≡ getD l j 0
+getD-padded [] zero j = refl
+getD-padded [] (suc n) zero = refl
+getD-padded [] (suc n) (suc j) = getD-padded [] n j
+getD-padded (x ∷ l) n zero = refl
+getD-padded (x ∷ l) n (suc j) = getD-padded l n j
+
+bits-padded : (s : List ℕ) (n : ℕ) → bitsOf (s ++ zeros n) ≡ bitsOf s ++ zeros (8 * n)
+unfolding bitsOf
+bits-padded [] zero = refl
+bits-padded [] (suc n) =
+    let e : 8 * suc n ≡ 8 + 8 * n = omega arith in
+    ap (λ (t : List ℕ). byteBits 0 ++ t) (bits-padded [] n) ∙ replicate-append-replicate 8 (8 * n) 0 ∙ ap zeros (sym e)
+bits-padded (x ∷ s) n = ap (λ (t : List ℕ). byteBits x ++ t) (bits-padded s n)
+
+-- eight bits of a string are a byte's
+small-from : (s : List ℕ) (p n i : ℕ) → getD (bitsFrom (bitsOf s) p n) i 0 < 2
+unfolding bitsFrom
+small-from s p zero i = lit< tt
+small-from s p (suc n) zero = bit-small s p
+small-from s p (suc n) (suc i) = small-from s (suc p) n i
+
+eight-from : (s : List ℕ) (p : ℕ) → byteBits (numberFrom 0 (bitsFrom (bitsOf s) p 8)) ≡ bitsFrom (bitsOf s) p 8
+unfolding bitsOf bytesOf
+eight-from s p =
+    let l = bitsFrom (bitsOf s) p 8 in
+    ap (λ (t : List ℕ). byteBits (numberFrom 0 t)) (sym (take-all 8 l (omega (arith, length-bits-from (bitsOf s) p 8))))
+    ∙ unpacking 1 l (length-bits-from (bitsOf s) p 8) (small-from s p 8)
+
+-- eight bits from a place on as the code computes them, from the byte x in which they begin and the next; for a place past the end zero bytes are put behind the string
+abbrev pub across : (x y k : ℕ) → ℕ
+across x y k = x * 2 ^ k % 256 + y / 2 ^ (8 - k)
+
+pub across-fits : (x y k : ℕ) → x < 256 → y < 256 → k < 8 → across x y k < 256
+across-fits x y k hx hy hk = omega (arith, byte-at k x hk hx .low-fits, byte-at k y hk hy .high-small)
+
+within : (s : List ℕ) (i k : ℕ) → Bytes s → k < 8 → i + 1 < length s → byteBits (across (getD s i 0) (getD s (i + 1) 0) k) ≡ bitsFrom (bitsOf s) (8 * i + k) 8
+within s i k h hk l =
+    ap (λ (n : ℕ). byteBits n)
+    (sym (byte-split s i k hk l (h i) (h (i + 1))) ∙ ap (numberFrom 0) (sym (bits-within (bitsOf s) (8 * i + k) 8 (omega (arith, length-bits s)))))
+    ∙ eight-from s (8 * i + k)
+
+anywhere : (s : List ℕ) (i k : ℕ) → Bytes s → k < 8 → byteBits (across (getD s i 0) (getD s (i + 1) 0) k) ≡ bitsFrom (bitsOf s) (8 * i + k) 8
+anywhere s i k h hk =
+    let t = s ++ zeros (i + 2) in
+    ap₂ (λ (x y : ℕ). byteBits (across x y k)) (sym (getD-padded s (i + 2) i)) (sym (getD-padded s (i + 2) (i + 1)))
+    ∙ within t i k (λ j. subst (λ (x : ℕ). x < 256) (sym (getD-padded s (i + 2) j)) (h j)) hk
+    (omega (arith, length-append s (zeros (i + 2)), length-replicate {A = ℕ} (i + 2) 0))
+    ∙ bits-alike (bitsOf t) (bitsOf s) (λ j. ap (λ (l : List ℕ). getD l j 0) (bits-padded s (i + 2)) ∙ getD-padded (bitsOf s) (8 * (i + 2)) j) (8 * i + k) 8
+
+pub byte-across : (s : List ℕ) (p x y : ℕ) → Bytes s → x ≡ getD s (p / 8) 0 → y ≡ getD s (p / 8 + 1) 0 → byteBits (across x y (p % 8)) ≡ bitsFrom (bitsOf s) p 8
+byte-across s p x y h u v =
+    let z : 8 * (p / 8) + p % 8 ≡ p = omega arith in
+    ap₂ (λ (m n : ℕ). byteBits (across m n (p % 8))) u v
+    ∙ anywhere s (p / 8) (p % 8) h (omega arith)
+    ∙ ap (λ (q : ℕ). bitsFrom (bitsOf s) q 8) z
+
+-- at the start of a byte they are that byte
+pub byte-whole : (s : List ℕ) (p x : ℕ) → Bytes s → x ≡ getD s (p / 8) 0 → p % 8 ≡ 0 → byteBits x ≡ bitsFrom (bitsOf s) p 8
+byte-whole s p x h u e =
+    let z : 8 * (p / 8) + 0 ≡ p = omega arith in
+    let w : x ≡ across (getD s (p / 8) 0) (getD s (p / 8 + 1) 0) 0 = omega (arith, h (p / 8), h (p / 8 + 1)) in
+    ap (λ (n : ℕ). byteBits n) w
+    ∙ anywhere s (p / 8) 0 h (lit< tt)
+    ∙ ap (λ (q : ℕ). bitsFrom (bitsOf s) q 8) z

@@ -1,48 +1,59 @@
--- Copying and clearing in a list of bits: a turn of the code's loops, and which cells hold what afterwards.
-use mathlib.Core.Path.{_≡_, refl, ap, sym, _∙_}
+-- Copying in a list of bits: a step and a turn of the code's loop, and which cells hold what afterwards.
+use mathlib.Core.Path.{_≡_, refl, ap, ap₂, sym, _∙_}
+use mathlib.Core.Bool.{true}
 use mathlib.Core.List.{List, _++_}
 use mathlib.Core.Logic.{_⊎_, inl, inr, ⊎-elim}
-use Prim.Native.Nat.{ℕ, zero, suc, _+_, _-_, _%_, _≤_, _<_}
-use native.Mathlib.Nat.{add-zero, sub-zero, not-suc-le-zero}
+use Prim.Native.Nat.{ℕ, zero, suc, _+_, _-_, _≤_, _<_}
+use native.Mathlib.Nat.{zero-add, add-zero, add-assoc, sub-zero, not-suc-le-zero}
 use native.Mathlib.Omega.{arith}
 use native.Mathlib.Decide.{decLt}
+use borrow.Author.Tests.{leb-true}
+use lib.Dec.{leb}
 use lib.ListN.{length, getD, set, take, drop, length-set, length-drop, List·getD-append}
 use lib.Seq.{sets, paste, length-paste, length-paste-head, length-take-le, getD-append-add, getD-take, getD-drop, getD-set-same, getD-set-other, ext-getD}
-use Rattle.scope.specs.Numbers.{zeros}
-use Rattle.cells.specs.Copying.{copyBits}
+use Rattle.cells.specs.Copying.{copyBits, bitsFrom}
+use Rattle.cells.proofs.Parts.{bits-set}
 
 -- the loop that copies
 pub copy-start : (l : List ℕ) (f t n : ℕ) → copyBits l f t n ≡ copyBits l (f + 0) (t + 0) (n - 0)
 copy-start l f t n = rw (add-zero f, add-zero t, sub-zero n)
 
-pub copy-turn : (l m : List ℕ) (f t n i b : ℕ) → i < n → b ≡ getD l (f + i) 0 → b < 2 → m ≡ set l (t + i) (b % 2)
-    → copyBits l (f + i) (t + i) (n - i) ≡ copyBits m (f + (i + 1)) (t + (i + 1)) (n - (i + 1))
-unfolding copyBits
-copy-turn l m f t n i b h e s q =
-    let u : n - i ≡ suc (n - (i + 1)) = omega arith in
-    let v : f + (i + 1) ≡ suc (f + i) = omega arith in
-    let w : t + (i + 1) ≡ suc (t + i) = omega arith in
-    let z : getD l (f + i) 0 ≡ b % 2 = omega arith in
-    ap (copyBits l (f + i) (t + i)) u
-    ∙ ap (λ (x : ℕ). copyBits (set l (t + i) x) (suc (f + i)) (suc (t + i)) (n - (i + 1))) z
-    ∙ rw (q, v, w)
+pub copy-turn : (l m : List ℕ) (f t n i r : ℕ) → copyBits l (f + i) (t + i) (n - i) ≡ copyBits m (f + i + r) (t + i + r) (n - i - r)
+    → copyBits l (f + i) (t + i) (n - i) ≡ copyBits m (f + (i + r)) (t + (i + r)) (n - (i + r))
+copy-turn l m f t n i r e =
+    let u : n - i - r ≡ n - (i + r) = omega arith in
+    e ∙ rw (add-assoc f i r, add-assoc t i r, u)
 
 pub copy-done : (l : List ℕ) (f t n i : ℕ) → n ≤ i → copyBits l f t (n - i) ≡ l
 unfolding copyBits
 copy-done l f t n i h = let e : n - i ≡ 0 = omega arith in rw e
 
--- the loop that clears
-pub zero-start : (l : List ℕ) (t n : ℕ) → sets l t (zeros n) ≡ sets l (t + 0) (zeros (n - 0))
-zero-start l t n = rw (add-zero t, sub-zero n)
+-- a step: k cells at once, where none of them is written before it is read
+copy-part : (l : List ℕ) (f t k n : ℕ) → (t ≤ f) ⊎ (f + k ≤ t) → copyBits l f t (k + n) ≡ copyBits (sets l t (bitsFrom l f k)) (f + k) (t + k) n
+unfolding copyBits bitsFrom
+copy-part l f t zero n h = rw (zero-add n, add-zero f, add-zero t)
+copy-part l f t (suc k) n h =
+    let u : suc k + n ≡ suc (k + n) = omega arith in
+    let v : suc f + k ≡ f + suc k = omega arith in
+    let w : suc t + k ≡ t + suc k = omega arith in
+    let m = set l t (getD l f 0) in
+    ap (copyBits l f t) u
+    ∙ copy-part m (suc f) (suc t) k n (⊎-elim (λ p. inl (omega arith)) (λ p. inr (omega arith)) h)
+    ∙ ap (λ (bs : List ℕ). copyBits (sets m (suc t) bs) (suc f + k) (suc t + k) n) (bits-set l t (getD l f 0) (suc f) k (⊎-elim (λ p. inl (omega arith)) (λ p. inr (omega arith)) h))
+    ∙ ap₂ (λ (i j : ℕ). copyBits (sets m (suc t) (bitsFrom l (suc f) k)) i j n) v w
 
-pub zero-turn : (l m : List ℕ) (t n i : ℕ) → i < n → m ≡ set l (t + i) 0 → sets l (t + i) (zeros (n - i)) ≡ sets m (t + (i + 1)) (zeros (n - (i + 1)))
-zero-turn l m t n i h q =
-    let u : n - i ≡ suc (n - (i + 1)) = omega arith in
-    let w : t + (i + 1) ≡ suc (t + i) = omega arith in
-    ap (λ (k : ℕ). sets l (t + i) (zeros k)) u ∙ rw (q, w)
+-- sources and targets are apart where the code's tests say so
+pub far : (f t : ℕ) → f < t → leb 8 (t - f) ≡ true → f + 8 ≤ t
+far f t h e = omega (arith, leb-true 8 (t - f) e)
 
-pub zero-done : (l : List ℕ) (t n i : ℕ) → n ≤ i → sets l t (zeros (n - i)) ≡ l
-zero-done l t n i h = let e : n - i ≡ 0 = omega arith in rw e
+-- one cell is never written before it is read
+pub one-apart : (f t : ℕ) → (t ≤ f) ⊎ (f + 1 ≤ t)
+one-apart f t = elim (decLt f t) [ yes h ↦ inr (omega arith) | no h ↦ inl (omega arith) ]
+
+pub copy-step : (l m : List ℕ) (f t n r : ℕ) → r ≤ n → (t ≤ f) ⊎ (f + r ≤ t) → m ≡ sets l t (bitsFrom l f r) → copyBits l f t n ≡ copyBits m (f + r) (t + r) (n - r)
+copy-step l m f t n r h a q =
+    let u : n ≡ r + (n - r) = omega arith in
+    ap (copyBits l f t) u ∙ copy-part l f t r (n - r) a ∙ ap (λ (k : List ℕ). copyBits k (f + r) (t + r) (n - r)) (sym q)
 
 -- which cells hold what after a copy
 pub length-copy : (l : List ℕ) (from to n : ℕ) → length (copyBits l from to n) ≡ length l

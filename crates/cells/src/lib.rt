@@ -1,8 +1,9 @@
-// The machine's cells, packed in lent bytes from the top bit of each: one is read or written, a run is copied or cleared.
+// The machine's cells, packed in lent bytes from the top bit of each: one is read or written, a run is copied, cleared or put from elsewhere,
+// eight cells at once where they fill a byte.
 // Past the end a cell reads as 0 and a write does nothing. A position and a count are u32, so that a usize holds their sum.
 // Each promise is over the list of bits; bytes are told by their bits (bititer's law bits-tell).
 ghost use mathlib.Core.Path.{_≡_};
-ghost use Prim.Native.Nat.{_%_, _<_};
+ghost use Prim.Native.Nat.{_+_, _-_, _*_, _%_, _<_, _≤_};
 ghost use lib.ListN.{getD, set};
 ghost use lib.Seq.{sets};
 ghost use Rattle.report.specs.Bits.{byteBits, bitsOf};
@@ -43,6 +44,78 @@ fn put_cell(cells: &mut [u8], p: usize, b: u8)
     }
 }
 
+// The byte at i; 0 past the end.
+fn byte(cells: &[u8], i: usize) -> u8
+    ensures { λ r. ⌜ r ≡ getD (now (cells .entry)) i 0 ⌝ }
+{
+    if i < cells.len() { cells[i] } else { 0 }
+}
+
+// The eight cells from p on, as a byte.
+fn byte_at(cells: &[u8], p: usize) -> u8
+    ensures { λ r. ⌜ byteBits r ≡ bitsFrom (bitsOf (now (cells .entry))) p 8 ⌝ }
+{
+    let i = p / 8;
+    let k = p % 8;
+    let first = byte(cells, i);
+    if k == 0 {
+        return first;
+    }
+    (first << k) + (byte(cells, i + 1) >> (8 - k))
+}
+
+// The byte at i set to x.
+fn put_byte(cells: &mut [u8], i: usize, x: u8)
+    ensures { λ _. ⌜ bitsOf (now (cells .exit)) ≡ sets (bitsOf (now (cells .entry))) (8 * i) (byteBits x) ⌝ }
+{
+    if i < cells.len() {
+        cells[i] = x;
+    }
+}
+
+// The first of n cells to be copied, eight at once where they fill a byte and none of them is written before it is read; how many they are.
+fn copy_step(cells: &mut [u8], from: usize, to: usize, n: u32) -> u32
+    requires { ⌜ 0 < n ⌝ }
+    ensures { λ r. ⌜ (0 < r) × (r ≤ n) × (copyBits (bitsOf (now (cells .entry))) from to n ≡ copyBits (bitsOf (now (cells .exit))) (from + r) (to + r) (n - r)) ⌝ }
+{
+    if to % 8 == 0 && 8 <= n && (to <= from || 8 <= to - from) {
+        let x = byte_at(cells, from);
+        put_byte(cells, to / 8, x);
+        return 8;
+    }
+    let b = cell(cells, from);
+    put_cell(cells, to, b);
+    1
+}
+
+// The first of n cells set to 0, eight at once where they fill a byte; how many they are.
+fn zero_step(cells: &mut [u8], at: usize, n: u32) -> u32
+    requires { ⌜ 0 < n ⌝ }
+    ensures { λ r. ⌜ (0 < r) × (r ≤ n) × (sets (bitsOf (now (cells .entry))) at (zeros n) ≡ sets (bitsOf (now (cells .exit))) (at + r) (zeros (n - r))) ⌝ }
+{
+    if at % 8 == 0 && 8 <= n {
+        put_byte(cells, at / 8, 0);
+        return 8;
+    }
+    put_cell(cells, at, 0);
+    1
+}
+
+// The first of n bits of a source from bit p on put into the cells, eight at once where they fill a byte; how many they are.
+fn put_step(source: &[u8], p: usize, n: u32, cells: &mut [u8], at: usize) -> u32
+    requires { ⌜ 0 < n ⌝ }
+    ensures { λ r. ⌜ (0 < r) × (r ≤ n) × (sets (bitsOf (now (cells .entry))) at (bitsFrom (bitsOf (now (source .entry))) p n) ≡ sets (bitsOf (now (cells .exit))) (at + r) (bitsFrom (bitsOf (now (source .entry))) (p + r) (n - r))) ⌝ }
+{
+    if at % 8 == 0 && 8 <= n {
+        let x = byte_at(source, p);
+        put_byte(cells, at / 8, x);
+        return 8;
+    }
+    let b = cell(source, p);
+    put_cell(cells, at, b);
+    1
+}
+
 // The cell at p; 0 past the end.
 pub fn read_cell(cells: &[u8], p: u32) -> u8
     ensures { λ r. ⌜ r ≡ getD (bitsOf (now (cells .entry))) p 0 ⌝ }
@@ -63,9 +136,12 @@ pub fn copy_cells(cells: &mut [u8], from: u32, to: u32, n: u32)
 {
     let mut i: u32 = 0;
     while i < n {
-        let b = cell(cells, from as usize + i as usize);
-        put_cell(cells, to as usize + i as usize, b);
-        i += 1;
+        i += copy_step(
+            cells,
+            from as usize + i as usize,
+            to as usize + i as usize,
+            n - i,
+        );
     }
 }
 
@@ -75,8 +151,7 @@ pub fn zero_cells(cells: &mut [u8], at: u32, n: u32)
 {
     let mut done: u32 = 0;
     while done < n {
-        put_cell(cells, at as usize + done as usize, 0);
-        done += 1;
+        done += zero_step(cells, at as usize + done as usize, n - done);
     }
 }
 
@@ -86,8 +161,12 @@ pub fn put_bits(source: &[u8], p: u32, n: u32, cells: &mut [u8], at: u32)
 {
     let mut put: u32 = 0;
     while put < n {
-        let b = cell(source, p as usize + put as usize);
-        put_cell(cells, at as usize + put as usize, b);
-        put += 1;
+        put += put_step(
+            source,
+            p as usize + put as usize,
+            n - put,
+            cells,
+            at as usize + put as usize,
+        );
     }
 }

@@ -2,12 +2,11 @@
 -- Those cells are the measure.
 use Rattle.cells.proofs.Copies.{copy-start, copy-turn, copy-done}
 use Rattle.cells.specs.Copying.{copyBits}
-use Rattle.bititer.proofs.Bits.{bit-small}
 use Rattle.report.specs.Bits.{bitsOf}
 use lib.ListN.{length}
-use borrow.Author.Needs.{needs}
-use Prim.Native.Nat.{_+_, _-_, _≤_, _<_}
+use Prim.Native.Nat.{_+_, _-_, _≤_}
 use mathlib.Core.Path.{_≡_, refl, sym, _∙_}
+use borrow.Author.Needs.{needs}
 use Rattle.cells.proofs.copy_cells.Statement.{statement}
 use Rattle.cells.proofs.copy_cells.Tie as tie
 
@@ -21,23 +20,23 @@ abbrev μ-loop : tie.MeasureT-loop
 loop-holds : tie.Need-loop-holds Inv-loop μ-loop
 loop-holds c = (copy-start _ _ _ _, search needs, refl)
 
-cast-cell : tie.Need-cast-cell Inv-loop μ-loop
-cast-cell c = search needs
+cast-copy-step : tie.Need-cast-copy-step Inv-loop μ-loop
+cast-copy-step c = search needs
 
-add-cell : tie.Need-add-cell Inv-loop μ-loop
-add-cell c = search needs
+add-copy-step : tie.Need-add-copy-step Inv-loop μ-loop
+add-copy-step c = search needs
 
-cell-requires : tie.Need-cell-requires Inv-loop μ-loop
-cell-requires c κs = search needs
+cast-copy-step-2 : tie.Need-cast-copy-step-2 Inv-loop μ-loop
+cast-copy-step-2 c = search needs
 
-cast-put-cell : tie.Need-cast-put-cell Inv-loop μ-loop
-cast-put-cell c = search needs
+add-copy-step-2 : tie.Need-add-copy-step-2 Inv-loop μ-loop
+add-copy-step-2 c = search needs
 
-add-put-cell : tie.Need-add-put-cell Inv-loop μ-loop
-add-put-cell c = search needs
+sub-copy-step : tie.Need-sub-copy-step Inv-loop μ-loop
+sub-copy-step c = search needs
 
-put-cell-requires : tie.Need-put-cell-requires Inv-loop μ-loop
-put-cell-requires c κs = search needs
+copy-step-requires : tie.Need-copy-step-requires Inv-loop μ-loop
+copy-step-requires c κs = search needs
 
 add-i : tie.Need-add-i Inv-loop μ-loop
 add-i c = search needs
@@ -47,11 +46,10 @@ loop-less c = search needs
 
 loop-again : tie.Need-loop-again Inv-loop μ-loop
 loop-again c =
-    let a = c .before .before .before .before .before .before .before .before .before .args in
-    let l = c .before .before .before .before .before .before .before .loop in
-    let b = c .before .before .before .before .cell in
-    let s : b .result < 2 = rw (b .ensures) (bit-small (l .cells) (a .from + l .i)) in (
-      l .inv .0 ∙ copy-turn (bitsOf (l .cells)) _ (a .from) (a .to) (a .n) (l .i) (b .result) (c .before .before .before .before .before .before .loop-test .taken) (b .ensures) s (c .before .before .put-cell .ensures),
+    let a = c .before .before .before .before .before .before .before .args in
+    let l = c .before .before .before .before .before .loop in
+    let r = c .before .before .copy-step in (
+      l .inv .0 ∙ copy-turn (bitsOf (l .cells)) _ (a .from) (a .to) (a .n) (l .i) (r .result) (r .ensures .2),
       search needs,
       search needs,
     )
@@ -69,12 +67,12 @@ copy-cells-spec =
     Inv-loop
     μ-loop
     loop-holds
-    cast-cell
-    add-cell
-    cell-requires
-    cast-put-cell
-    add-put-cell
-    put-cell-requires
+    cast-copy-step
+    add-copy-step
+    cast-copy-step-2
+    add-copy-step-2
+    sub-copy-step
+    copy-step-requires
     add-i
     loop-less
     loop-again

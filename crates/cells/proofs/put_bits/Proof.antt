@@ -2,13 +2,12 @@
 -- Those bits are the measure.
 use Rattle.cells.proofs.Parts.{put-start, put-turn, put-done}
 use Rattle.cells.specs.Copying.{bitsFrom}
-use Rattle.bititer.proofs.Bits.{bit-small}
-use Rattle.report.specs.Bits.{bitsOf}
 use lib.Seq.{sets}
+use Rattle.report.specs.Bits.{bitsOf}
 use lib.ListN.{length}
-use borrow.Author.Needs.{needs}
-use Prim.Native.Nat.{_+_, _-_, _≤_, _<_}
+use Prim.Native.Nat.{_+_, _-_, _≤_}
 use mathlib.Core.Path.{_≡_, refl, sym, _∙_}
+use borrow.Author.Needs.{needs}
 use Rattle.cells.proofs.put_bits.Statement.{statement}
 use Rattle.cells.proofs.put_bits.Tie as tie
 
@@ -24,23 +23,23 @@ loop-holds c =
     let a = c .before .before .args in
     (put-start (bitsOf (a .cells .now)) (bitsOf (a .source .now)) (a .p) (a .at) (a .n), search needs, refl)
 
-cast-cell : tie.Need-cast-cell Inv-loop μ-loop
-cast-cell c = search needs
+cast-put-step : tie.Need-cast-put-step Inv-loop μ-loop
+cast-put-step c = search needs
 
-add-cell : tie.Need-add-cell Inv-loop μ-loop
-add-cell c = search needs
+add-put-step : tie.Need-add-put-step Inv-loop μ-loop
+add-put-step c = search needs
 
-cell-requires : tie.Need-cell-requires Inv-loop μ-loop
-cell-requires c κs = search needs
+sub-put-step : tie.Need-sub-put-step Inv-loop μ-loop
+sub-put-step c = search needs
 
-cast-put-cell : tie.Need-cast-put-cell Inv-loop μ-loop
-cast-put-cell c = search needs
+cast-put-step-2 : tie.Need-cast-put-step-2 Inv-loop μ-loop
+cast-put-step-2 c = search needs
 
-add-put-cell : tie.Need-add-put-cell Inv-loop μ-loop
-add-put-cell c = search needs
+add-put-step-2 : tie.Need-add-put-step-2 Inv-loop μ-loop
+add-put-step-2 c = search needs
 
-put-cell-requires : tie.Need-put-cell-requires Inv-loop μ-loop
-put-cell-requires c κs = search needs
+put-step-requires : tie.Need-put-step-requires Inv-loop μ-loop
+put-step-requires c κs = search needs
 
 add-put : tie.Need-add-put Inv-loop μ-loop
 add-put c = search needs
@@ -50,11 +49,10 @@ loop-less c = search needs
 
 loop-again : tie.Need-loop-again Inv-loop μ-loop
 loop-again c =
-    let a = c .before .before .before .before .before .before .before .before .before .args in
-    let l = c .before .before .before .before .before .before .loop in
-    let b = c .before .before .before .before .cell in
-    let s : b .result < 2 = rw (b .ensures) (bit-small (a .source .now) (a .p + l .put)) in (
-      l .inv .0 ∙ put-turn (bitsOf (l .cells)) _ (bitsOf (a .source .now)) (a .p) (a .at) (a .n) (l .put) (b .result) (c .before .before .before .before .before .loop-test .taken) (b .ensures) s (c .before .before .put-cell .ensures),
+    let a = c .before .before .before .before .before .before .before .before .args in
+    let l = c .before .before .before .before .before .loop in
+    let r = c .before .before .put-step in (
+      l .inv .0 ∙ put-turn (bitsOf (l .cells)) _ (bitsOf (a .source .now)) (a .p) (a .at) (a .n) (l .put) (r .result) (r .ensures .2),
       search needs,
       search needs,
     )
@@ -75,12 +73,12 @@ put-bits-spec =
     Inv-loop
     μ-loop
     loop-holds
-    cast-cell
-    add-cell
-    cell-requires
-    cast-put-cell
-    add-put-cell
-    put-cell-requires
+    cast-put-step
+    add-put-step
+    sub-put-step
+    cast-put-step-2
+    add-put-step-2
+    put-step-requires
     add-put
     loop-less
     loop-again

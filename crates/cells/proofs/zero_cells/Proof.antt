@@ -1,18 +1,19 @@
 -- A run of cells cleared. The invariant: clearing all n cells of the old list is clearing those left, in the list as it is now.
 -- Those cells are the measure.
-use Rattle.cells.proofs.Copies.{zero-start, zero-turn, zero-done}
+use Rattle.cells.proofs.Parts.{zero-start, zero-turn, zero-done}
 use Rattle.scope.specs.Numbers.{zeros}
-use Rattle.report.specs.Bits.{bitsOf}
 use lib.Seq.{sets}
+use Rattle.report.specs.Bits.{bitsOf}
 use lib.ListN.{length}
-use borrow.Author.Needs.{needs}
 use Prim.Native.Nat.{_+_, _-_, _≤_}
 use mathlib.Core.Path.{_≡_, refl, sym, _∙_}
+use borrow.Author.Needs.{needs}
 use Rattle.cells.proofs.zero_cells.Statement.{statement}
 use Rattle.cells.proofs.zero_cells.Tie as tie
 
 abbrev Inv-loop : tie.InvT-loop
-Inv-loop cells₀ at n done₀ cells done = (sets (bitsOf cells₀) at (zeros n) ≡ sets (bitsOf cells) (at + done) (zeros (n - done))) × (done ≤ n) × (length cells ≡ length cells₀)
+Inv-loop cells₀ at n done₀ cells done =
+    (sets (bitsOf cells₀) at (zeros n) ≡ sets (bitsOf cells) (at + done) (zeros (n - done))) × (done ≤ n) × (length cells ≡ length cells₀)
 
 abbrev μ-loop : tie.MeasureT-loop
 μ-loop cells₀ at n done₀ cells done = n - done
@@ -22,14 +23,17 @@ loop-holds c =
     let a = c .before .args in
     (zero-start (bitsOf (a .cells .now)) (a .at) (a .n), search needs, refl)
 
-cast-put-cell : tie.Need-cast-put-cell Inv-loop μ-loop
-cast-put-cell c = search needs
+cast-zero-step : tie.Need-cast-zero-step Inv-loop μ-loop
+cast-zero-step c = search needs
 
-add-put-cell : tie.Need-add-put-cell Inv-loop μ-loop
-add-put-cell c = search needs
+add-zero-step : tie.Need-add-zero-step Inv-loop μ-loop
+add-zero-step c = search needs
 
-put-cell-requires : tie.Need-put-cell-requires Inv-loop μ-loop
-put-cell-requires c κs = search needs
+sub-zero-step : tie.Need-sub-zero-step Inv-loop μ-loop
+sub-zero-step c = search needs
+
+zero-step-requires : tie.Need-zero-step-requires Inv-loop μ-loop
+zero-step-requires c κs = search needs
 
 add-done : tie.Need-add-done Inv-loop μ-loop
 add-done c = search needs
@@ -40,8 +44,9 @@ loop-less c = search needs
 loop-again : tie.Need-loop-again Inv-loop μ-loop
 loop-again c =
     let a = c .before .before .before .before .before .before .before .args in
-    let l = c .before .before .before .before .before .loop in (
-      l .inv .0 ∙ zero-turn (bitsOf (l .cells)) _ (a .at) (a .n) (l .done) (c .before .before .before .before .loop-test .taken) (c .before .before .put-cell .ensures),
+    let l = c .before .before .before .before .before .loop in
+    let r = c .before .before .zero-step in (
+      l .inv .0 ∙ zero-turn (bitsOf (l .cells)) _ (a .at) (a .n) (l .done) (r .result) (r .ensures .2),
       search needs,
       search needs,
     )
@@ -62,9 +67,10 @@ zero-cells-spec =
     Inv-loop
     μ-loop
     loop-holds
-    cast-put-cell
-    add-put-cell
-    put-cell-requires
+    cast-zero-step
+    add-zero-step
+    sub-zero-step
+    zero-step-requires
     add-done
     loop-less
     loop-again
