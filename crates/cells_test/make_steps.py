@@ -3,7 +3,7 @@
 import random
 import sys
 
-READ, WRITE, COPY, ZERO = range(4)
+READ, WRITE, COPY, ZERO, PUT = range(5)
 
 
 def unpacked(data):
@@ -35,6 +35,10 @@ def step(bits, op, x, y, z):
     if op == ZERO:
         for i in range(y):
             write(bits, x + i, 0)
+    if op == PUT:
+        old = list(bits)
+        for i in range(z):
+            write(bits, y + i, read(old, x + i))
     return 0
 
 
@@ -62,7 +66,25 @@ def made(rng):
         yield record(data, op, x, y, count(rng, cells) if op == COPY else 0)
 
 
+# Copies to every place in a byte, from up to nine cells before the target to nine behind it.
+def near(rng):
+    for to in range(16, 24):
+        for apart in range(-9, 10):
+            yield record(rng.randbytes(6), COPY, to - apart, to, 8 + rng.randrange(17))
+
+
+# Bits put from every place in a byte to every place in a byte, and from and to any place.
+def puts(rng):
+    for x in range(8):
+        for y in range(8, 16):
+            yield record(rng.randbytes(6), PUT, x, y, 8 + rng.randrange(33))
+    for n in list(range(13)) * 10:
+        cells = 8 * n
+        yield record(rng.randbytes(n), PUT, place(rng, cells), place(rng, cells), count(rng, cells))
+
+
 if __name__ == "__main__":
-    steps = list(made(random.Random(1)))
+    rng = random.Random(1)
+    steps = [*made(rng), *near(rng), *puts(rng)]
     open(sys.argv[1], "wb").write(b"".join(steps))
-    print({op: sum(s[1] == op for s in steps) for op in range(4)}, sum(map(len, steps)), "bytes")
+    print({op: sum(s[1] == op for s in steps) for op in range(5)}, sum(map(len, steps)), "bytes")

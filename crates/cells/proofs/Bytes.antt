@@ -155,17 +155,17 @@ across x y k = x * 2 ^ k % 256 + y / 2 ^ (8 - k)
 pub across-fits : (x y k : ℕ) → x < 256 → y < 256 → k < 8 → across x y k < 256
 across-fits x y k hx hy hk = omega (arith, byte-at k x hk hx .low-fits, byte-at k y hk hy .high-small)
 
-within : (s : List ℕ) (i k : ℕ) → Bytes s → k < 8 → i + 1 < length s → byteBits (across (getD s i 0) (getD s (i + 1) 0) k) ≡ bitsFrom (bitsOf s) (8 * i + k) 8
-within s i k h hk l =
+across-within : (s : List ℕ) (i k : ℕ) → Bytes s → k < 8 → i + 1 < length s → byteBits (across (getD s i 0) (getD s (i + 1) 0) k) ≡ bitsFrom (bitsOf s) (8 * i + k) 8
+across-within s i k h hk l =
     ap (λ (n : ℕ). byteBits n)
     (sym (byte-split s i k hk l (h i) (h (i + 1))) ∙ ap (numberFrom 0) (sym (bits-within (bitsOf s) (8 * i + k) 8 (omega (arith, length-bits s)))))
     ∙ eight-from s (8 * i + k)
 
-anywhere : (s : List ℕ) (i k : ℕ) → Bytes s → k < 8 → byteBits (across (getD s i 0) (getD s (i + 1) 0) k) ≡ bitsFrom (bitsOf s) (8 * i + k) 8
-anywhere s i k h hk =
+across-anywhere : (s : List ℕ) (i k : ℕ) → Bytes s → k < 8 → byteBits (across (getD s i 0) (getD s (i + 1) 0) k) ≡ bitsFrom (bitsOf s) (8 * i + k) 8
+across-anywhere s i k h hk =
     let t = s ++ zeros (i + 2) in
     ap₂ (λ (x y : ℕ). byteBits (across x y k)) (sym (getD-padded s (i + 2) i)) (sym (getD-padded s (i + 2) (i + 1)))
-    ∙ within t i k (λ j. subst (λ (x : ℕ). x < 256) (sym (getD-padded s (i + 2) j)) (h j)) hk
+    ∙ across-within t i k (λ j. subst (λ (x : ℕ). x < 256) (sym (getD-padded s (i + 2) j)) (h j)) hk
     (omega (arith, length-append s (zeros (i + 2)), length-replicate {A = ℕ} (i + 2) 0))
     ∙ bits-alike (bitsOf t) (bitsOf s) (λ j. ap (λ (l : List ℕ). getD l j 0) (bits-padded s (i + 2)) ∙ getD-padded (bitsOf s) (8 * (i + 2)) j) (8 * i + k) 8
 
@@ -173,7 +173,7 @@ pub byte-across : (s : List ℕ) (p x y : ℕ) → Bytes s → x ≡ getD s (p /
 byte-across s p x y h u v =
     let z : 8 * (p / 8) + p % 8 ≡ p = omega arith in
     ap₂ (λ (m n : ℕ). byteBits (across m n (p % 8))) u v
-    ∙ anywhere s (p / 8) (p % 8) h (omega arith)
+    ∙ across-anywhere s (p / 8) (p % 8) h (omega arith)
     ∙ ap (λ (q : ℕ). bitsFrom (bitsOf s) q 8) z
 
 -- at the start of a byte they are that byte
@@ -182,5 +182,5 @@ byte-whole s p x h u e =
     let z : 8 * (p / 8) + 0 ≡ p = omega arith in
     let w : x ≡ across (getD s (p / 8) 0) (getD s (p / 8 + 1) 0) 0 = omega (arith, h (p / 8), h (p / 8 + 1)) in
     ap (λ (n : ℕ). byteBits n) w
-    ∙ anywhere s (p / 8) 0 h (lit< tt)
+    ∙ across-anywhere s (p / 8) 0 h (lit< tt)
     ∙ ap (λ (q : ℕ). bitsFrom (bitsOf s) q 8) z

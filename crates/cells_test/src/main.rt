@@ -61,8 +61,8 @@ fn before(record: &[u8]) -> [u8; MOST]
     cells
 }
 
-// The step, and its answer: 0 where it has none.
-fn step(record: &[u8], cells: &mut [u8]) -> u32 {
+// The step, with the cells as they were before it to put bits from, and its answer: 0 where it has none.
+fn step(record: &[u8], old: &[u8], cells: &mut [u8]) -> u32 {
     let x = number32(record, 2);
     let y = number32(record, 6);
     match byte(record, 1) {
@@ -75,8 +75,12 @@ fn step(record: &[u8], cells: &mut [u8]) -> u32 {
             cells::copy_cells(cells, x, y, number32(record, 10));
             0
         }
-        _ => {
+        3 => {
             cells::zero_cells(cells, x, y);
+            0
+        }
+        _ => {
+            cells::put_bits(old, x, number32(record, 10), cells, y);
             0
         }
     }
@@ -96,8 +100,8 @@ fn after(record: &[u8], cells: &[u8]) -> bool {
 }
 
 // Whether the step answers and leaves what the record says.
-fn step_right(record: &[u8], cells: &mut [u8]) -> bool {
-    if step(record, cells) != byte(record, 14) {
+fn step_right(record: &[u8], old: &[u8], cells: &mut [u8]) -> bool {
+    if step(record, old, cells) != byte(record, 14) {
         return false;
     }
     after(record, cells)
@@ -108,8 +112,9 @@ fn right(record: &[u8]) -> bool {
     if MOST < n {
         return false;
     }
+    let old = before(record);
     let mut cells = before(record);
-    step_right(record, &mut cells[0..n])
+    step_right(record, &old[0..n], &mut cells[0..n])
 }
 
 fn counted(t: Tally, fine: bool) -> Tally {
