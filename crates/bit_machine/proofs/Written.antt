@@ -3,11 +3,11 @@ use mathlib.Core.Path.{_≡_, refl, sym, ap, ap₂, _∙_, subst}
 use mathlib.Core.Bool.{Bool, true, false}
 use mathlib.Core.List.{List, [], _∷_}
 use mathlib.Core.Logic.{_⊎_, inl, inr}
-use Prim.Native.Nat.{ℕ, zero, suc, _+_, _*_, _-_, _^_, _≤_, _<_}
+use Prim.Native.Nat.{ℕ, zero, _+_, _*_, _-_, _^_, _≤_, _<_}
 use native.Mathlib.Omega.{arith}
 use borrow.Author.Tests.{le-leb}
 use lib.Dec.{leb}
-use lib.ListN.{length, getD, set, take, drop}
+use lib.ListN.{length, getD, take, drop}
 use lib.Seq.{sets, take-all}
 use Rattle.limits.specs.Limits.{cellCount, hashBytes}
 use Rattle.report.specs.Bits.{Bit, bitsOf}
@@ -34,6 +34,7 @@ use Rattle.layout.specs.Safe.{WriteOk}
 use Rattle.ready.specs.Lent.{Reads, TypesShown}
 use Rattle.bit_machine.proofs.Types.{width-found}
 use Rattle.bit_machine.proofs.Lent.{hash-whole}
+use Rattle.bit_machine.proofs.Bits.{puts}
 
 -- a hash has at most 32 bytes
 pub hash-short : (part : List ℕ) (ns : List Node) (given : List ℕ) (j : ℕ) → part ≡ branchHash ns given j → length part ≤ hashBytes
@@ -54,12 +55,6 @@ module _ {part hash : List ℕ} (is : part ≡ hash) where
 -- the same bits written
 pub written-as : (m : Mach) {bs bs′ : List ℕ} → bs ≡ bs′ → bitsWritten bs m ≡ bitsWritten bs′ m
 written-as m e = rw e
-
--- bits put from a place on
-puts : (l : List ℕ) (at : ℕ) (bs : List ℕ) → sets l at bs ≡ bitsPut l at bs
-unfolding bitsPut
-puts l at [] = refl
-puts l at (b ∷ bs) = puts (set l at b) (suc at) bs
 
 none-written : (bs : List ℕ) (m : Mach) → length bs ≡ 0 → bitsWritten bs m ≡ m
 unfolding bitsWritten

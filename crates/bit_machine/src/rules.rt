@@ -9,7 +9,7 @@ ghost use Prim.Native.Nat.{ℕ, _+_, _^_, _<_, _≤_};
 ghost use lib.ListN.{length, getD, set, take, drop};
 ghost use Rattle.report.specs.Bits.{bitsOf};
 ghost use Rattle.layout.specs.Mach.{recordsOf, noFrame, frame, activeWrite};
-ghost use Rattle.layout.specs.Rules.{bitsPut, pushed, moved, dropped, bitWritten, bitsWritten, skipped, copied, forwarded, backed, peeked};
+ghost use Rattle.layout.specs.Rules.{pushed, moved, dropped, bitWritten, bitsWritten, skipped, copied, forwarded, backed, peeked};
 ghost use Rattle.layout.specs.Safe.{Fed, PushOk, MoveOk, DropOk, WriteOk, ReadOk, BackOk, CopyOk};
 ghost use Rattle.bit_machine.specs.Machine.{machineOf};
 
@@ -179,19 +179,6 @@ pub(crate) fn copy(cells: &mut [u8], frames: &mut [u32], h: Heights, n: u32)
     set_cursor(frames, k, to + n);
 }
 
-// The first n bits of a source from bit p on, put into the cells from a place on.
-fn put_bits(source: &[u8], p: u32, n: u32, cells: &mut [u8], at: u32)
-    requires { ⌜ (p + n ≤ length (bitsOf (now source))) × (p + n < 2 ^ 32) × (at + n < 2 ^ 32) ⌝ }
-    ensures { λ _. ⌜ bitsOf (now (cells .exit)) ≡ bitsPut (bitsOf (now (cells .entry))) at (take n (drop p (bitsOf (now (source .entry))))) ⌝ }
-{
-    let mut i: u32 = 0;
-    while i < n {
-        let bit = cells::read_cell(source, p + i);
-        cells::write_cell(cells, at + i, bit);
-        i += 1;
-    }
-}
-
 // n bits of a source from bit p on at the write cursor, which goes behind them: a word of the program, or a hash.
 pub(crate) fn write_bits(
     source: &[u8],
@@ -211,6 +198,6 @@ pub(crate) fn write_bits(
     }
     let k = h.writes - 1;
     let cursor = cursor_at(frames, k);
-    put_bits(source, p, n, cells, cursor);
+    cells::put_bits(source, p, n, cells, cursor);
     set_cursor(frames, k, cursor + n);
 }

@@ -4,12 +4,12 @@ use Rattle.bit_machine.proofs.rules.write_bits.Tie as tie
 use Rattle.bit_machine.proofs.rules.write_bits.Reads as reads
 use Rattle.bit_machine.proofs.rules.write_bits.Lts as lts
 use Rattle.bit_machine.proofs.rules.cursor_at.Reads as cursor-at-reads
-use Rattle.bit_machine.proofs.rules.put_bits.Reads as put-bits-reads
+use Rattle.cells.proofs.put_bits.Reads as put-bits-reads
 use Rattle.bit_machine.proofs.rules.set_cursor.Reads as set-cursor-reads
 use native.Mathlib.Omega.{arith}
 use mathlib.Core.Path.{_≡_, refl, sym, ap, _∙_}
 use Rattle.layout.specs.Safe.{fed-bits}
-use Rattle.bit_machine.proofs.Bits.{none-written, some-written}
+use Rattle.bit_machine.proofs.Bits.{none-written, some-written, put-within}
 use Rattle.report.specs.Bits.{bitsOf}
 
 returns : tie.Need-returns
@@ -28,10 +28,7 @@ cursor-at-requires c κs =
     omega arith
 
 put-bits-requires : tie.Need-put-bits-requires
-put-bits-requires c κs =
-    let start = c .before .before .before .before .before .before .before .before in
-    let h = start .pre .1 .1 (omega arith) in
-    (start .pre .1 .0 .0, start .pre .1 .0 .1, omega (arith, c .before .cursor-at .ensures, fed-bits (start .pre .0)))
+put-bits-requires c κs = search needs
 
 add-set-cursor : tie.Need-add-set-cursor
 add-set-cursor c =
@@ -51,7 +48,10 @@ same-length-2 : tie.Need-same-length-2
 same-length-2 c = search needs
 
 returns-2 : tie.Need-returns-2
-returns-2 c = rw (c .before .before .set-cursor .ensures, c .before .before .before .before .before .before .put-bits .ensures, c .before .before .before .before .before .before .before .before .cursor-at .ensures) (sym (some-written _ _ _ _ (c .before .before .before .before .before .before .before .before .before .before .before .before .before .before .before .pre .1 .0 .0) (c .before .before .before .before .before .before .before .before .before .before .before .if1 .left)))
+returns-2 c =
+    let fits = c .before .before .before .before .before .before .before .before .before .before .before .before .before .before .before .pre .1 .0 .0 in
+    rw (c .before .before .set-cursor .ensures, c .before .before .before .before .before .before .put-bits .ensures ∙ put-within _ _ _ _ _ fits, c .before .before .before .before .before .before .before .before .cursor-at .ensures)
+    (sym (some-written _ _ _ _ fits (c .before .before .before .before .before .before .before .before .before .before .before .if1 .left)))
 
 pub write-bits-spec : {M : Type 1} → statement M
 write-bits-spec =
