@@ -78,7 +78,7 @@ fn copy_step(cells: &mut [u8], from: usize, to: usize, n: u32) -> u32
     requires { ⌜ 0 < n ⌝ }
     ensures { λ r. ⌜ (0 < r) × (r ≤ n) × (copyBits (bitsOf (now (cells .entry))) from to n ≡ copyBits (bitsOf (now (cells .exit))) (from + r) (to + r) (n - r)) ⌝ }
 {
-    if to % 8 == 0 && 8 <= n && (to <= from || 8 <= to - from) {
+    if 8 <= n && to % 8 == 0 && (to <= from || 8 <= to - from) {
         let x = byte_at(cells, from);
         put_byte(cells, to / 8, x);
         return 8;
@@ -93,7 +93,7 @@ fn zero_step(cells: &mut [u8], at: usize, n: u32) -> u32
     requires { ⌜ 0 < n ⌝ }
     ensures { λ r. ⌜ (0 < r) × (r ≤ n) × (sets (bitsOf (now (cells .entry))) at (zeros n) ≡ sets (bitsOf (now (cells .exit))) (at + r) (zeros (n - r))) ⌝ }
 {
-    if at % 8 == 0 && 8 <= n {
+    if 8 <= n && at % 8 == 0 {
         put_byte(cells, at / 8, 0);
         return 8;
     }
@@ -106,7 +106,7 @@ fn put_step(source: &[u8], p: usize, n: u32, cells: &mut [u8], at: usize) -> u32
     requires { ⌜ 0 < n ⌝ }
     ensures { λ r. ⌜ (0 < r) × (r ≤ n) × (sets (bitsOf (now (cells .entry))) at (bitsFrom (bitsOf (now (source .entry))) p n) ≡ sets (bitsOf (now (cells .exit))) (at + r) (bitsFrom (bitsOf (now (source .entry))) (p + r) (n - r))) ⌝ }
 {
-    if at % 8 == 0 && 8 <= n {
+    if 8 <= n && at % 8 == 0 {
         let x = byte_at(source, p);
         put_byte(cells, at / 8, x);
         return 8;

@@ -7,7 +7,7 @@ use mathlib.Core.Path.{sym, _∙_}
 use mathlib.Core.Logic.{_⊎_, inl, inr, ⊎-elim}
 use Prim.Native.Nat.{_+_, _≤_}
 use native.Mathlib.Omega.{arith}
-use borrow.Author.Tests.{leb-true}
+use borrow.Author.Tests.{eqb-true}
 use borrow.Author.Needs.{needs}
 use Rattle.cells.proofs.copy_step.Statement.{statement}
 use Rattle.cells.proofs.copy_step.Tie as tie
@@ -28,8 +28,8 @@ returns : tie.Need-returns
 returns c =
     let a = c .before .before .before .before .before .before .before .before .before .before .before .args in
     let l = bitsOf (a .cells .now) in
-    let h : 8 ≤ a .n = omega (arith, leb-true) in
-    let q = eight-put l _ l (a .from) (a .to) (c .before .before .before .before .byte-at .result) (c .before .before .before .before .byte-at .ensures) (c .before .before .before .before .before .before .before .before .before .if1 .taken) (c .before .before .put-byte .ensures) in
+    let h : 8 ≤ a .n = c .before .before .before .before .before .before .before .before .before .if1 .taken in
+    let q = eight-put l _ l (a .from) (a .to) (c .before .before .before .before .byte-at .result) (c .before .before .before .before .byte-at .ensures) (eqb-true _ _ (c .before .before .before .before .before .before .before .before .if2 .taken)) (c .before .before .put-byte .ensures) in
     let apart : (a .to ≤ a .from) ⊎ (a .from + 8 ≤ a .to) = ⊎-elim (λ w. inl (omega arith)) (λ w. inr (far (a .from) (a .to) (w .0 .left) (sym (w .1) ∙ c .before .before .before .before .before .before .if4 .taken))) (c .before .before .before .before .before .before .before .if3 .came) in
     (search needs, h, copy-step l _ (a .from) (a .to) (a .n) 8 h apart q)
 

@@ -3,8 +3,7 @@ use Rattle.cells.proofs.Parts.{one-put, eight-put, put-step}
 use Rattle.report.specs.Bits.{bitsOf}
 use Rattle.bititer.proofs.Bits.{bit-small}
 use Prim.Native.Nat.{_≤_}
-use native.Mathlib.Omega.{arith}
-use borrow.Author.Tests.{leb-true}
+use borrow.Author.Tests.{eqb-true}
 use borrow.Author.Needs.{needs}
 use Rattle.cells.proofs.put_step.Statement.{statement}
 use Rattle.cells.proofs.put_step.Tie as tie
@@ -23,8 +22,8 @@ returns c =
     let a = c .before .before .before .before .before .before .before .before .before .args in
     let l = bitsOf (a .cells .now) in
     let s = bitsOf (a .source .now) in
-    let h : 8 ≤ a .n = omega (arith, leb-true) in
-    let q = eight-put l _ s (a .p) (a .at) (c .before .before .before .before .byte-at .result) (c .before .before .before .before .byte-at .ensures) (c .before .before .before .before .before .before .if1 .taken) (c .before .before .put-byte .ensures) in
+    let h : 8 ≤ a .n = c .before .before .before .before .before .before .if1 .taken in
+    let q = eight-put l _ s (a .p) (a .at) (c .before .before .before .before .byte-at .result) (c .before .before .before .before .byte-at .ensures) (eqb-true _ _ (c .before .before .before .before .before .if2 .taken)) (c .before .before .put-byte .ensures) in
     (search needs, h, put-step l _ s (a .p) (a .at) (a .n) 8 h q)
 
 cell-requires : tie.Need-cell-requires

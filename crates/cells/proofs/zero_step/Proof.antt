@@ -2,8 +2,7 @@
 use Rattle.cells.proofs.Parts.{eight-zeros, zero-step}
 use Rattle.report.specs.Bits.{bitsOf}
 use Prim.Native.Nat.{_≤_}
-use native.Mathlib.Omega.{arith}
-use borrow.Author.Tests.{leb-true}
+use borrow.Author.Tests.{eqb-true}
 use borrow.Author.Needs.{needs}
 use Rattle.cells.proofs.zero_step.Statement.{statement}
 use Rattle.cells.proofs.zero_step.Tie as tie
@@ -18,8 +17,8 @@ returns : tie.Need-returns
 returns c =
     let a = c .before .before .before .before .before .before .before .args in
     let l = bitsOf (a .cells .now) in
-    let h : 8 ≤ a .n = omega (arith, leb-true) in
-    (search needs, h, zero-step l _ (a .at) (a .n) 8 h (eight-zeros l _ (a .at) (c .before .before .before .before .before .if1 .taken) (c .before .before .put-byte .ensures)))
+    let h : 8 ≤ a .n = c .before .before .before .before .before .if1 .taken in
+    (search needs, h, zero-step l _ (a .at) (a .n) 8 h (eight-zeros l _ (a .at) (eqb-true _ _ (c .before .before .before .before .if2 .taken)) (c .before .before .put-byte .ensures)))
 
 put-cell-requires : tie.Need-put-cell-requires
 put-cell-requires c κs = search needs
