@@ -1,4 +1,4 @@
--- Laws of the types and of the next records that a table's records stand for: each is made of those of its parts,
+-- Laws of the types and of the entries that a table's records stand for: each is made of those of its parts,
 -- so that a pass upwards finds them.
 use mathlib.Core.Path.{_≡_, refl, ap, ap₂, _∙_}
 use mathlib.Core.Bool.{Bool, true, false}
@@ -13,7 +13,7 @@ use Rattle.report.specs.Table.{entries}
 use Rattle.report.specs.Types.{Ty, one, width}
 use Rattle.scope.specs.Numbers.{every}
 use Rattle.scope.specs.Types2.{TypeRecord, typeFrom, typeMake, noType, tyAt, typeAt, partsRule}
-use Rattle.types.specs.Records.{partsWidth, passOver, nextFrom, nextMake, nextAt}
+use Rattle.types.specs.Records.{partsWidth, nextFrom, nextMake, nextAt}
 use Rattle.types.proofs.Tables.{length-entries, entries-at, entries-past}
 
 -- what a conjunction that holds says
@@ -79,7 +79,7 @@ module _ (T : List TypeRecord) where
       → width (tyAt T i) ≡ partsWidth ((typeAt T i) .tag) (width (tyAt T ((typeAt T i) .left))) (width (tyAt T ((typeAt T i) .right)))
   width-step i h ok = ap width (type-step i h ok) ∙ width-from ((typeAt T i) .tag) (tyAt T ((typeAt T i) .left)) (tyAt T ((typeAt T i) .right))
 
-  -- the next record that matters, of the next records of the parts
+  -- the entry of a record, of the entries of its parts
   pub next-step : (i : ℕ) → i < length T → Parts i
       → nextAt T i
       ≡ nextFrom ((typeAt T i) .tag) (width (tyAt T ((typeAt T i) .left))) (width (tyAt T ((typeAt T i) .right)))
@@ -99,9 +99,8 @@ module _ (T : List TypeRecord) where
       go : (t a b : ℕ) → partsRule T i t a b ≡ true
           → nextFrom t (width (tyAt T a)) (width (tyAt T b)) (getD before a 0) (getD before b 0) (length before)
           ≡ nextFrom t (width (tyAt T a)) (width (tyAt T b)) (nextAt T a) (nextAt T b) i
-      go zero a b e = long
-      go (suc zero) a b e = long
-      go (suc (suc t)) a b e =
-          let l = parts-below T i (suc (suc t)) a b (λ z. omega arith) e in
-          ap₂ (λ (x y : ℕ). passOver (width (tyAt T a)) (width (tyAt T b)) x y (length before)) (part a (l .0)) (part b (l .1))
-          ∙ ap (passOver (width (tyAt T a)) (width (tyAt T b)) (nextAt T a) (nextAt T b)) long
+      go zero a b e = refl
+      go (suc t) a b e =
+          let l = parts-below T i (suc t) a b (λ z. omega arith) e in
+          ap₂ (λ (x y : ℕ). nextFrom (suc t) (width (tyAt T a)) (width (tyAt T b)) x y (length before)) (part a (l .0)) (part b (l .1))
+          ∙ ap (nextFrom (suc t) (width (tyAt T a)) (width (tyAt T b)) (nextAt T a) (nextAt T b)) long

@@ -1,6 +1,6 @@
--- Laws of one record: what it is in the bytes of a table, its rules, its width and the next record that matters,
+-- Laws of one record: what it is in the bytes of a table, its rules, its width and its entry,
 -- each in the form in which a way through the code meets it.
-use mathlib.Core.Path.{_≡_, refl, ap, _∙_}
+use mathlib.Core.Path.{_≡_, refl, ap, sym, _∙_}
 use mathlib.Core.Bool.{Bool, true, false}
 use mathlib.Core.List.{List, [], _∷_}
 use Prim.Native.Nat.{ℕ, zero, suc, _+_, _/_, _≤_, _<_, max}
@@ -8,10 +8,11 @@ use native.Mathlib.Numerals.{add-one}
 use native.Mathlib.Omega.{arith}
 use lib.Dec.{ltb, eqb}
 use lib.ListN.{length}
+use borrow.Author.Tests.{eq-eqb, ne-eqb}
 use Rattle.limits.specs.Limits.{typeBytes}
 use Rattle.scope.specs.Numbers.{every, anyBelow}
 use Rattle.scope.specs.Types2.{TypeRecord, typeRecord, typeRecords, typeAt, noType, partsRule}
-use Rattle.types.specs.Records.{partsWidth, nextFrom}
+use Rattle.types.specs.Records.{partsWidth, unpaddedMark, unpaddedFrom, markWhere, paddedNext, nextFrom}
 use Rattle.types.proofs.Tables.{tabulate-at, tabulate-past, length-tabulate}
 
 -- the records of a table of bytes
@@ -73,12 +74,15 @@ rule-any S T i (suc zero) a b = refl
 rule-any S T i (suc (suc zero)) a b = refl
 rule-any S T i (suc (suc (suc t))) a b = refl
 
--- the rule and the width of numbers that are equal
+-- the rule, the width and the entry of numbers that are equal
 pub rule-of : (S : List TypeRecord) (i : ℕ) {t u a x b y : ℕ} → t ≡ u → a ≡ x → b ≡ y → partsRule S i t a b ≡ partsRule S i u x y
 rule-of S i e f g = λ k. partsRule S i (e k) (f k) (g k)
 
 pub width-of : {t u a x b y : ℕ} → t ≡ u → a ≡ x → b ≡ y → partsWidth t a b ≡ partsWidth u x y
 width-of e f g = λ k. partsWidth (e k) (f k) (g k)
+
+pub next-of : (i : ℕ) {t u a x b y l m r n : ℕ} → t ≡ u → a ≡ x → b ≡ y → l ≡ m → r ≡ n → nextFrom t a b l r i ≡ nextFrom u x y m n i
+next-of i e f g h j = λ k. nextFrom (e k) (f k) (g k) (h k) (j k) i
 
 -- the width of a record, tag by tag
 pub width-sum : (t x y : ℕ) → t ≡ 1 → partsWidth t x y ≡ 1 + max x y
@@ -89,26 +93,68 @@ width-product zero x y n m = absurd (n refl)
 width-product (suc zero) x y n m = absurd (m refl)
 width-product (suc (suc t)) x y n m = refl
 
--- the next record that matters, by the tests of the code
+-- whether a record has no padding, by the tests of the code
+module _ (a b left right : ℕ) where
+  pub unpadded-unit : (t : ℕ) → t ≡ 0 → true ≡ unpaddedFrom t a b left right
+  unpadded-unit zero e = refl
+  unpadded-unit (suc t) e = absurd (omega arith)
+
+  pub unpadded-left : (t : ℕ) → (t ≡ 0 → ⊥) → (left ≡ unpaddedMark → ⊥) → false ≡ unpaddedFrom t a b left right
+  unpadded-left zero n h = absurd (n refl)
+  unpadded-left (suc zero) n h = sym (every-stop (eqb left unpaddedMark) (eqb right unpaddedMark ∷ eqb a b ∷ []) (ne-eqb left unpaddedMark h))
+  unpadded-left (suc (suc t)) n h = sym (every-stop (eqb left unpaddedMark) (eqb right unpaddedMark ∷ []) (ne-eqb left unpaddedMark h))
+
+  module _ (l : left ≡ unpaddedMark) where
+    first : (bs : List Bool) → every (eqb left unpaddedMark ∷ bs) ≡ every bs
+    first bs = every-rest (eqb left unpaddedMark) bs (eq-eqb left unpaddedMark l)
+
+    pub unpadded-right : (t : ℕ) → (t ≡ 0 → ⊥) → (right ≡ unpaddedMark → ⊥) → false ≡ unpaddedFrom t a b left right
+    unpadded-right zero n h = absurd (n refl)
+    unpadded-right (suc zero) n h =
+        sym (first (eqb right unpaddedMark ∷ eqb a b ∷ []) ∙ every-stop (eqb right unpaddedMark) (eqb a b ∷ []) (ne-eqb right unpaddedMark h))
+    unpadded-right (suc (suc t)) n h =
+        sym (first (eqb right unpaddedMark ∷ []) ∙ every-stop (eqb right unpaddedMark) [] (ne-eqb right unpaddedMark h))
+
+    pub unpadded-sum : (t : ℕ) → t ≡ 1 → right ≡ unpaddedMark → eqb a b ≡ unpaddedFrom t a b left right
+    unpadded-sum zero e r = absurd (omega arith)
+    unpadded-sum (suc zero) e r =
+        sym (first (eqb right unpaddedMark ∷ eqb a b ∷ []) ∙ every-both (eqb right unpaddedMark) (eqb a b) (eq-eqb right unpaddedMark r))
+    unpadded-sum (suc (suc t)) e r = absurd (omega arith)
+
+    pub unpadded-product : (t : ℕ) → (t ≡ 1 → ⊥) → right ≡ unpaddedMark → true ≡ unpaddedFrom t a b left right
+    unpadded-product zero n r = refl
+    unpadded-product (suc zero) n r = absurd (n refl)
+    unpadded-product (suc (suc t)) n r =
+        sym (first (eqb right unpaddedMark ∷ []) ∙ every-one (eqb right unpaddedMark) ∙ eq-eqb right unpaddedMark r)
+
+-- the entry of a record, with and without padding
+module _ (t a b left right self : ℕ) where
+  pub next-marked : true ≡ unpaddedFrom t a b left right → nextFrom t a b left right self ≡ unpaddedMark
+  next-marked e = ap (λ (u : Bool). markWhere u (paddedNext t a b left right self)) (sym e)
+
+  pub next-padded : false ≡ unpaddedFrom t a b left right → nextFrom t a b left right self ≡ paddedNext t a b left right self
+  next-padded e = ap (λ (u : Bool). markWhere u (paddedNext t a b left right self)) (sym e)
+
+-- the next record that matters for a type with padding, by the tests of the code
 module _ (a b left right self : ℕ) where
-  pub next-self : (t : ℕ) → t < 2 → nextFrom t a b left right self ≡ self
+  pub next-self : (t : ℕ) → t < 2 → paddedNext t a b left right self ≡ self
   next-self zero h = refl
   next-self (suc zero) h = refl
   next-self (suc (suc t)) h = absurd (omega arith)
 
-  pub next-right : (t : ℕ) → 2 ≤ t → a ≡ 0 → nextFrom t a b left right self ≡ right
+  pub next-right : (t : ℕ) → 2 ≤ t → a ≡ 0 → paddedNext t a b left right self ≡ right
   next-right zero h e = absurd (omega arith)
   next-right (suc zero) h e = absurd (omega arith)
   next-right (suc (suc t)) h e = rw e
 
-pub next-left : (t a b left right self : ℕ) → 2 ≤ t → (a ≡ 0 → ⊥) → b ≡ 0 → nextFrom t a b left right self ≡ left
+pub next-left : (t a b left right self : ℕ) → 2 ≤ t → (a ≡ 0 → ⊥) → b ≡ 0 → paddedNext t a b left right self ≡ left
 next-left zero a b l r s h n e = absurd (omega arith)
 next-left (suc zero) a b l r s h n e = absurd (omega arith)
 next-left (suc (suc t)) zero b l r s h n e = absurd (n refl)
 next-left (suc (suc t)) (suc a) zero l r s h n e = refl
 next-left (suc (suc t)) (suc a) (suc b) l r s h n e = absurd (omega arith)
 
-pub next-own : (t a b left right self : ℕ) → (a ≡ 0 → ⊥) → (b ≡ 0 → ⊥) → nextFrom t a b left right self ≡ self
+pub next-own : (t a b left right self : ℕ) → (a ≡ 0 → ⊥) → (b ≡ 0 → ⊥) → paddedNext t a b left right self ≡ self
 next-own zero a b l r s n m = refl
 next-own (suc zero) a b l r s n m = refl
 next-own (suc (suc t)) zero b l r s n m = absurd (n refl)

@@ -1,6 +1,7 @@
 -- What the check of a lent type table answers: 4 at 0 for no record or too many, then 2 at the first record that breaks a rule,
 -- and else the count of records; odd bytes at the end are of no record.
--- Beside it, for each record before the first bad one, the width of its type and the next record that matters; all else is 0.
+-- Beside it, for each record before the first bad one, the width of its type and its entry, which is the mark of a type without padding
+-- or the next record that matters; all else is 0.
 use mathlib.Core.Bool.{Bool}
 use mathlib.Core.List.{List, [], _∷_, _++_}
 use Prim.Native.Nat.{ℕ, _-_}
@@ -53,7 +54,7 @@ unfoldable pub arrayOf : (n : ℕ) → (ℕ → ℕ) → List ℕ
 unfolding tabulate
 arrayOf n f = tabulate n f ++ zeros (typeCount - n)
 
--- the width of each good record's type, and the next record that matters for it
+-- the width of each good record's type, and its entry
 unfoldable pub typeWidths : (bytes : List ℕ) → List ℕ
 unfolding arrayOf goodRecords width tyAt typeRecords
 typeWidths bytes = arrayOf (goodRecords bytes) (λ i. width (tyAt (typeRecords bytes) i))

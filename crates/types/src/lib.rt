@@ -1,6 +1,7 @@
-// The type table: its check (refusals 4 and 2), the width of each type in cells, and the next record that matters.
-// A record is a tag and the indices of its parts, which are earlier records; so one pass upwards fills all widths,
-// and no type is ever walked to its leaves. A product with a part of width 0 says nothing that its other part does not say:
+// The type table: its check (refusals 4 and 2), the width of each type in cells, and how a value of it goes on.
+// A record is a tag and the indices of its parts, which are earlier records; so one pass upwards fills both arrays,
+// and no type is ever walked to its leaves. A type without padding has a mark, and its values are read as bits, all at once.
+// Of the others a product with a part of width 0 says nothing that its other part does not say:
 // the next record that matters is that part's, and readers of values step over such products by it.
 ghost use mathlib.Core.Path.{_≡_};
 ghost use mathlib.Core.List.{[]};
@@ -10,8 +11,11 @@ ghost use Rattle.limits.specs.Limits.{typeCount, typeBytes, typeWidth};
 ghost use Rattle.scope.specs.Numbers.{be16, anyBelow};
 ghost use Rattle.scope.specs.Types2.{typeRecords, typeAt, sameType, partsRule};
 ghost use Rattle.types.specs.Table.{recordOf, sameRecord, typeTable};
-ghost use Rattle.types.specs.Records.{recordJudged, partsWidth, recordNext};
+ghost use Rattle.types.specs.Records.{recordJudged, partsWidth, unpaddedFrom, nextFrom, recordNext};
 use refusal::Refusal;
+
+// What stands for a type without padding in place of a next record: the index of no record.
+pub const UNPADDED: u16 = 65_535;
 
 // What the check says: how many records there are, or why there is no table.
 pub enum TypeAnswer {
@@ -19,7 +23,7 @@ pub enum TypeAnswer {
     Refused(Refusal),
 }
 
-// A checked table: the answer, and for each record the width of its type and the next record that matters.
+// A checked table: the answer, and for each record the width of its type and its entry: UNPADDED, or the next record that matters.
 // Where a record is refused the arrays end before it; entries of no record are 0.
 pub struct TypeTable {
     pub answer: TypeAnswer,
@@ -95,7 +99,7 @@ pub fn width_at(widths: &[u32], i: usize) -> u32
     if i < widths.len() { widths[i] } else { 0 }
 }
 
-// The next record that matters for record i, by a table; 0 past the end.
+// The entry of record i, by a table; 0 past the end.
 pub fn next_at(next: &[u16], i: usize) -> u16
     ensures { λ r. ⌜ r ≡ getD (now (next .entry)) i 0 ⌝ }
 {
@@ -180,7 +184,42 @@ fn judge(types: &[u8], i: usize, widths: &[u32]) -> Judged
     Judged::Width(width as u32)
 }
 
-// The next record that matters for record i, of the widths and the next records of its parts.
+// Whether no value of a record of this tag has padding, of the widths and the entries of its parts.
+fn unpadded(tag: u8, a: u32, b: u32, left: u16, right: u16) -> bool
+    ensures { λ r. ⌜ r ≡ unpaddedFrom tag a b left right ⌝ }
+{
+    if tag == 0 {
+        return true;
+    }
+    if left != UNPADDED {
+        return false;
+    }
+    if right != UNPADDED {
+        return false;
+    }
+    if tag == 1 { a == b } else { true }
+}
+
+// The entry of a record of this tag, of the widths and the entries of its parts and of its own index.
+fn entry(tag: u8, a: u32, b: u32, left: u16, right: u16, own: u16) -> u16
+    ensures { λ r. ⌜ r ≡ nextFrom tag a b left right own ⌝ }
+{
+    if unpadded(tag, a, b, left, right) {
+        return UNPADDED;
+    }
+    if tag < 2 {
+        return own;
+    }
+    if a == 0 {
+        return right;
+    }
+    if b == 0 {
+        return left;
+    }
+    own
+}
+
+// The entry of record i, where the widths and the entries of the earlier records are known.
 fn next_record(types: &[u8], i: usize, widths: &[u32], next: &[u16]) -> u16
     requires { ⌜ i < typeCount ⌝ }
     ensures { λ r. ⌜ r ≡ recordNext (typeAt (typeRecords (now (types .entry))) i) (now (widths .entry)) (now (next .entry)) i ⌝ }
@@ -188,16 +227,11 @@ fn next_record(types: &[u8], i: usize, widths: &[u32], next: &[u16]) -> u16
     let own = record_at(types, i);
     let left = index(own.left);
     let right = index(own.right);
-    if own.tag < 2 {
-        return i as u16;
-    }
-    if width_at(widths, left) == 0 {
-        return next_at(next, right);
-    }
-    if width_at(widths, right) == 0 {
-        return next_at(next, left);
-    }
-    i as u16
+    let a = width_at(widths, left);
+    let b = width_at(widths, right);
+    let x = next_at(next, left);
+    let y = next_at(next, right);
+    entry(own.tag, a, b, x, y, i as u16)
 }
 
 // The check of a lent type table.
