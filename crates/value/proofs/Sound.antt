@@ -10,7 +10,7 @@ use native.Mathlib.Omega.{arith}
 use lib.Dec.{leb, ltb}
 use lib.ListN.{length, getD, drop}
 use lib.Seq.{sets}
-use borrow.Author.Tests.{le-leb, lt-ltb}
+use borrow.Author.Tests.{le-leb, lt-ltb, eqb-true}
 use Rattle.report.specs.Bits.{Bit}
 use Rattle.report.specs.Types.{Ty, sum, prod, width, padL, padR}
 use Rattle.report.specs.Values.{Val, compact, padded, Read, value, short, readValue, Cells, valueAt}
@@ -19,16 +19,16 @@ use Rattle.scope.specs.Types2.{TypeRecord, typeRecords, typeFrom, tyAt, typeAt,
 use Rattle.types.proofs.Core.{core, core-alike, Matters, productMatters, core-matters, spelled}
 use Rattle.types.proofs.Laws.{parts-below, type-past, type-step, Parts}
 use Rattle.types.proofs.Records.{every-rest, every-both}
-use Rattle.types.proofs.Sound.{Passed, parts-of, next-falls, next-core, widths-are, next-are}
-use Rattle.types.specs.Records.{passOver, nextAt}
+use Rattle.types.proofs.Sound.{Passed, parts-of, next-tells, next-falls, next-core, widths-are, next-are}
+use Rattle.types.specs.Records.{passOver, unpadded, unpaddedMark, nextAt}
 use Rattle.types.specs.Table.{typeWidths, typeNext}
 use Rattle.value.specs.Bits.{skipShape, padShape, unpadShape, skipped, room, Padded, padding, padStage, Unpadded, unpadding, unpadStage}
-use Rattle.value.specs.Shapes.{Shape, tag, both, falls, stepBy, recordFor, stepAt, shapeAt}
+use Rattle.value.specs.Shapes.{Shape, plain, tag, both, falls, stepBy, recordFor, stepAt, shapeAt}
 use Rattle.value.specs.declared.ValueRead.{ValueRead}
 use Rattle.value.specs.declared.ValueRead.the-variants.{Next, Short}
 use Rattle.value.specs.declared.ValueWritten.the-variants.{Bits, Short as NoRoom}
-use Rattle.value.proofs.Steps.{tag-fits, both-fits, step-narrow, step-fits, shape-nothing, shape-tag, shape-both}
-use Rattle.value.proofs.Types.{shapeOf, shape-none, shape-core, taken, skip-reads, pad-writes, unpad-writes}
+use Rattle.value.proofs.Steps.{tag-fits, both-fits, step-narrow, step-marked, step-fits, shape-nothing, shape-plain, shape-tag, shape-both}
+use Rattle.value.proofs.Types.{plainShape, shapeOf, shape-unpadded, shape-sum, shape-product, shape-none, core-padded, shape-core, taken, skip-reads, pad-writes, unpad-writes}
 
 falls-true : (i j l r : ℕ) → j ≤ i → l < j → r < j → true ≡ falls i j l r
 falls-true i j l r h m n =
@@ -37,16 +37,20 @@ falls-true i j l r h m n =
 product-wide : (A B : Ty) → Matters (prod A B) → (0 < width A) × (0 < width B)
 product-wide A B (productMatters x y) = (x, y)
 
--- the shape of a product both of whose parts have a width
-shape-product : (A B : Ty) → 0 < width A → 0 < width B → both (width A) (shapeOf A) (shapeOf B) ≡ shapeOf (prod A B)
-unfolding shapeOf
-shape-product A B h k = go (width A) (width B) refl refl h k
+-- the shape of a product with padding, both of whose parts have a width
+shape-pair : (A B : Ty) → unpadded (prod A B) ≡ false → 0 < width A → 0 < width B → both (width A) (shapeOf A) (shapeOf B) ≡ shapeOf (prod A B)
+shape-pair A B p h k = go (width A) (width B) refl refl h k ∙ shape-product A B p
   where
     go : (a b : ℕ) → a ≡ width A → b ≡ width B → 0 < a → 0 < b
-        → both (width A) (shapeOf A) (shapeOf B) ≡ passOver a b (shapeOf A) (shapeOf B) (both (width A) (shapeOf A) (shapeOf B))
+        → both (width A) (shapeOf A) (shapeOf B) ≡ passOver (width A) (width B) (shapeOf A) (shapeOf B) (both (width A) (shapeOf A) (shapeOf B))
     go zero b e f h k = absurd (omega arith)
     go (suc a) zero e f h k = absurd (omega arith)
-    go (suc a) (suc b) e f h k = refl
+    go (suc a) (suc b) e f h k = ap₂ (λ (x y : ℕ). passOver x y (shapeOf A) (shapeOf B) (both (width A) (shapeOf A) (shapeOf B))) e f
+
+-- bits of a width that is not 0
+plain-wide : (w : ℕ) → 0 < w → plain w ≡ plainShape w
+plain-wide zero h = absurd (omega arith)
+plain-wide (suc w) h = refl
 
 module _ (bytes : List ℕ) (n : ℕ) (ok : Passed bytes n) where
   abbrev T : List TypeRecord
@@ -66,13 +70,24 @@ module _ (bytes : List ℕ) (n : ℕ) (ok : Passed bytes n) where
   right-none i e =
       shape-nothing bytes W N i (sym (step-narrow bytes W N i (widths-are bytes n ok i ∙ e))) ∙ sym (shape-none (tyAt T i) e)
 
-  -- a record with a width, through the next record that matters
-  module _ (i : ℕ) (h : i < length T) (wide : 0 < width (tyAt T i)) (earlier : (j : ℕ) → j < i → Right j) where
+  -- a type with a width and without padding
+  right-plain : (i : ℕ) → i < length T → 0 < width (tyAt T i) → unpadded (tyAt T i) ≡ true → Right i
+  right-plain i h wide p =
+      let few = ok .sound .few in
+      let w = widths-are bytes n ok i in
+      let m : getD N i 0 ≡ unpaddedMark = next-are bytes n ok i h ∙ eqb-true (nextAt T i) unpaddedMark (next-tells T (ok .sound) i h ∙ p) in
+      shape-plain bytes W N i (getD W i 0) (sym (step-marked bytes W N i (omega arith) (λ z. omega arith) m))
+      ∙ ap plain w
+      ∙ plain-wide (width (tyAt T i)) wide
+      ∙ sym (shape-unpadded (tyAt T i) p)
+
+  -- a type with a width and with padding, through the next record that matters
+  module _ (i : ℕ) (h : i < length T) (wide : 0 < width (tyAt T i)) (pads : unpadded (tyAt T i) ≡ false) (earlier : (j : ℕ) → j < i → Right j) where
     j-is : getD N i 0 ≡ nextAt T i
     j-is = next-are bytes n ok i h
 
     j-low : nextAt T i ≤ i
-    j-low = next-falls T (ok .sound) i h
+    j-low = next-falls T (ok .sound) i h pads
 
     record-is : recordFor bytes W N i ≡ typeAt T (nextAt T i)
     record-is = ap (typeAt T) j-is
@@ -81,7 +96,7 @@ module _ (bytes : List ℕ) (n : ℕ) (ok : Passed bytes n) where
     parts-are = parts-of T (ok .sound) (nextAt T i) (omega (arith, j-low))
 
     type-is : tyAt T (nextAt T i) ≡ core (tyAt T i)
-    type-is = next-core T (ok .sound) i h
+    type-is = next-core T (ok .sound) i h pads
 
     type-made : core (tyAt T i) ≡ typeFrom ((typeAt T (nextAt T i)) .tag) (tyAt T ((typeAt T (nextAt T i)) .left)) (tyAt T ((typeAt T (nextAt T i)) .right))
     type-made = sym type-is ∙ type-step T (nextAt T i) (omega (arith, j-low)) parts-are
@@ -100,7 +115,7 @@ module _ (bytes : List ℕ) (n : ℕ) (ok : Passed bytes n) where
         let low = j-low in
         let at = j-is in
         (λ k. stepBy (sym t′ k) (getD W i 0) (sym l′ k) (sym r′ k) (getD W (sym l′ k) 0) (getD W (sym r′ k) 0))
-        ∙ step-fits bytes W N i (omega arith)
+        ∙ step-fits bytes W N i (omega arith) (λ z. omega arith)
         (falls-true i (getD N i 0) ((recordFor bytes W N i) .left) ((recordFor bytes W N i) .right) (omega arith) (omega arith) (omega arith))
         (λ z. (let w = widths-are bytes n ok i in omega arith))
 
@@ -116,8 +131,9 @@ module _ (bytes : List ℕ) (n : ℕ) (ok : Passed bytes n) where
         shape-tag bytes W N i l r (max (getD W l 0) (getD W r 0) - getD W l 0) (max (getD W l 0) (getD W r 0) - getD W r 0) e
         ∙ ap₂ (λ (u v : ℕ). tag (max u v - u) (max u v - v) (shapeAt bytes W N l) (shapeAt bytes W N r)) a b
         ∙ ap₂ (tag (padL (tyAt T l) (tyAt T r)) (padR (tyAt T l) (tyAt T r))) (earlier l (omega arith)) (earlier r (omega arith))
+        ∙ shape-sum (tyAt T l) (tyAt T r) (ap unpadded (sym c) ∙ core-padded (tyAt T i) pads)
         ∙ ap shapeOf (sym c)
-        ∙ shape-core (tyAt T i)
+        ∙ shape-core (tyAt T i) pads
 
     right-product : (l r : ℕ) → (typeAt T (nextAt T i)) .tag ≡ 2 → (typeAt T (nextAt T i)) .left ≡ l → (typeAt T (nextAt T i)) .right ≡ r
         → l < nextAt T i → r < nextAt T i → core (tyAt T i) ≡ prod (tyAt T l) (tyAt T r) → Right i
@@ -132,9 +148,9 @@ module _ (bytes : List ℕ) (n : ℕ) (ok : Passed bytes n) where
         shape-both bytes W N i l r (getD W l 0) e
         ∙ ap (λ (u : ℕ). both u (shapeAt bytes W N l) (shapeAt bytes W N r)) a
         ∙ ap₂ (both (width (tyAt T l))) (earlier l (omega arith)) (earlier r (omega arith))
-        ∙ shape-product (tyAt T l) (tyAt T r) (m .0) (m .1)
+        ∙ shape-pair (tyAt T l) (tyAt T r) (ap unpadded (sym c) ∙ core-padded (tyAt T i) pads) (m .0) (m .1)
         ∙ ap shapeOf (sym c)
-        ∙ shape-core (tyAt T i)
+        ∙ shape-core (tyAt T i) pads
 
     right-by : (t l r : ℕ) → (typeAt T (nextAt T i)) .tag ≡ t → (typeAt T (nextAt T i)) .left ≡ l → (typeAt T (nextAt T i)) .right ≡ r
         → partsRule T (nextAt T i) t l r ≡ true → core (tyAt T i) ≡ typeFrom t (tyAt T l) (tyAt T r) → Right i
@@ -154,12 +170,16 @@ module _ (bytes : List ℕ) (n : ℕ) (ok : Passed bytes n) where
     right-wide =
         right-by ((typeAt T (nextAt T i)) .tag) ((typeAt T (nextAt T i)) .left) ((typeAt T (nextAt T i)) .right) refl refl refl parts-are type-made
 
+  right-either : (i : ℕ) → i < length T → 0 < width (tyAt T i) → ((j : ℕ) → j < i → Right j) → (u : Bool) → unpadded (tyAt T i) ≡ u → Right i
+  right-either i h w earlier true p = right-plain i h w p
+  right-either i h w earlier false p = right-wide i h w p earlier
+
   right-below : (m i : ℕ) → i < m → Right i
   unfolding width
   right-below zero i l = absurd (not-suc-le-zero l)
   right-below (suc m) i l = elim (decLt i (length T)) [
     | yes h ↦ elim (decLt 0 (width (tyAt T i))) [
-      | yes w ↦ right-wide i h w (λ j k. right-below m j (omega arith))
+      | yes w ↦ right-either i h w (λ j k. right-below m j (omega arith)) (unpadded (tyAt T i)) refl
       | no w ↦ right-none i (omega arith)
     ]
     | no h ↦ right-none i (ap width (type-past T i (omega arith)))

@@ -15,11 +15,11 @@ use Rattle.report.specs.Table.{entries}
 use Rattle.scope.specs.Numbers.{every, tabulate}
 use Rattle.scope.specs.Types2.{TypeRecord}
 use Rattle.types.proofs.Laws.{every-true}
-use Rattle.types.proofs.Records.{every-stop, every-both}
 use Rattle.types.proofs.Tables.{length-tabulate, tabulate-at, entries-at, entries-past}
-use Rattle.value.specs.Shapes.{Shape, nothing, tag, both, part, falls, stepWhere, tagStep, bothStep, stepBy, stepFrom, recordFor, fitsAt, stepAt, shapeFrom, shapeAt}
+use Rattle.types.specs.Records.{unpaddedMark}
+use Rattle.value.specs.Shapes.{Shape, nothing, plain, tag, both, part, falls, stepWhere, tagStep, bothStep, stepBy, stepFrom, recordFor, fitsAt, markedAt, stepAt, shapeFrom, shapeAt}
 use Rattle.value.specs.declared.Step.{Step}
-use Rattle.value.specs.declared.Step.the-variants.{Nothing, Tag, Both}
+use Rattle.value.specs.declared.Step.the-variants.{Nothing, Plain, Tag, Both}
 
 -- the part that a tag names
 pub part-right : (side a b : ℕ) → (side ≡ 0 → ⊥) → b ≡ part side a b
@@ -61,18 +61,27 @@ tag-of e f g h k = λ n. tagStep (e n) (f n) (g n) (h n) (k n)
 pub both-of : {o w l x r y a p b q : ℕ} → o ≡ w → l ≡ x → r ≡ y → a ≡ p → b ≡ q → bothStep o l r a b ≡ bothStep w x y p q
 both-of e f g h k = λ n. bothStep (e n) (f n) (g n) (h n) (k n)
 
-from-zero : (fits : Bool) (own k left right a b : ℕ) → own ≡ 0 → stepFrom fits own k left right a b ≡ Nothing
-from-zero true zero k left right a b e = refl
-from-zero true (suc w) k left right a b e = absurd (omega arith)
-from-zero false own k left right a b e = refl
+from-zero : (few marked fits : Bool) (own k left right a b : ℕ) → own ≡ 0 → stepFrom few own marked fits k left right a b ≡ Nothing
+from-zero true marked fits zero k left right a b e = refl
+from-zero true marked fits (suc w) k left right a b e = absurd (omega arith)
+from-zero false marked fits own k left right a b e = refl
 
-from-some : (own k left right a b : ℕ) → (own ≡ 0 → ⊥) → stepFrom true own k left right a b ≡ stepBy k own left right a b
+from-mark : (fits : Bool) (own k left right a b : ℕ) → (own ≡ 0 → ⊥) → stepFrom true own true fits k left right a b ≡ Plain own
+from-mark fits zero k left right a b n = absurd (n refl)
+from-mark fits (suc w) k left right a b n = refl
+
+from-unfit : (own k left right a b : ℕ) → stepFrom true own false false k left right a b ≡ Nothing
+from-unfit zero k left right a b = refl
+from-unfit (suc w) k left right a b = refl
+
+from-some : (own k left right a b : ℕ) → (own ≡ 0 → ⊥) → stepFrom true own false true k left right a b ≡ stepBy k own left right a b
 from-some zero k left right a b n = absurd (n refl)
 from-some (suc w) k left right a b n = refl
 
 -- what a step tells of its record: its parts lie below it, and the widths add up
 abbrev Tells : (i own left right a b : ℕ) → Step → Type 0
 Tells i own left right a b Nothing = Unit {0}
+Tells i own left right a b (Plain w) = (i < typeCount) × (w ≡ own) × (0 < own)
 Tells i own left right a b (Tag l r padLeft padRight) =
     (i < typeCount) × (l ≡ left) × (r ≡ right) × (left < i) × (right < i) × (1 + padLeft + a ≡ own) × (1 + padRight + b ≡ own)
 Tells i own left right a b (Both l r w) =
@@ -94,20 +103,20 @@ module _ (i left right a b : ℕ) (few : i < typeCount) (l : left < i) (r : righ
   by-tells own (suc (suc zero)) h = both-tells own (eqb own (a + b)) h refl
   by-tells own (suc (suc (suc k))) h = tt
 
-from-tells : (i j left right a b own k : ℕ) (fits : Bool) → every (ltb i typeCount ∷ falls i j left right ∷ []) ≡ fits
-    → Tells i own left right a b (stepFrom fits own k left right a b)
-from-tells i j left right a b own k false e = tt
-from-tells i j left right a b zero k true e = tt
-from-tells i j left right a b (suc w) k true e =
-    let x = every-true (ltb i typeCount) (falls i j left right ∷ []) e in
-    let y = every-true (falls i j left right) [] (x .1) in
-    let z = every-true (leb j i) (ltb left j ∷ ltb right j ∷ []) (y .0) in
+from-tells : (i j left right a b own k : ℕ) (few marked fits : Bool) → ltb i typeCount ≡ few → falls i j left right ≡ fits
+    → Tells i own left right a b (stepFrom few own marked fits k left right a b)
+from-tells i j left right a b own k false marked fits e f = tt
+from-tells i j left right a b zero k true marked fits e f = tt
+from-tells i j left right a b (suc w) k true true fits e f = (ltb-true i typeCount e, refl, omega arith)
+from-tells i j left right a b (suc w) k true false false e f = tt
+from-tells i j left right a b (suc w) k true false true e f =
+    let z = every-true (leb j i) (ltb left j ∷ ltb right j ∷ []) f in
     let u = every-true (ltb left j) (ltb right j ∷ []) (z .1) in
     let v = every-true (ltb right j) [] (u .1) in
     let ji = leb-true j i (z .0) in
     let lj = ltb-true left j (u .0) in
     let rj = ltb-true right j (v .0) in
-    by-tells i left right a b (ltb-true i typeCount (x .0)) (omega arith) (omega arith) (suc w) k (omega arith)
+    by-tells i left right a b (ltb-true i typeCount e) (omega arith) (omega arith) (suc w) k (omega arith)
 
 module _ (types widths next : List ℕ) (i : ℕ) where
   abbrev R : TypeRecord
@@ -116,31 +125,46 @@ module _ (types widths next : List ℕ) (i : ℕ) where
   abbrev own : ℕ
   own = getD widths i 0
 
-  -- the step of type i, whether its record fits or not
-  step-with : (fits : Bool) → fitsAt types widths next i ≡ fits
-      → stepAt types widths next i ≡ stepFrom fits own (R .tag) (R .left) (R .right) (getD widths (R .left) 0) (getD widths (R .right) 0)
+  -- the step of type i, by what its index, its entry and its record say
+  step-with : {few marked fits : Bool} → ltb i typeCount ≡ few → markedAt types widths next i ≡ marked → fitsAt types widths next i ≡ fits
+      → stepAt types widths next i
+      ≡ stepFrom few own marked fits (R .tag) (R .left) (R .right) (getD widths (R .left) 0) (getD widths (R .right) 0)
   unfolding stepAt
-  step-with fits e = ap (λ (f : Bool). stepFrom f own (R .tag) (R .left) (R .right) (getD widths (R .left) 0) (getD widths (R .right) 0)) e
+  step-with e f g = λ k. stepFrom (e k) own (f k) (g k) (R .tag) (R .left) (R .right) (getD widths (R .left) 0) (getD widths (R .right) 0)
 
   -- the same by the tests of the code
   pub step-narrow : own ≡ 0 → Nothing ≡ stepAt types widths next i
   step-narrow e =
-      sym (step-with (fitsAt types widths next i) refl
-      ∙ from-zero (fitsAt types widths next i) own (R .tag) (R .left) (R .right) (getD widths (R .left) 0) (getD widths (R .right) 0) e)
+      sym (step-with refl refl refl
+      ∙ from-zero (ltb i typeCount) (markedAt types widths next i) (fitsAt types widths next i) own (R .tag) (R .left) (R .right)
+      (getD widths (R .left) 0) (getD widths (R .right) 0) e)
 
   pub step-past : typeCount ≤ i → Nothing ≡ stepAt types widths next i
-  step-past h = sym (step-with false (every-stop (ltb i typeCount) _ (le-ltb i typeCount h)))
+  step-past h = sym (step-with (le-ltb i typeCount h) refl refl)
 
-  pub step-unfit : i < typeCount → false ≡ falls i (getD next i 0) (R .left) (R .right) → Nothing ≡ stepAt types widths next i
-  step-unfit h e = sym (step-with false (every-both (ltb i typeCount) (falls i (getD next i 0) (R .left) (R .right)) (lt-ltb i typeCount h) ∙ sym e))
+  pub step-marked : i < typeCount → (own ≡ 0 → ⊥) → getD next i 0 ≡ unpaddedMark → Plain own ≡ stepAt types widths next i
+  step-marked h n e =
+      sym (step-with (lt-ltb i typeCount h) (eq-eqb (getD next i 0) unpaddedMark e) refl
+      ∙ from-mark (fitsAt types widths next i) own (R .tag) (R .left) (R .right) (getD widths (R .left) 0) (getD widths (R .right) 0) n)
 
-  pub step-fits : i < typeCount → true ≡ falls i (getD next i 0) (R .left) (R .right) → (own ≡ 0 → ⊥)
-      → stepBy (R .tag) own (R .left) (R .right) (getD widths (R .left) 0) (getD widths (R .right) 0) ≡ stepAt types widths next i
-  step-fits h e n =
-      sym (step-with true (every-both (ltb i typeCount) (falls i (getD next i 0) (R .left) (R .right)) (lt-ltb i typeCount h) ∙ sym e)
-      ∙ from-some own (R .tag) (R .left) (R .right) (getD widths (R .left) 0) (getD widths (R .right) 0) n)
+  module _ (h : i < typeCount) (m : getD next i 0 ≡ unpaddedMark → ⊥) where
+    pub step-unfit : false ≡ falls i (getD next i 0) (R .left) (R .right) → Nothing ≡ stepAt types widths next i
+    step-unfit e =
+        sym (step-with (lt-ltb i typeCount h) (ne-eqb (getD next i 0) unpaddedMark m) (sym e)
+        ∙ from-unfit own (R .tag) (R .left) (R .right) (getD widths (R .left) 0) (getD widths (R .right) 0))
 
-  -- what a step tells: the parts lie below, and the widths add up
+    pub step-fits : true ≡ falls i (getD next i 0) (R .left) (R .right) → (own ≡ 0 → ⊥)
+        → stepBy (R .tag) own (R .left) (R .right) (getD widths (R .left) 0) (getD widths (R .right) 0) ≡ stepAt types widths next i
+    step-fits e n =
+        sym (step-with (lt-ltb i typeCount h) (ne-eqb (getD next i 0) unpaddedMark m) (sym e)
+        ∙ from-some own (R .tag) (R .left) (R .right) (getD widths (R .left) 0) (getD widths (R .right) 0) n)
+
+  -- what a step tells: the bits are as many as the width; the parts lie below, and the widths add up
+  pub record PlainTells (w : ℕ) : Type 0 where
+    pub few : i < typeCount
+    pub width : w ≡ own
+    pub some : 0 < own
+
   pub record TagTells (l r padLeft padRight : ℕ) : Type 0 where
     pub few : i < typeCount
     pub left-falls : l < i
@@ -159,7 +183,13 @@ module _ (types widths next : List ℕ) (i : ℕ) where
   tells : Tells i own (R .left) (R .right) (getD widths (R .left) 0) (getD widths (R .right) 0) (stepAt types widths next i)
   unfolding stepAt
   tells =
-      from-tells i (getD next i 0) (R .left) (R .right) (getD widths (R .left) 0) (getD widths (R .right) 0) own (R .tag) (fitsAt types widths next i) refl
+      from-tells i (getD next i 0) (R .left) (R .right) (getD widths (R .left) 0) (getD widths (R .right) 0) own (R .tag)
+      (ltb i typeCount) (markedAt types widths next i) (fitsAt types widths next i) refl refl
+
+  pub plain-told : (w : ℕ) → stepAt types widths next i ≡ Plain w → PlainTells w
+  plain-told w e =
+      let t = subst (Tells i own (R .left) (R .right) (getD widths (R .left) 0) (getD widths (R .right) 0)) e tells in
+      record { few = t .0; width = t .1; some = t .2 }
 
   pub tag-told : (l r padLeft padRight : ℕ) → stepAt types widths next i ≡ Tag l r padLeft padRight → TagTells l r padLeft padRight
   tag-told l r padLeft padRight e =
@@ -215,6 +245,10 @@ module _ (types widths next : List ℕ) where
     | yes l ↦ shape-made i l ∙ ap (shapeFrom (take i shapes)) e
     | no m ↦ shape-past i (omega arith)
   ]
+
+  pub shape-plain : (i w : ℕ) → stepAt types widths next i ≡ Plain w → shapeAt types widths next i ≡ plain w
+  unfolding shapeFrom
+  shape-plain i w e = shape-made i (plain-told types widths next i w e .few) ∙ ap (shapeFrom (take i shapes)) e
 
   pub shape-tag : (i l r padLeft padRight : ℕ) → stepAt types widths next i ≡ Tag l r padLeft padRight
       → shapeAt types widths next i ≡ tag padLeft padRight (shapeAt types widths next l) (shapeAt types widths next r)

@@ -9,19 +9,22 @@ use lib.ListN.{length, getD, set, drop, length-append}
 use lib.Seq.{sets, drop-drop}
 use borrow.Author.Tests.{leb-true, le-leb, lt-leb}
 use Rattle.limits.specs.Limits.{cellCount}
-use Rattle.report.specs.Bits.{Bit}
+use Rattle.cells.specs.Copying.{bitsFrom}
+use Rattle.report.specs.Bits.{Bit, bitsOf}
 use Rattle.report.specs.Values.{Cells}
 use Rattle.scope.specs.Numbers.{zeros}
+use Rattle.scope.specs.Run.{cellsOf}
 use Rattle.types.proofs.Laws.{every-true}
 use Rattle.types.proofs.Records.{every-stop, every-both}
-use Rattle.value.specs.Bits.{Used, used, short, after, skipShape, padShape, unpadShape, skipped, room, padding, padStage, unpadding, unpadStage}
-use Rattle.value.specs.Shapes.{Shape, nothing, tag, both, part, stepAt, shapeAt}
+use Rattle.value.specs.Bits.{Used, used, short, after, tagOf, skipShape, padShape, unpadShape, skipped, room, padding, padStage, unpadding, unpadStage}
+use Rattle.value.specs.Shapes.{Shape, nothing, plain, tag, both, part, stepAt, shapeAt}
 use Rattle.value.specs.declared.Step.{Step}
-use Rattle.value.specs.declared.Step.the-variants.{Nothing, Tag, Both}
+use Rattle.value.specs.declared.Step.the-variants.{Nothing, Plain, Tag, Both}
 use Rattle.value.specs.declared.ValueRead.{ValueRead}
 use Rattle.value.specs.declared.ValueRead.the-variants.{Next, Short}
 use Rattle.value.specs.declared.ValueWritten.the-variants.{Bits, Short as NoRoom}
-use Rattle.value.proofs.Steps.{tag-told, both-told, shape-nothing, shape-tag, shape-both}
+use Rattle.value.proofs.Plain.{length-cells, cells-plain}
+use Rattle.value.proofs.Steps.{plain-told, tag-told, both-told, shape-nothing, shape-plain, shape-tag, shape-both}
 
 skipped-after : (p n k : ℕ) (x : Used) → n ≡ p + k → skipped n x ≡ skipped p (after k x)
 skipped-after p n k (used m) e = ap Next (let z : n + m ≡ p + (k + m) = omega arith in z)
@@ -104,7 +107,13 @@ module _ (types widths next : List ℕ) (i : ℕ) where
         ∙ ap (skipped p) (sym (both-used w (Sh l) (Sh r) (drop p bits) (m - p) (x .0)))
         ∙ ap (λ (A : Shape). skipped p (skipShape A (drop p bits))) (sym (shape-both types widths next i l r w e))
 
+  pub skip-along : (w p : ℕ) (r : ValueRead) (bs : List Bit) → stepAt types widths next i ≡ Plain w → r ≡ skipped p (skipShape (plain w) bs) → r ≡ skipped p (skipShape (Sh i) bs)
+  skip-along w p r bs e f = f ∙ ap (λ (A : Shape). skipped p (skipShape A bs)) (sym (shape-plain types widths next i w e))
+
   -- padding, along the same ways
+  pub pad-along : (w at : ℕ) (bs d d₁ : List Bit) → stepAt types widths next i ≡ Plain w → d₁ ≡ padShape (plain w) bs d at → d₁ ≡ padShape (Sh i) bs d at
+  pad-along w at bs d d₁ e f = f ∙ ap (λ (A : Shape). padShape A bs d at) (sym (shape-plain types widths next i w e))
+
   pub pad-nothing : (bs d : List Bit) (at : ℕ) → stepAt types widths next i ≡ Nothing → d ≡ padShape (Sh i) bs d at
   unfolding padShape
   pad-nothing bs d at e = ap (λ (A : Shape). padShape A bs d at) (sym (shape-nothing types widths next i e))
@@ -159,12 +168,14 @@ sets-append d q (x ∷ xs) ys =
 -- a value takes no more bits than its type has cells
 most : Shape → ℕ
 most nothing = 0
+most (plain w) = w
 most (tag padLeft padRight A B) = 1 + max (most A) (most B)
 most (both w A B) = most A + most B
 
 unpad-most : (A : Shape) (c : Cells) (at : ℕ) → length (unpadShape A c at) ≤ most A
 unfolding unpadShape most
 unpad-most nothing c at = omega arith
+unpad-most (plain w) c at = omega (arith, length-cells (λ k. tagOf (c k)) at w)
 unpad-most (tag padLeft padRight A B) c at =
     go (c at) (unpad-most A c (at + (1 + padLeft))) (unpad-most B c (at + (1 + padRight)))
   where
@@ -184,6 +195,9 @@ module _ (types widths next : List ℕ) where
       go : (s : Step) → stepAt types widths next i ≡ s → ((j : ℕ) → j < i → most (shapeAt types widths next j) ≤ getD widths j 0)
           → most (shapeAt types widths next i) ≤ getD widths i 0
       go Nothing e earlier = rw (shape-nothing types widths next i e) (omega arith)
+      go (Plain w) e earlier =
+          let t = plain-told types widths next i w e .width in
+          rw (shape-plain types widths next i w e) (omega arith)
       go (Tag l r padLeft padRight) e earlier =
           let t = tag-told types widths next i l r padLeft padRight e in
           let x = earlier l (t .left-falls) in
@@ -218,6 +232,16 @@ module _ (types widths next : List ℕ) (i : ℕ) where
   unfolding unpadShape
   unpad-nothing c at q d e =
       put-as c at q q d d [] (ap (λ (A : Shape). unpadShape A c at) (sym (shape-nothing types widths next i e))) (let z : q ≡ q + 0 = omega arith in z) refl
+
+  -- all bits of a slice's cells at once
+  pub unpad-plain : (w : ℕ) (s : List ℕ) (at q : ℕ) (d d₁ : List Bit) → stepAt types widths next i ≡ Plain w
+      → d₁ ≡ sets d q (bitsFrom (bitsOf s) at w) → Put (cellsOf s) at q (q + w) d d₁
+  unfolding unpadShape
+  unpad-plain w s at q d d₁ e f =
+      put-as (cellsOf s) at q (q + w) d d₁ (bitsFrom (bitsOf s) at w)
+      (cells-plain s at w ∙ ap (λ (A : Shape). unpadShape A (cellsOf s) at) (sym (shape-plain types widths next i w e)))
+      (ap (λ (k : ℕ). q + k) (sym (ap length (cells-plain s at w) ∙ length-cells (λ k. tagOf (cellsOf s k)) at w)))
+      f
 
   module _ (l r padLeft padRight : ℕ) (e : stepAt types widths next i ≡ Tag l r padLeft padRight) where
     side-unpads : (side : ℕ) (c : Cells) (at : ℕ) → side < 2 → c at ≡ side

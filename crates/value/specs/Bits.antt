@@ -4,13 +4,13 @@ use mathlib.Core.Bool.{Bool, true, false}
 use mathlib.Core.List.{List, [], _∷_, _++_}
 use Prim.Native.Nat.{ℕ, zero, suc, _+_}
 use lib.Dec.{leb}
-use lib.ListN.{length, drop}
+use lib.ListN.{length, take, drop}
 use lib.Seq.{sets}
 use Rattle.limits.specs.Limits.{cellCount}
 use Rattle.report.specs.Bits.{Bit}
 use Rattle.report.specs.Values.{Cells}
-use Rattle.scope.specs.Numbers.{zeros, every}
-use Rattle.value.specs.Shapes.{Shape, nothing, tag, both}
+use Rattle.scope.specs.Numbers.{zeros, every, tabulateFrom}
+use Rattle.value.specs.Shapes.{Shape, nothing, plain, tag, both}
 use Rattle.value.specs.declared.ValueRead.{ValueRead}
 use Rattle.value.specs.declared.ValueRead.the-variants.{Next, Short}
 use Rattle.value.specs.declared.ValueWritten.{ValueWritten}
@@ -26,9 +26,19 @@ abbrev pub after : (k : ℕ) → Used → Used
 after k (used n) = used (k + n)
 after k short = short
 
+-- the tag that a bit is read as: 0, or else 1
+abbrev pub tagOf : Bit → Bit
+tagOf zero = 0
+tagOf (suc b) = 1
+
+unfoldable pub tagsOf : List Bit → List Bit
+tagsOf [] = []
+tagsOf (b ∷ bs) = tagOf b ∷ tagsOf bs
+
 -- the compact bits of a value of the shape, at the front of the bits
 unfoldable pub skipShape : Shape → List Bit → Used
 skipShape nothing bs = used 0
+skipShape (plain n) bs = elim (leb n (length bs)) [ true ↦ used n | false ↦ short ]
 skipShape (tag padLeft padRight A B) [] = short
 skipShape (tag padLeft padRight A B) (zero ∷ bs) = after 1 (skipShape A bs)
 skipShape (tag padLeft padRight A B) (suc b ∷ bs) = after 1 (skipShape B bs)
@@ -36,8 +46,9 @@ skipShape (both left A B) bs = elim (skipShape A bs) [ used k ↦ after k (skipS
 
 -- the cells with the padded value from a place on, as far as there are bits for it
 unfoldable pub padShape : Shape → List Bit → (cells : List Bit) → (at : ℕ) → List Bit
-unfolding skipShape
+unfolding skipShape tagsOf
 padShape nothing bs cells at = cells
+padShape (plain n) bs cells at = elim (leb n (length bs)) [ true ↦ sets cells at (tagsOf (take n bs)) | false ↦ cells ]
 padShape (tag padLeft padRight A B) [] cells at = cells
 padShape (tag padLeft padRight A B) (zero ∷ bs) cells at = padShape A bs (sets cells at (0 ∷ zeros padLeft)) (at + (1 + padLeft))
 padShape (tag padLeft padRight A B) (suc b ∷ bs) cells at = padShape B bs (sets cells at (1 ∷ zeros padRight)) (at + (1 + padRight))
@@ -48,7 +59,9 @@ padShape (both left A B) bs cells at = elim (skipShape A bs) [
 
 -- the compact bits of the value that the cells from a place on hold, whatever the padding is
 unfoldable pub unpadShape : Shape → Cells → (at : ℕ) → List Bit
+unfolding tabulateFrom
 unpadShape nothing c at = []
+unpadShape (plain n) c at = tabulateFrom at n (λ k. tagOf (c k))
 unpadShape (tag padLeft padRight A B) c at = elim (c at) [
   | zero ↦ 0 ∷ unpadShape A c (at + (1 + padLeft))
   | suc b ↦ 1 ∷ unpadShape B c (at + (1 + padRight))

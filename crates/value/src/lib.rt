@@ -1,5 +1,6 @@
 // Values along their types: how far a value's compact bits go, compact bits to padded cells, padded cells to compact bits.
-// A value is read record by record downwards: each function calls itself on a record's parts, and the index falls.
+// A value of a type without padding is so many bits, which are its cells too: it is skipped, padded and unpadded at once.
+// Any other is read record by record downwards: each function calls itself on a record's parts, and the index falls.
 // A part of width 0 is passed over at once, and products with such a part are stepped over by the table of next records,
 // so that the steps are in proportion to the width. The tables are lent and may hold anything: a record that does not fit
 // its widths, or whose parts do not lie below it, stands for nothing. A table that the check of types passed has no such record.
@@ -12,7 +13,7 @@ ghost use Rattle.limits.specs.Limits.{cellCount};
 ghost use Rattle.report.specs.Bits.{bitsOf};
 ghost use Rattle.scope.specs.Numbers.{streamOf, zeros};
 ghost use Rattle.scope.specs.Run.{cellsOf};
-ghost use Rattle.value.specs.Shapes.{falls, tagStep, bothStep, stepAt, shapeAt, part};
+ghost use Rattle.value.specs.Shapes.{plain, falls, tagStep, bothStep, stepAt, shapeAt, part};
 ghost use Rattle.value.specs.Bits.{skipShape, padShape, unpadShape, skipped, padding, padStage, unpadding, unpadStage, room};
 use bititer::CodeRead;
 
@@ -28,9 +29,11 @@ pub enum ValueWritten {
     Short,
 }
 
-// How a value goes on at a record: with nothing, with a tag and one of two parts after so much padding, or with both parts.
+// How a value goes on at a record: with nothing, with so many bits without padding, with a tag and one of two parts after so much padding,
+// or with both parts.
 enum Step {
     Nothing,
+    Plain(u32),
     Tag(usize, usize, u32, u32),
     Both(usize, usize, u32),
 }
@@ -101,7 +104,11 @@ fn step_at<'a>(types: &[u8], widths: &'a [u32], next: &'a [u16], i: usize) -> St
     if limits::TYPE_COUNT <= i {
         return Step::Nothing;
     }
-    let j = index(types::next_at(next, i));
+    let entry = types::next_at(next, i);
+    if entry == types::UNPADDED {
+        return Step::Plain(own);
+    }
+    let j = index(entry);
     let record = types::record_at(types, j);
     let left = index(record.left);
     let right = index(record.right);
@@ -133,6 +140,29 @@ fn padding_of(side: u8, left: u32, right: u32) -> u32
     if side == 0 { left } else { right }
 }
 
+// How many bits of a stream stand from bit p on.
+fn bits_left(s: &[u8], p: usize) -> usize
+    ensures { λ r. ⌜ r ≡ length (drop p (streamOf (now (s .entry)))) ⌝ }
+{
+    if limits::DOSSIER_BYTES < s.len() {
+        return 0;
+    }
+    let bits = s.len() * 8;
+    if p < bits { bits - p } else { 0 }
+}
+
+// How far so many bits from bit p of a stream on go.
+fn skip_plain(s: &[u8], p: usize, width: u32) -> ValueRead
+    ensures { λ r. ⌜ r ≡ skipped p (skipShape (plain width) (drop p (streamOf (now (s .entry))))) ⌝ }
+{
+    let n = width as usize;
+    if n <= bits_left(s, p) {
+        ValueRead::Next(p + n)
+    } else {
+        ValueRead::Short
+    }
+}
+
 // How far the compact value of type i at bit p of a stream goes.
 pub fn skip<'a>(
     types: &[u8],
@@ -147,6 +177,7 @@ pub fn skip<'a>(
     let way = step_at(types, widths, next, i);
     match way {
         Step::Nothing => ValueRead::Next(p),
+        Step::Plain(width) => skip_plain(s, p, width),
         Step::Tag(left, right, _, _) => {
             let CodeRead::Read(side, after) = bititer::bit(s, p) else {
                 return ValueRead::Short;
@@ -186,6 +217,19 @@ fn write_tag(cells: &mut [u8], at: u32, side: u8, padding: u32)
     cells::zero_cells(cells, at + 1, padding);
 }
 
+// So many bits from bit p of a stream on, as cells from `at` on, where there are so many.
+fn pad_plain(s: &[u8], p: usize, width: u32, cells: &mut [u8], at: u32) -> ValueRead
+    requires { ⌜ 0 < width ⌝ }
+    ensures { λ r. ⌜ (r ≡ skipped p (skipShape (plain width) (drop p (streamOf (now (s .entry))))))
+        × (bitsOf (now (cells .exit)) ≡ padShape (plain width) (drop p (streamOf (now (s .entry)))) (bitsOf (now (cells .entry))) at) ⌝ }
+{
+    let ValueRead::Next(end) = skip_plain(s, p, width) else {
+        return ValueRead::Short;
+    };
+    cells::put_bits(s, p as u32, width, cells, at);
+    ValueRead::Next(end)
+}
+
 // The compact value of type i at bit p, as padded cells from `at` on, as far as there are bits for it.
 fn pad_part<'a>(
     types: &[u8],
@@ -204,6 +248,7 @@ fn pad_part<'a>(
     let way = step_at(types, widths, next, i);
     match way {
         Step::Nothing => ValueRead::Next(p),
+        Step::Plain(width) => pad_plain(s, p, width, cells, at),
         Step::Tag(left, right, pad_left, pad_right) => {
             let CodeRead::Read(side, after) = bititer::bit(s, p) else {
                 return ValueRead::Short;
@@ -266,6 +311,10 @@ fn unpad_part<'a>(
     let way = step_at(types, widths, next, i);
     match way {
         Step::Nothing => q,
+        Step::Plain(width) => {
+            cells::put_bits(cells, at, width, answer, q);
+            q + width
+        }
         Step::Tag(left, right, pad_left, pad_right) => {
             let side = cells::read_cell(cells, at);
             cells::write_cell(answer, q, side);

@@ -16,14 +16,15 @@ use Rattle.bititer.proofs.Streams.{bit-got, bit-ended, bit-below}
 use Rattle.bititer.proofs.bit.Reads as bit-reads
 use Rattle.bititer.specs.Answers.{gotCode}
 use Rattle.value.specs.Shapes.{stepAt}
-use Rattle.value.specs.declared.Step.the-variants.{Nothing, Tag, Both}
+use Rattle.value.specs.declared.Step.the-variants.{Nothing, Plain, Tag, Both}
 use Rattle.value.proofs.+pad_part.{statement}
 use Rattle.value.proofs.+pad_part.Lts-pad_part as pad-part-lts
 use Rattle.value.proofs.+pad_part.Tie.{close}
-use Rattle.value.proofs.Steps.{tag-told, both-told, part-wide}
-use Rattle.value.proofs.Ways.{skip-nothing, skip-ended, skip-tag, skip-cut, skip-both, pad-nothing, pad-ended, pad-tag, pad-cut, pad-both}
+use Rattle.value.proofs.Steps.{plain-told, tag-told, both-told, part-wide}
+use Rattle.value.proofs.Ways.{skip-nothing, skip-along, pad-along, skip-ended, skip-tag, skip-cut, skip-both, pad-nothing, pad-ended, pad-tag, pad-cut, pad-both}
 use Rattle.value.proofs.pad_part.Kinds as pad-part-kinds
 use Rattle.value.proofs.pad_part.Reads as pad-part
+use Rattle.value.proofs.pad_plain.Reads as pad-plain-reads
 use Rattle.value.proofs.padding_of.Reads as padding-of-reads
 use Rattle.value.proofs.part_of.Reads as part-of-reads
 use Rattle.value.proofs.step_at.Reads as step-at-reads
@@ -40,7 +41,7 @@ pad-part-below t =
     and 4 pad-part-kinds.ps (falls 4 pad-part-kinds.ps _<_ μ-pad-part t) pad-part.Pre
 
 abbrev pad-part-calls : ℕ → pad-part-lts.Claims
-pad-part-calls t = (step-at-reads.Asked, step-at-reads.Learnt, bit-reads.Asked, bit-reads.Learnt, padding-of-reads.Asked, padding-of-reads.Learnt, write-tag-reads.Asked, write-tag-reads.Learnt, part-of-reads.Asked, part-of-reads.Learnt, pad-part-below t, pad-part.Post)
+pad-part-calls t = (step-at-reads.Asked, step-at-reads.Learnt, pad-plain-reads.Asked, pad-plain-reads.Learnt, bit-reads.Asked, bit-reads.Learnt, padding-of-reads.Asked, padding-of-reads.Learnt, write-tag-reads.Asked, write-tag-reads.Learnt, part-of-reads.Asked, part-of-reads.Learnt, pad-part-below t, pad-part.Post)
 
 pad-part-step-at-requires : (t : ℕ) → pad-part-lts.Need-step-at-requires (pad-part-calls t) (pad-part-at t) pad-part.Post
 pad-part-step-at-requires t c κs = search needs
@@ -50,6 +51,21 @@ pad-part-enum-told t c = search needs
 
 pad-part-enum-known-way : (t : ℕ) → pad-part-lts.Need-enum-known-way (pad-part-calls t) (pad-part-at t) pad-part.Post
 pad-part-enum-known-way t c = search needs
+
+pad-part-pad-plain-requires : (t : ℕ) → pad-part-lts.Need-pad-plain-requires (pad-part-calls t) (pad-part-at t) pad-part.Post
+pad-part-pad-plain-requires t c κs =
+    let a = c .before .before .before .before .before .before .before .before .before .before .args in
+    let ts = a .types .now in
+    let w = a .widths .now in
+    let n = a .next .now in
+    let g = c .before .before .way .given in
+    let v = g .0 .0 in
+    let e : stepAt ts w n (a .i) ≡ Plain v = sym (c .before .before .before .before .step-at .ensures) ∙ g .1 in
+    let told = plain-told ts w n (a .i) v e in
+    omega arith
+
+pad-part-enum-known-way-2 : (t : ℕ) → pad-part-lts.Need-enum-known-way-2 (pad-part-calls t) (pad-part-at t) pad-part.Post
+pad-part-enum-known-way-2 t c = search needs
 
 pad-part-bit-requires : (t : ℕ) → pad-part-lts.Need-bit-requires (pad-part-calls t) (pad-part-at t) pad-part.Post
 pad-part-bit-requires t c κs = search needs
@@ -67,7 +83,7 @@ pad-part-returns t c =
     let w = a .widths .now in
     let n = a .next .now in
     let bits = streamOf (a .s .now) in
-    let g = c .before .before .before .before .way .given in
+    let g = c .before .before .before .before .way2 .given in
     let l = g .0 .0 in
     let r = g .0 .1 .0 in
     let x = g .0 .1 .1 .0 in
@@ -85,7 +101,7 @@ pad-part-write-tag-requires t c κs =
     let ts = a .types .now in
     let w = a .widths .now in
     let n = a .next .now in
-    let g = c .before .before .before .before .before .before .before .way .given in
+    let g = c .before .before .before .before .before .before .before .way2 .given in
     let l = g .0 .0 in
     let r = g .0 .1 .0 in
     let x = g .0 .1 .1 .0 in
@@ -104,7 +120,7 @@ pad-part-add-pad-part t c =
     let ts = a .types .now in
     let w = a .widths .now in
     let n = a .next .now in
-    let g = c .before .before .before .before .before .before .before .before .before .before .before .before .way .given in
+    let g = c .before .before .before .before .before .before .before .before .before .before .before .before .way2 .given in
     let l = g .0 .0 in
     let r = g .0 .1 .0 in
     let x = g .0 .1 .1 .0 in
@@ -120,7 +136,7 @@ pad-part-add-pad-part-2 t c =
     let ts = a .types .now in
     let w = a .widths .now in
     let n = a .next .now in
-    let g = c .before .before .before .before .before .before .before .before .before .before .before .before .way .given in
+    let g = c .before .before .before .before .before .before .before .before .before .before .before .before .way2 .given in
     let l = g .0 .0 in
     let r = g .0 .1 .0 in
     let x = g .0 .1 .1 .0 in
@@ -138,7 +154,7 @@ pad-part-pad-part-requires t c κs =
     let ts = a .types .now in
     let w = a .widths .now in
     let n = a .next .now in
-    let g = c .before .before .before .before .before .before .before .before .before .before .before .before .way .given in
+    let g = c .before .before .before .before .before .before .before .before .before .before .before .before .way2 .given in
     let l = g .0 .0 in
     let r = g .0 .1 .0 in
     let x = g .0 .1 .1 .0 in
@@ -150,8 +166,8 @@ pad-part-pad-part-requires t c κs =
     let wide = part-wide ts w n (a .i) l r x y told side (c .before .part-of .result) (c .before .before .before .before .before .before .padding-of .result) (c .before .part-of .ensures) (c .before .before .before .before .before .before .padding-of .ensures) in
     (omega arith, λ some. omega arith)
 
-pad-part-enum-known-way-2 : (t : ℕ) → pad-part-lts.Need-enum-known-way-2 (pad-part-calls t) (pad-part-at t) pad-part.Post
-pad-part-enum-known-way-2 t c = search needs
+pad-part-enum-known-way-3 : (t : ℕ) → pad-part-lts.Need-enum-known-way-3 (pad-part-calls t) (pad-part-at t) pad-part.Post
+pad-part-enum-known-way-3 t c = search needs
 
 pad-part-pad-part-requires-2 : (t : ℕ) → pad-part-lts.Need-pad-part-requires-2 (pad-part-calls t) (pad-part-at t) pad-part.Post
 pad-part-pad-part-requires-2 t c κs =
@@ -159,7 +175,7 @@ pad-part-pad-part-requires-2 t c κs =
     let ts = a .types .now in
     let w = a .widths .now in
     let n = a .next .now in
-    let g = c .before .before .way2 .given in
+    let g = c .before .before .way3 .given in
     let l = g .0 .0 in
     let r = g .0 .1 .0 in
     let v = g .0 .1 .1 .0 in
@@ -184,7 +200,7 @@ pad-part-returns-2 t c =
     let w = a .widths .now in
     let n = a .next .now in
     let bits = streamOf (a .s .now) in
-    let g = c .before .before .before .before .before .before .before .way2 .given in
+    let g = c .before .before .before .before .before .before .before .way3 .given in
     let l = g .0 .0 in
     let r = g .0 .1 .0 in
     let v = g .0 .1 .1 .0 in
@@ -197,7 +213,7 @@ pad-part-add-pad-part-3 t c =
     let ts = a .types .now in
     let w = a .widths .now in
     let n = a .next .now in
-    let g = c .before .before .before .before .before .before .before .before .before .way2 .given in
+    let g = c .before .before .before .before .before .before .before .before .before .way3 .given in
     let l = g .0 .0 in
     let r = g .0 .1 .0 in
     let v = g .0 .1 .1 .0 in
@@ -212,7 +228,7 @@ pad-part-pad-part-requires-3 t c κs =
     let ts = a .types .now in
     let w = a .widths .now in
     let n = a .next .now in
-    let g = c .before .before .before .before .before .before .before .before .before .way2 .given in
+    let g = c .before .before .before .before .before .before .before .before .before .way3 .given in
     let l = g .0 .0 in
     let r = g .0 .1 .0 in
     let v = g .0 .1 .1 .0 in
@@ -236,12 +252,26 @@ pad-part-same-length-2 t c = search needs
 
 pad-part-returns-4 : (t : ℕ) → pad-part-lts.Need-returns-4 (pad-part-calls t) (pad-part-at t) pad-part.Post
 pad-part-returns-4 t c =
+    let a = c .before .before .before .before .before .before .before .before .before .before .before .before .before .args in
+    let ts = a .types .now in
+    let w = a .widths .now in
+    let n = a .next .now in
+    let g = c .before .before .before .before .before .way .given in
+    let v = g .0 .0 in
+    let e : stepAt ts w n (a .i) ≡ Plain v = sym (c .before .before .before .before .before .before .before .step-at .ensures) ∙ g .1 in
+    (skip-along ts w n (a .i) v (a .p) (c .before .before .pad-plain .result) (drop (a .p) (streamOf (a .s .now))) e (c .before .before .pad-plain .ensures .0), pad-along ts w n (a .i) v (a .at) (drop (a .p) (streamOf (a .s .now))) (bitsOf (a .cells .now)) _ e (c .before .before .pad-plain .ensures .1))
+
+pad-part-same-length-3 : (t : ℕ) → pad-part-lts.Need-same-length-3 (pad-part-calls t) (pad-part-at t) pad-part.Post
+pad-part-same-length-3 t c = search needs
+
+pad-part-returns-5 : (t : ℕ) → pad-part-lts.Need-returns-5 (pad-part-calls t) (pad-part-at t) pad-part.Post
+pad-part-returns-5 t c =
     let a = c .before .before .before .before .before .before .before .before .before .before .before .before .before .before .before .before .before .before .before .before .before .before .before .args in
     let ts = a .types .now in
     let w = a .widths .now in
     let n = a .next .now in
     let bits = streamOf (a .s .now) in
-    let g = c .before .before .before .before .before .before .before .before .before .before .before .before .before .before .before .way .given in
+    let g = c .before .before .before .before .before .before .before .before .before .before .before .before .before .before .before .way2 .given in
     let l = g .0 .0 in
     let r = g .0 .1 .0 in
     let x = g .0 .1 .1 .0 in
@@ -257,17 +287,17 @@ pad-part-returns-4 t c =
           (bit-below (a .s .now) (a .p) side after read) (c .before .before .before .before .part-of .ensures) (c .before .before .before .before .before .before .before .before .before .padding-of .ensures) (rest .2) (c .before .before .before .before .before .before .before .write-tag .ensures) (c .before .before .pad-part .ensures .1),
     )
 
-pad-part-same-length-3 : (t : ℕ) → pad-part-lts.Need-same-length-3 (pad-part-calls t) (pad-part-at t) pad-part.Post
-pad-part-same-length-3 t c = search needs
+pad-part-same-length-4 : (t : ℕ) → pad-part-lts.Need-same-length-4 (pad-part-calls t) (pad-part-at t) pad-part.Post
+pad-part-same-length-4 t c = search needs
 
-pad-part-returns-5 : (t : ℕ) → pad-part-lts.Need-returns-5 (pad-part-calls t) (pad-part-at t) pad-part.Post
-pad-part-returns-5 t c =
+pad-part-returns-6 : (t : ℕ) → pad-part-lts.Need-returns-6 (pad-part-calls t) (pad-part-at t) pad-part.Post
+pad-part-returns-6 t c =
     let a = c .before .before .before .before .before .before .before .before .before .before .before .before .before .before .before .before .before .before .before .before .args in
     let ts = a .types .now in
     let w = a .widths .now in
     let n = a .next .now in
     let bits = streamOf (a .s .now) in
-    let g = c .before .before .before .before .before .before .before .before .before .before .before .before .way2 .given in
+    let g = c .before .before .before .before .before .before .before .before .before .before .before .before .way3 .given in
     let l = g .0 .0 in
     let r = g .0 .1 .0 in
     let v = g .0 .1 .1 .0 in
@@ -285,6 +315,8 @@ pub +pad-part-spec : {M : Type 1} → statement M
     (pad-part-step-at-requires t)
     (pad-part-enum-told t)
     (pad-part-enum-known-way t)
+    (pad-part-pad-plain-requires t)
+    (pad-part-enum-known-way-2 t)
     (pad-part-bit-requires t)
     (pad-part-enum-known-side t)
     (pad-part-enum-told-2 t)
@@ -295,7 +327,7 @@ pub +pad-part-spec : {M : Type 1} → statement M
     (pad-part-add-pad-part t)
     (pad-part-add-pad-part-2 t)
     (pad-part-pad-part-requires t)
-    (pad-part-enum-known-way-2 t)
+    (pad-part-enum-known-way-3 t)
     (pad-part-pad-part-requires-2 t)
     (pad-part-enum-known-middle t)
     (pad-part-enum-told-3 t)
@@ -308,3 +340,5 @@ pub +pad-part-spec : {M : Type 1} → statement M
     (pad-part-returns-4 t)
     (pad-part-same-length-3 t)
     (pad-part-returns-5 t)
+    (pad-part-same-length-4 t)
+    (pad-part-returns-6 t)

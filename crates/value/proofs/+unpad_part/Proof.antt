@@ -11,15 +11,16 @@ use Rattle.limits.specs.Limits.{cellCount}
 use Rattle.report.specs.Bits.{bitsOf}
 use Rattle.scope.specs.Run.{cellsOf}
 use Rattle.bititer.proofs.Bits.{bit-small}
+use Rattle.cells.proofs.put_bits.Reads as put-bits-reads
 use Rattle.cells.proofs.read_cell.Reads as read-cell-reads
 use Rattle.cells.proofs.write_cell.Reads as write-cell-reads
 use Rattle.value.specs.Shapes.{stepAt}
-use Rattle.value.specs.declared.Step.the-variants.{Nothing, Tag, Both}
+use Rattle.value.specs.declared.Step.the-variants.{Nothing, Plain, Tag, Both}
 use Rattle.value.proofs.+unpad_part.{statement}
 use Rattle.value.proofs.+unpad_part.Lts-unpad_part as unpad-part-lts
 use Rattle.value.proofs.+unpad_part.Tie.{close}
-use Rattle.value.proofs.Steps.{tag-told, both-told, part-wide}
-use Rattle.value.proofs.Ways.{unpad-fits, unpad-nothing, unpad-tag, unpad-both}
+use Rattle.value.proofs.Steps.{plain-told, tag-told, both-told, part-wide}
+use Rattle.value.proofs.Ways.{unpad-fits, unpad-nothing, unpad-plain, unpad-tag, unpad-both}
 use Rattle.value.proofs.padding_of.Reads as padding-of-reads
 use Rattle.value.proofs.part_of.Reads as part-of-reads
 use Rattle.value.proofs.step_at.Reads as step-at-reads
@@ -38,7 +39,7 @@ unpad-part-below t =
     and 4 unpad-part-kinds.ps (falls 4 unpad-part-kinds.ps _<_ μ-unpad-part t) unpad-part.Pre
 
 abbrev unpad-part-calls : ℕ → unpad-part-lts.Claims
-unpad-part-calls t = (step-at-reads.Asked, step-at-reads.Learnt, read-cell-reads.Asked, read-cell-reads.Learnt, write-cell-reads.Asked, write-cell-reads.Learnt, padding-of-reads.Asked, padding-of-reads.Learnt, part-of-reads.Asked, part-of-reads.Learnt, unpad-part-below t, unpad-part.Post)
+unpad-part-calls t = (step-at-reads.Asked, step-at-reads.Learnt, put-bits-reads.Asked, put-bits-reads.Learnt, read-cell-reads.Asked, read-cell-reads.Learnt, write-cell-reads.Asked, write-cell-reads.Learnt, padding-of-reads.Asked, padding-of-reads.Learnt, part-of-reads.Asked, part-of-reads.Learnt, unpad-part-below t, unpad-part.Post)
 
 unpad-part-step-at-requires : (t : ℕ) → unpad-part-lts.Need-step-at-requires (unpad-part-calls t) (unpad-part-at t) unpad-part.Post
 unpad-part-step-at-requires t c κs = search needs
@@ -48,6 +49,26 @@ unpad-part-enum-told t c = search needs
 
 unpad-part-enum-known-way : (t : ℕ) → unpad-part-lts.Need-enum-known-way (unpad-part-calls t) (unpad-part-at t) unpad-part.Post
 unpad-part-enum-known-way t c = search needs
+
+unpad-part-put-bits-requires : (t : ℕ) → unpad-part-lts.Need-put-bits-requires (unpad-part-calls t) (unpad-part-at t) unpad-part.Post
+unpad-part-put-bits-requires t c κs = search needs
+
+unpad-part-add-result : (t : ℕ) → unpad-part-lts.Need-add-result (unpad-part-calls t) (unpad-part-at t) unpad-part.Post
+unpad-part-add-result t c =
+    let a = c .before .before .before .before .before .before .before .before .before .before .before .before .before .args in
+    let ts = a .types .now in
+    let w = a .widths .now in
+    let n = a .next .now in
+    let g = c .before .before .before .before .before .way .given in
+    let v = g .0 .0 in
+    let e : stepAt ts w n (a .i) ≡ Plain v = sym (c .before .before .before .before .before .before .before .step-at .ensures) ∙ g .1 in
+    let told = plain-told ts w n (a .i) v e in
+    let room = c .before .before .before .before .before .before .before .before .before .before .before .before .before .pre .1 (omega arith) in
+    let rq = room .1 in
+    omega arith
+
+unpad-part-enum-known-way-2 : (t : ℕ) → unpad-part-lts.Need-enum-known-way-2 (unpad-part-calls t) (unpad-part-at t) unpad-part.Post
+unpad-part-enum-known-way-2 t c = search needs
 
 unpad-part-read-cell-requires : (t : ℕ) → unpad-part-lts.Need-read-cell-requires (unpad-part-calls t) (unpad-part-at t) unpad-part.Post
 unpad-part-read-cell-requires t c κs = search needs
@@ -67,7 +88,7 @@ unpad-part-add-place t c =
     let ts = a .types .now in
     let w = a .widths .now in
     let n = a .next .now in
-    let g = c .before .before .before .before .before .before .before .before .way .given in
+    let g = c .before .before .before .before .before .before .before .before .way2 .given in
     let l = g .0 .0 in
     let r = g .0 .1 .0 in
     let x = g .0 .1 .1 .0 in
@@ -85,7 +106,7 @@ unpad-part-add-place-2 t c =
     let ts = a .types .now in
     let w = a .widths .now in
     let n = a .next .now in
-    let g = c .before .before .before .before .before .before .before .before .way .given in
+    let g = c .before .before .before .before .before .before .before .before .way2 .given in
     let l = g .0 .0 in
     let r = g .0 .1 .0 in
     let x = g .0 .1 .1 .0 in
@@ -105,7 +126,7 @@ unpad-part-add-unpad-part t c =
     let ts = a .types .now in
     let w = a .widths .now in
     let n = a .next .now in
-    let g = c .before .before .before .before .before .before .before .before .before .way .given in
+    let g = c .before .before .before .before .before .before .before .before .before .way2 .given in
     let l = g .0 .0 in
     let r = g .0 .1 .0 in
     let x = g .0 .1 .1 .0 in
@@ -123,7 +144,7 @@ unpad-part-unpad-part-requires t c κs =
     let ts = a .types .now in
     let w = a .widths .now in
     let n = a .next .now in
-    let g = c .before .before .before .before .before .before .before .before .before .way .given in
+    let g = c .before .before .before .before .before .before .before .before .before .way2 .given in
     let l = g .0 .0 in
     let r = g .0 .1 .0 in
     let x = g .0 .1 .1 .0 in
@@ -137,8 +158,8 @@ unpad-part-unpad-part-requires t c κs =
     let wide = part-wide ts w n (a .i) l r x y told side (c .before .part-of .result) (c .before .before .padding-of .result) (c .before .part-of .ensures) (c .before .before .padding-of .ensures) in
     (omega arith, λ some. (omega arith, omega arith))
 
-unpad-part-enum-known-way-2 : (t : ℕ) → unpad-part-lts.Need-enum-known-way-2 (unpad-part-calls t) (unpad-part-at t) unpad-part.Post
-unpad-part-enum-known-way-2 t c = search needs
+unpad-part-enum-known-way-3 : (t : ℕ) → unpad-part-lts.Need-enum-known-way-3 (unpad-part-calls t) (unpad-part-at t) unpad-part.Post
+unpad-part-enum-known-way-3 t c = search needs
 
 unpad-part-unpad-part-requires-2 : (t : ℕ) → unpad-part-lts.Need-unpad-part-requires-2 (unpad-part-calls t) (unpad-part-at t) unpad-part.Post
 unpad-part-unpad-part-requires-2 t c κs =
@@ -146,7 +167,7 @@ unpad-part-unpad-part-requires-2 t c κs =
     let ts = a .types .now in
     let w = a .widths .now in
     let n = a .next .now in
-    let g = c .before .before .way2 .given in
+    let g = c .before .before .way3 .given in
     let l = g .0 .0 in
     let r = g .0 .1 .0 in
     let v = g .0 .1 .1 .0 in
@@ -163,7 +184,7 @@ unpad-part-add-place-3 t c =
     let ts = a .types .now in
     let w = a .widths .now in
     let n = a .next .now in
-    let g = c .before .before .before .before .before .way2 .given in
+    let g = c .before .before .before .before .before .way3 .given in
     let l = g .0 .0 in
     let r = g .0 .1 .0 in
     let v = g .0 .1 .1 .0 in
@@ -180,7 +201,7 @@ unpad-part-unpad-part-requires-3 t c κs =
     let ts = a .types .now in
     let w = a .widths .now in
     let n = a .next .now in
-    let g = c .before .before .before .before .before .before .way2 .given in
+    let g = c .before .before .before .before .before .before .way3 .given in
     let l = g .0 .0 in
     let r = g .0 .1 .0 in
     let v = g .0 .1 .1 .0 in
@@ -206,13 +227,27 @@ unpad-part-same-length : (t : ℕ) → unpad-part-lts.Need-same-length (unpad-pa
 unpad-part-same-length t c = search needs
 
 unpad-part-returns-2 : (t : ℕ) → unpad-part-lts.Need-returns-2 (unpad-part-calls t) (unpad-part-at t) unpad-part.Post
-unfolding cellsOf
 unpad-part-returns-2 t c =
+    let a = c .before .before .before .before .before .before .before .before .before .before .before .before .before .args in
+    let ts = a .types .now in
+    let w = a .widths .now in
+    let n = a .next .now in
+    let g = c .before .before .before .before .before .way .given in
+    let v = g .0 .0 in
+    let e : stepAt ts w n (a .i) ≡ Plain v = sym (c .before .before .before .before .before .before .before .step-at .ensures) ∙ g .1 in
+    unpad-plain ts w n (a .i) v (a .cells .now) (a .at) (a .q) (bitsOf (a .answer .now)) _ e (c .before .before .put-bits .ensures)
+
+unpad-part-same-length-2 : (t : ℕ) → unpad-part-lts.Need-same-length-2 (unpad-part-calls t) (unpad-part-at t) unpad-part.Post
+unpad-part-same-length-2 t c = search needs
+
+unpad-part-returns-3 : (t : ℕ) → unpad-part-lts.Need-returns-3 (unpad-part-calls t) (unpad-part-at t) unpad-part.Post
+unfolding cellsOf
+unpad-part-returns-3 t c =
     let a = c .before .before .before .before .before .before .before .before .before .before .before .before .before .before .before .before .before .before .before .before .args in
     let ts = a .types .now in
     let w = a .widths .now in
     let n = a .next .now in
-    let g = c .before .before .before .before .before .before .before .before .before .before .before .before .way .given in
+    let g = c .before .before .before .before .before .before .before .before .before .before .before .before .way2 .given in
     let l = g .0 .0 in
     let r = g .0 .1 .0 in
     let x = g .0 .1 .1 .0 in
@@ -223,16 +258,16 @@ unpad-part-returns-2 t c =
     unpad-tag ts w n (a .i) l r x y e (c .before .before .before .before .before .before .before .before .before .before .read-cell .result) (c .before .before .before .before .part-of .result) (c .before .before .before .before .before .padding-of .result) (cellsOf (a .cells .now)) (a .at) (a .q) (c .before .before .unpad-part .result) (bitsOf (a .answer .now)) _ _
     (omega arith) (sym here) (c .before .before .before .before .part-of .ensures) (c .before .before .before .before .before .padding-of .ensures) (c .before .before .before .before .before .before .before .before .write-cell .ensures) (c .before .before .unpad-part .ensures .0) (c .before .before .unpad-part .ensures .1)
 
-unpad-part-same-length-2 : (t : ℕ) → unpad-part-lts.Need-same-length-2 (unpad-part-calls t) (unpad-part-at t) unpad-part.Post
-unpad-part-same-length-2 t c = search needs
+unpad-part-same-length-3 : (t : ℕ) → unpad-part-lts.Need-same-length-3 (unpad-part-calls t) (unpad-part-at t) unpad-part.Post
+unpad-part-same-length-3 t c = search needs
 
-unpad-part-returns-3 : (t : ℕ) → unpad-part-lts.Need-returns-3 (unpad-part-calls t) (unpad-part-at t) unpad-part.Post
-unpad-part-returns-3 t c =
+unpad-part-returns-4 : (t : ℕ) → unpad-part-lts.Need-returns-4 (unpad-part-calls t) (unpad-part-at t) unpad-part.Post
+unpad-part-returns-4 t c =
     let a = c .before .before .before .before .before .before .before .before .before .before .before .before .before .before .before .before .before .args in
     let ts = a .types .now in
     let w = a .widths .now in
     let n = a .next .now in
-    let g = c .before .before .before .before .before .before .before .before .before .way2 .given in
+    let g = c .before .before .before .before .before .before .before .before .before .way3 .given in
     let l = g .0 .0 in
     let r = g .0 .1 .0 in
     let v = g .0 .1 .1 .0 in
@@ -247,6 +282,9 @@ pub +unpad-part-spec : {M : Type 1} → statement M
     (unpad-part-step-at-requires t)
     (unpad-part-enum-told t)
     (unpad-part-enum-known-way t)
+    (unpad-part-put-bits-requires t)
+    (unpad-part-add-result t)
+    (unpad-part-enum-known-way-2 t)
     (unpad-part-read-cell-requires t)
     (unpad-part-write-cell-requires t)
     (unpad-part-padding-of-requires t)
@@ -255,7 +293,7 @@ pub +unpad-part-spec : {M : Type 1} → statement M
     (unpad-part-add-place-2 t)
     (unpad-part-add-unpad-part t)
     (unpad-part-unpad-part-requires t)
-    (unpad-part-enum-known-way-2 t)
+    (unpad-part-enum-known-way-3 t)
     (unpad-part-unpad-part-requires-2 t)
     (unpad-part-add-place-3 t)
     (unpad-part-unpad-part-requires-3 t)
@@ -264,3 +302,5 @@ pub +unpad-part-spec : {M : Type 1} → statement M
     (unpad-part-returns-2 t)
     (unpad-part-same-length-2 t)
     (unpad-part-returns-3 t)
+    (unpad-part-same-length-3 t)
+    (unpad-part-returns-4 t)
