@@ -1,8 +1,8 @@
 # make_values.py VECTORS OUT: writes `values` into the folder OUT from the original's answers, values.tsv of the folder VECTORS, and `tables`.
-# What a table's check says, its widths and its next records are worked out here from the rules, record by record.
+# What a table's check says, its widths and its entries are worked out here from the rules, record by record.
 #
 # A record is 13 numbers of 16 bits and four parts; the last four numbers are the sizes of the parts.
-# A table: the refusal's number and its place, or 0 and the count of records. Parts: the table; width and next record of each good record.
+# A table: the refusal's number and its place, or 0 and the count of records. Parts: the table; width and entry of each good record.
 # A value: what comes of it (0 read, 1 too few bits, 2 too few cells, 3 more bits than count), type index, first bit, the bit after those
 # that count, the bit after the value, first cell, first bit in the answer, the byte that fills both stores, width.
 # Parts: table, stream, cells and answer as they are left.
@@ -11,6 +11,7 @@ import sys
 
 UNIT, SUM, PRODUCT = range(3)
 MOST_TYPES, MOST_WIDTH = 1024, 32768
+UNPADDED = 65535
 
 
 def record(numbers, parts):
@@ -48,27 +49,35 @@ def width_of(table, widths, i):
     return width if width <= MOST_WIDTH else None
 
 
-# The answer, and width and next record of each record before the first bad one.
+# The entry of a record: the mark of a type without padding, or the next record that matters.
+def entry_of(table, widths, entries, i):
+    tag, left, right = table[i]
+    even = tag != SUM or widths[left] == widths[right]
+    if tag == UNIT or even and entries[left] == entries[right] == UNPADDED:
+        return UNPADDED
+    if tag == PRODUCT and 0 in (widths[left], widths[right]):
+        return entries[right if widths[left] == 0 else left]
+    return i
+
+
+# The answer, and width and entry of each record before the first bad one.
 def check(data):
-    table, widths, following = unpacked_table(data), [], []
+    table, widths, entries = unpacked_table(data), [], []
     if not 1 <= len(table) <= MOST_TYPES:
-        return (4, 0), widths, following
-    for i, (tag, left, right) in enumerate(table):
+        return (4, 0), widths, entries
+    for i in range(len(table)):
         width = width_of(table, widths, i)
         if width is None:
-            return (2, i), widths, following
-        other = None
-        if tag == PRODUCT and 0 in (widths[left], widths[right]):
-            other = right if widths[left] == 0 else left
-        following.append(i if other is None else following[other])
+            return (2, i), widths, entries
+        entries.append(entry_of(table, widths, entries, i))
         widths.append(width)
-    return (0, len(table)), widths, following
+    return (0, len(table)), widths, entries
 
 
 def table_record(data):
-    answer, widths, following = check(data)
-    entries = b"".join(w.to_bytes(2, "big") + n.to_bytes(2, "big") for w, n in zip(widths, following))
-    return record(answer, [data, entries, b"", b""])
+    answer, widths, entries = check(data)
+    arrays = b"".join(w.to_bytes(2, "big") + n.to_bytes(2, "big") for w, n in zip(widths, entries))
+    return record(answer, [data, arrays, b"", b""])
 
 
 # How many of the bits a value of the type takes, or None where there are too few.
@@ -130,12 +139,18 @@ def doubled(start, count):
     return table
 
 
-# A bit below `depth` products with a unit, doubled 15 times.
-def deep(depth):
-    table = [(UNIT, 0, 0), (SUM, 0, 0)]
+# The last type of the table below `depth` products with a unit, doubled so many times.
+def deep(table, depth, times):
     for k in range(depth):
-        table.append((PRODUCT, 0, len(table) - 1) if k % 2 else (PRODUCT, len(table) - 1, 0))
-    return table + [(PRODUCT, depth + 1 + k, depth + 1 + k) for k in range(15)]
+        table = table + [(PRODUCT, 0, len(table) - 1) if k % 2 else (PRODUCT, len(table) - 1, 0)]
+    for _ in range(times):
+        table = table + [(PRODUCT, len(table) - 1, len(table) - 1)]
+    return table
+
+
+# A bit, which has no padding, and an optional bit, which has; deep down in a type of the greatest width.
+DEEP_BIT = deep([(UNIT, 0, 0), (SUM, 0, 0)], 900, 15)
+DEEP_OPTION = deep([(UNIT, 0, 0), (SUM, 0, 0), (SUM, 0, 1)], 900, 14)
 
 
 def random_table(rng):
@@ -151,7 +166,7 @@ def random_table(rng):
 def tables(rng):
     for n in range(5):
         yield bytes(n)
-    yield from (packed_table(t) for t in (doubled(1, 17), doubled(1, 18), doubled(0, 1024), doubled(0, 1025), deep(900)))
+    yield from (packed_table(t) for t in (doubled(1, 17), doubled(1, 18), doubled(0, 1024), doubled(0, 1025), DEEP_BIT, DEEP_OPTION))
     for _ in range(120):
         yield packed_table(random_table(rng)) + rng.randbytes(rng.choice((0, 0, 1, 2, 3, 4)))
 
@@ -160,7 +175,10 @@ def tables(rng):
 def timed(rng):
     yield value_record(rng, 3, packed_table(doubled(0, 1024)), 1023, 0, [], 0, [])
     bits = [rng.randrange(2) for _ in range(MOST_WIDTH)]
-    yield value_record(rng, 5, packed_table(deep(900)), len(deep(900)) - 1, MOST_WIDTH, bits, MOST_WIDTH, bits)
+    yield value_record(rng, 5, packed_table(DEEP_BIT), len(DEEP_BIT) - 1, MOST_WIDTH, bits, MOST_WIDTH, bits)
+    options = [rng.choice(([0], [1, 0], [1, 1])) for _ in range(MOST_WIDTH // 2)]
+    bits, cells = sum(options, []), sum(((o + [0])[:2] for o in options), [])
+    yield value_record(rng, 6, packed_table(DEEP_OPTION), len(DEEP_OPTION) - 1, len(bits), bits, len(bits), cells)
 
 
 if __name__ == "__main__":

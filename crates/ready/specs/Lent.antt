@@ -44,7 +44,7 @@ programAt types nodes arrows program hashes given witnesses positions =
 abbrev pub Reads : Ty → List Bit → Type 0
 Reads A bits = (v : Val) × (rest : List Bit) × (readValue A bits ≡ value v rest)
 
--- what is shown of a lent type table: it passed its check, and the tables beside it are those of its widths and of its next records that matter
+-- what is shown of a lent type table: it passed its check, and the tables beside it are those of its widths and of its entries
 pub record TypesShown (types widths next : List ℕ) : Type 0 where
   pub count : ℕ
   pub passes : checkTable types ≡ passed count

@@ -32,7 +32,7 @@ pub enum RunAnswer {
     Refused(Refusal),
 }
 
-// A run that may begin: its bounds, and beside the lent tables the width of each type, the next record that matters of each,
+// A run that may begin: its bounds, and beside the lent tables the width of each type, its entry in the table of next records,
 // and the position of each node's value in the witness bits. Where there is no run the arrays are zero.
 pub struct Prepared {
     pub answer: RunAnswer,

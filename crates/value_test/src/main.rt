@@ -114,7 +114,7 @@ fn answer_right(record: &[u8], answer: TypeAnswer) -> bool {
     }
 }
 
-// Whether widths and next records are those of part 1, four bytes each, and 0 past its end.
+// Whether widths and entries are those of part 1, four bytes each, and 0 past its end.
 fn entries_right<'a>(record: &[u8], widths: &'a [u32], next: &'a [u16]) -> bool {
     let entries = part(record, 1);
     let mut k: usize = 0;
