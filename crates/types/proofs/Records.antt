@@ -45,6 +45,11 @@ every-one false = refl
 pub every-both : (a b : Bool) → a ≡ true → every (a ∷ b ∷ []) ≡ b
 every-both a b e = every-rest a (b ∷ []) e ∙ every-one b
 
+pub every-left : (a b : Bool) → b ≡ true → every (a ∷ b ∷ []) ≡ a
+unfolding every
+every-left true b e = every-one b ∙ e
+every-left false b e = refl
+
 -- the parts' rule, tag by tag
 module _ (S : List TypeRecord) (i : ℕ) where
   pub rule-unit : (t a b : ℕ) → t ≡ 0 → partsRule S i t a b ≡ every (eqb a 0 ∷ eqb b 0 ∷ [])

@@ -26,7 +26,7 @@ use Rattle.types.specs.declared.TypeAnswer.the-variants.{Records, Refuse
 use Rattle.types.proofs.Check.{widthFor, array-at, array-past}
 use Rattle.types.proofs.Core.{core, Alike, core-alike, Matters, core-matters}
 use Rattle.types.proofs.Laws.{every-true, parts-below, Parts, type-past, type-step, next-step}
-use Rattle.types.proofs.Records.{every-both, next-marked, next-padded}
+use Rattle.types.proofs.Records.{every-both, every-left, next-marked, next-padded}
 
 -- every record keeps the rules, and there are not too many
 pub record Sound (T : List TypeRecord) : Type 0 where
@@ -145,11 +145,6 @@ unpadded-nothing (sum A B) e = absurd (omega arith)
 unpadded-nothing (prod A B) e =
     every-both (unpadded A) (unpadded B) (unpadded-nothing A (omega arith)) ∙ unpadded-nothing B (omega arith)
 
-left-fails : (u v : Bool) → v ≡ true → every (u ∷ v ∷ []) ≡ false → u ≡ false
-unfolding every
-left-fails true v e f = let z : _≡_ {A = ℕ} 0 1 = cc in absurd (omega arith)
-left-fails false v e f = refl
-
 -- a record has no padding where its type has none, if the entries of its parts say so of theirs
 unpadded-from : (t x y : ℕ) (A B : Ty) → eqb x unpaddedMark ≡ unpadded A → eqb y unpaddedMark ≡ unpadded B
     → unpaddedFrom t (width A) (width B) x y ≡ unpadded (typeFrom t A B)
@@ -185,7 +180,7 @@ module _ (T : List TypeRecord) where
       (omega arith, r .1)
   next-over i a b (suc x) zero l m v w p q f =
       let none = unpadded-nothing (tyAt T b) w in
-      let r : EntryIs a false = subst (EntryIs a) (left-fails (unpadded (tyAt T a)) (unpadded (tyAt T b)) none f) p in
+      let r : EntryIs a false = subst (EntryIs a) (sym (every-left (unpadded (tyAt T a)) (unpadded (tyAt T b)) none) ∙ f) p in
       (omega arith, r .1)
   next-over i a b (suc x) (suc y) l m v w p q f = (omega arith, refl)
 

@@ -1,9 +1,8 @@
 -- Bits without padding: what skipping, padding and unpadding them are, and that the bits of a slice are read as they are.
 use mathlib.Core.Path.{_≡_, refl, ap, ap₂, sym, _∙_}
-use mathlib.Core.Bool.{true, false}
 use mathlib.Core.List.{List, [], _∷_, _++_}
 use Prim.Native.Nat.{ℕ, zero, suc, _+_, _≤_, _<_}
-use native.Mathlib.Nat.{add-zero, add-suc, suc-add}
+use native.Mathlib.Nat.{add-suc, suc-add}
 use native.Mathlib.Decide.{decLt}
 use native.Mathlib.Omega.{arith}
 use lib.ListN.{length, getD, take, drop, length-drop}
@@ -14,7 +13,6 @@ use Rattle.bititer.proofs.Streams.{stream-some, stream-within}
 use Rattle.cells.proofs.Parts.{bits-within}
 use Rattle.cells.specs.Copying.{bitsFrom}
 use Rattle.report.specs.Bits.{Bit, bitsOf}
-use Rattle.report.specs.Values.{Cells}
 use Rattle.scope.specs.Numbers.{streamOf, tabulateFrom}
 use Rattle.scope.specs.Run.{cellsOf}
 use Rattle.value.specs.Bits.{used, short, tagOf, tagsOf, skipShape, padShape, skipped}

@@ -10,9 +10,9 @@ use lib.Seq.{sets, drop-drop}
 use Rattle.report.specs.Bits.{Bit}
 use Rattle.report.specs.Types.{Ty, one, sum, prod, width, padL, padR, leftOf, rightOf}
 use Rattle.report.specs.Values.{Val, inl, inr, _&_, compact, padded, Read, value, short, andThen, readValue, Cells, valueAt}
-use Rattle.scope.specs.Numbers.{every, zeros, tabulateFrom}
+use Rattle.scope.specs.Numbers.{zeros, tabulateFrom}
 use Rattle.types.proofs.Core.{core, Spelling, spelling, none, spelled, left-nothing, right-nothing}
-use Rattle.types.proofs.Records.{every-both}
+use Rattle.types.proofs.Records.{every-both, every-left}
 use Rattle.types.proofs.Sound.{unpadded-nothing}
 use Rattle.types.specs.Records.{passOver, unpadded}
 use Rattle.value.specs.Bits.{Used, used, short as tooShort, after, tagOf, tagsOf, skipShape, padShape, unpadShape}
@@ -67,12 +67,8 @@ module _ (A B : Ty) (p : unpadded (prod A B) ≡ false) where
   right-padded e = sym (every-both (unpadded A) (unpadded B) (unpadded-nothing A e)) ∙ p
 
   left-padded : width B ≡ 0 → unpadded A ≡ false
-  unfolding unpadded every
-  left-padded e = go (unpadded A) (unpadded B) (unpadded-nothing B e) p
-    where
-      go : (u v : Bool) → v ≡ true → every (u ∷ v ∷ []) ≡ false → u ≡ false
-      go true v e f = let z : _≡_ {A = ℕ} 0 1 = cc in absurd (omega arith)
-      go false v e f = refl
+  unfolding unpadded
+  left-padded e = sym (every-left (unpadded A) (unpadded B) (unpadded-nothing B e)) ∙ p
 
 pub core-padded : (A : Ty) → unpadded A ≡ false → unpadded (core A) ≡ false
 unfolding core

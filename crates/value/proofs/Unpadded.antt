@@ -1,7 +1,7 @@
 -- Values of a type without padding: such a value is read wherever there are as many bits as the type is wide, those bits are its compact bits
 -- and its padded cells, and the compact bits of the value that cells hold are the cells.
-use mathlib.Core.Path.{_≡_, refl, ap, ap₂, sym, subst, _∙_}
-use mathlib.Core.Bool.{Bool, true, false}
+use mathlib.Core.Path.{_≡_, refl, ap, ap₂, sym, _∙_}
+use mathlib.Core.Bool.{true}
 use mathlib.Core.List.{List, [], _∷_, _++_}
 use Prim.Native.Nat.{ℕ, zero, suc, _+_, _-_, _≤_, _<_, max}
 use native.Mathlib.Decide.{decLt}
@@ -13,8 +13,8 @@ use borrow.Author.Tests.{eqb-true}
 use Rattle.report.specs.Bits.{Bit}
 use Rattle.report.specs.Types.{Ty, one, sum, prod, width, padL, padR, leftOf, rightOf}
 use Rattle.report.specs.Values.{Val, inl, inr, _&_, compact, padded, Read, value, short, andThen, readValue, Cells, valueAt}
-use Rattle.scope.specs.Numbers.{every, zeros, tabulateFrom}
-use Rattle.types.proofs.Core.{Spelling, spelling, none, spelled}
+use Rattle.scope.specs.Numbers.{zeros, tabulateFrom}
+use Rattle.types.proofs.Core.{Spelling, spelling, spelled}
 use Rattle.types.proofs.Laws.{every-true}
 use Rattle.types.specs.Records.{unpadded}
 use Rattle.value.specs.Bits.{tagOf, tagsOf}

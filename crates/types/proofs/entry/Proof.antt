@@ -1,6 +1,5 @@
 -- `types::entry` meets its contract: each way through its tests is one case of the definition.
 use mathlib.Core.Path.{sym, _∙_}
-use native.Mathlib.Omega.{arith}
 use borrow.Author.Needs.{needs}
 use Rattle.types.proofs.Records.{next-marked, next-padded, next-self, next-right, next-left, next-own}
 use Rattle.types.proofs.entry.Statement.{statement}

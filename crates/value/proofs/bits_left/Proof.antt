@@ -1,8 +1,6 @@
 -- `value::bits_left` meets its contract: a stream above the dossier's limit has no bits, and any other eight for each byte.
-use mathlib.Core.Path.{_≡_, sym, _∙_}
-use Prim.Native.Nat.{_*_}
 use native.Mathlib.Omega.{arith}
-use lib.ListN.{length, drop, length-drop}
+use lib.ListN.{length-drop}
 use borrow.Author.Needs.{needs}
 use Rattle.bititer.proofs.Streams.{length-over, length-within}
 use Rattle.scope.specs.Numbers.{streamOf}

@@ -1,7 +1,7 @@
 -- `value::skip_plain` meets its contract: the bits that are left tell whether there are so many.
-use mathlib.Core.Path.{_≡_, ap, sym, _∙_}
+use mathlib.Core.Path.{ap, sym}
 use native.Mathlib.Omega.{arith}
-use lib.ListN.{length, drop, length-drop}
+use lib.ListN.{drop, length-drop}
 use borrow.Author.Needs.{needs}
 use Rattle.bititer.proofs.Streams.{length-stream}
 use Rattle.scope.specs.Numbers.{streamOf}
