@@ -2,7 +2,6 @@
 # Measures the proved library beside the original, and the stack that calls take: compare/bench.sh [ARGS]
 #   --quick                       fewer and shorter batches
 #   --only naturals|decode|machine
-#   --write FOLDER                times nothing: writes the dossiers of the machine's lines
 # Needs the Rattle kit (rt) and cargo; no network. Nothing else should run on the machine.
 set -eu
 here=$(cd "$(dirname "$0")" && pwd)

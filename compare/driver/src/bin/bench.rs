@@ -1,10 +1,11 @@
 //! Times of the proved library and of the original on the same inputs, in one run.
 //!
 //!   bench [--quick] [--only naturals|decode|machine]
-//!   bench --write FOLDER
+//!   bench --lines
+//!   bench --calls COUNT RIVAL LINE
 //!
-//! The second form times nothing: it writes the dossier of each line of the machine into the folder, for a tool
-//! that counts instructions.
+//! The other two forms time nothing. One prints the lines of the machine, the other makes so many calls of one rival on one of
+//! them, for a tool that counts instructions: a call takes what two calls take less what one takes.
 //!
 //! Each figure is the best and the median of several batches, in processor time of one thread, all
 //! rivals in turns; figures of different runs are not to be compared. Answers are compared before
@@ -25,7 +26,6 @@ use simplicity::types::Final;
 use simplicity::Value;
 use std::cell::RefCell;
 use std::hint::black_box;
-use std::path::PathBuf;
 use std::sync::Arc;
 use std::time::Duration;
 
@@ -108,22 +108,33 @@ fn decoding_of(effort: &Effort, name: &str, rows: &[Row]) {
     print(&what, &race(effort, tasks), &DECODE_PAIRS);
 }
 
-/// What to do with the lines of the machine: time them, or write their dossiers.
+/// What to do with the lines of the machine: time them, print their names, or make so many calls of one rival on one of them.
 enum Aim {
     Time(Effort),
-    Write(PathBuf),
+    Lines,
+    Calls { count: usize, rival: String, line: String },
 }
 
-/// One program, run; or its dossier, written under the line's name.
-fn running(aim: &Aim, name: &str, made: &Made, input: Value) {
-    let job = timed::job(made, input);
-    let effort = match aim {
-        Aim::Time(effort) => effort,
-        Aim::Write(folder) => {
-            let file = folder.join(name.replace(|c: char| !c.is_ascii_alphanumeric(), "_") + ".dossier");
-            return std::fs::write(file, &job.bytes).unwrap();
+impl Aim {
+    /// Whether a line is to be run at all.
+    fn wants(&self, name: &str) -> bool {
+        match self {
+            Aim::Time(_) => true,
+            Aim::Lines => false,
+            Aim::Calls { line, .. } => line == name,
         }
-    };
+    }
+}
+
+/// One program, run.
+fn running(aim: &Aim, name: &str, made: &Made, input: Value) {
+    if let Aim::Lines = aim {
+        println!("{name}");
+    }
+    if !aim.wants(name) {
+        return;
+    }
+    let job = timed::job(made, input);
     let largest = RefCell::new(Largest::new());
     let want = Answer::Value(job.output as u32);
     assert_eq!(largest.borrow_mut().run(&job.bytes), want);
@@ -132,7 +143,7 @@ fn running(aim: &Aim, name: &str, made: &Made, input: Value) {
         largest.borrow_mut().clear();
         largest.borrow_mut().run(&job.bytes)
     };
-    let tasks = vec![
+    let mut tasks = vec![
         task(|| timed::original_exec(&job, false)),
         task(|| timed::original_exec(&job, true)),
         task(|| clocked(|| timed::original_whole(&job.bytes))),
@@ -141,6 +152,17 @@ fn running(aim: &Aim, name: &str, made: &Made, input: Value) {
         task(|| clocked(|| largest.borrow_mut().tables(&job.bytes, &job.table, true))),
         task(|| clocked(|| largest.borrow_mut().tables(&job.bytes, &job.table, false))),
     ];
+    let effort = match aim {
+        Aim::Time(effort) => effort,
+        Aim::Lines => return,
+        Aim::Calls { count, rival, .. } => {
+            let at = RUN.iter().position(|name| name == rival).expect("a rival that is called");
+            for _ in 0..*count {
+                black_box(tasks[at]());
+            }
+            return;
+        }
+    };
     let mut times = race(effort, tasks);
     let (all, checks) = (&times[5], &times[6]);
     let machine = Time { best: all.best - checks.best, median: all.median - checks.median };
@@ -203,12 +225,17 @@ fn machine(aim: &Aim) {
 /// Measures what is asked for.
 fn measure() {
     let args: Vec<String> = std::env::args().collect();
-    let value = |flag: &str| args.iter().position(|arg| arg == flag).map(|at| args[at + 1].clone());
-    if let Some(folder) = value("--write") {
-        return machine(&Aim::Write(folder.into()));
+    let words: Vec<&str> = args.iter().skip(1).map(String::as_str).collect();
+    match words[..] {
+        ["--lines"] => return machine(&Aim::Lines),
+        ["--calls", count, rival, line] => {
+            let count = count.parse().expect("a count");
+            return machine(&Aim::Calls { count, rival: rival.into(), line: line.into() });
+        }
+        _ => {}
     }
     let quick = args.iter().any(|arg| arg == "--quick");
-    let only = value("--only");
+    let only = args.iter().position(|arg| arg == "--only").map(|at| args[at + 1].clone());
     let wanted = |part: &str| only.as_deref().is_none_or(|name| name == part);
     let effort =
         Effort { batch: Duration::from_millis(if quick { 4 } else { 20 }), batches: if quick { 5 } else { 31 } };
