@@ -1,0 +1,163 @@
+// Packed records of test data: numbers, the parts of a record, packed lists of numbers, and the tally that is printed of a file.
+// Every read has an answer past the end: a byte is 0 there, and a part is as much of it as there is.
+ghost use mathlib.Core.Path.{_≡_};
+ghost use Prim.Native.Nat.{_+_, _*_, _^_, _<_};
+ghost use lib.ListN.{take, drop, getD};
+ghost use Rattle.scope.specs.Numbers.{be16, be32};
+ghost use Rattle.packed.specs.Records.{number, part, firstRecord, afterFirst, tells};
+ghost use Rattle.packed.specs.Tallies.{counted};
+use libc::STDOUT_FILENO;
+
+// The most bytes of a file.
+pub const FILE_BYTES: usize = 300_000;
+
+// How many records a file had, and how many of them came out otherwise than it says.
+pub struct Tally {
+    pub count: u32,
+    pub wrong: u32,
+}
+
+// The byte at a place; 0 past the end.
+pub fn byte(v: &[u8], at: usize) -> u8
+    ensures { λ r. ⌜ r ≡ getD (now (v .entry)) at 0 ⌝ }
+{
+    if at < v.len() { v[at] } else { 0 }
+}
+
+// A byte as a number with room for four of them.
+fn wide(b: u8) -> u32
+    ensures { λ r. ⌜ (r ≡ b) × (r < 256) ⌝ }
+{
+    b as u32
+}
+
+// The number of 16 bits at a place that is no largest one.
+fn half(v: &[u8], at: usize) -> u32
+    requires { ⌜ at + 1 < 2 ^ 64 ⌝ }
+    ensures { λ r. ⌜ (r ≡ be16 (now (v .entry)) at) × (r < 65536) ⌝ }
+{
+    wide(byte(v, at)) * 256 + wide(byte(v, at + 1))
+}
+
+// The number of 16 bits at a place.
+pub fn number16(v: &[u8], at: u32) -> u32
+    ensures { λ r. ⌜ r ≡ be16 (now (v .entry)) at ⌝ }
+{
+    half(v, at as usize)
+}
+
+// The number of 32 bits at a place.
+pub fn number32(v: &[u8], at: u32) -> u32
+    ensures { λ r. ⌜ r ≡ be32 (now (v .entry)) at ⌝ }
+{
+    let i = at as usize;
+    half(v, i) * 65536 + half(v, i + 2)
+}
+
+// Number k of a record.
+pub fn number(record: &[u8], k: u32) -> u32
+    ensures { λ r. ⌜ r ≡ number (now («record» .entry)) k ⌝ }
+{
+    let i = 4 * k as usize;
+    half(record, i) * 65536 + half(record, i + 2)
+}
+
+// Whether a record begins with two numbers.
+pub fn tells(record: &[u8], first: u32, second: u32) -> bool
+    ensures { λ r. ⌜ r ≡ tells (now («record» .entry)) first second ⌝ }
+{
+    if number(record, 0) != first {
+        return false;
+    }
+    number(record, 1) == second
+}
+
+// The first n bytes, or as many as there are.
+pub fn front(v: &[u8], n: usize) -> &[u8]
+    ensures { λ r. ⌜ now r ≡ take n (now (v .entry)) ⌝ }
+{
+    if n < v.len() {
+        return &v[..n];
+    }
+    v
+}
+
+// The first n numbers, or as many as there are.
+pub fn front_numbers(v: &[u32], n: usize) -> &[u32]
+    ensures { λ r. ⌜ now r ≡ take n (now (v .entry)) ⌝ }
+{
+    if n < v.len() {
+        return &v[..n];
+    }
+    v
+}
+
+// The bytes after the first n; none where there are no more.
+pub fn from(v: &[u8], n: usize) -> &[u8]
+    ensures { λ r. ⌜ now r ≡ drop n (now (v .entry)) ⌝ }
+{
+    if n < v.len() {
+        return &v[n..];
+    }
+    &v[..0]
+}
+
+// The part whose size is number k. The parts follow `head` numbers, and number `first` is the size of the first of them.
+pub fn part(record: &[u8], first: u32, head: u32, k: u32) -> &[u8]
+    ensures { λ r. ⌜ now r ≡ part (now («record» .entry)) first head k ⌝ }
+{
+    let mut rest = from(record, 4 * head as usize);
+    let mut j = first;
+    while j < k {
+        let next = from(rest, number(record, j) as usize);
+        rest = next;
+        j += 1;
+    }
+    front(rest, number(record, k) as usize)
+}
+
+// The first record of a file, which begins with the count of the record's bytes.
+pub fn first_record(file: &[u8]) -> &[u8]
+    ensures { λ r. ⌜ now r ≡ firstRecord (now (file .entry)) ⌝ }
+{
+    front(from(file, 4), number(file, 0) as usize)
+}
+
+// The file after its first record.
+pub fn after_first(file: &[u8]) -> &[u8]
+    ensures { λ r. ⌜ now r ≡ afterFirst (now (file .entry)) ⌝ }
+{
+    from(file, 4 + number(file, 0) as usize)
+}
+
+// The tally with a record more, right or wrong. It begins again after the largest number.
+pub fn counted(t: Tally, fine: bool) -> Tally
+    ensures { λ r. ⌜ r ≡ counted t fine ⌝ }
+{
+    let count = std::num::wrapping_add_u32(t.count, 1);
+    let wrong = t.wrong;
+    if fine {
+        return Tally { count, wrong };
+    }
+    Tally {
+        count,
+        wrong: std::num::wrapping_add_u32(wrong, 1),
+    }
+}
+
+// Prints a line that names what came out otherwise.
+pub fn print_wrong(name: &[u8]) {
+    io::write_all(STDOUT_FILENO, b"wrong: ");
+    io::write_all(STDOUT_FILENO, name);
+    io::write_all(STDOUT_FILENO, b"\n");
+}
+
+// Prints a line: how many there were of what, and how many wrong.
+pub fn print_tally(what: &[u8], t: Tally) {
+    io::print_decimal(STDOUT_FILENO, t.count as u64);
+    io::write_all(STDOUT_FILENO, b" ");
+    io::write_all(STDOUT_FILENO, what);
+    io::write_all(STDOUT_FILENO, b", ");
+    io::print_decimal(STDOUT_FILENO, t.wrong as u64);
+    io::write_all(STDOUT_FILENO, b" wrong\n");
+}
