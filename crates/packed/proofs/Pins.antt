@@ -1,10 +1,11 @@
--- What each public call promises has one outcome: over a call's own promise, two results are the same. What is printed is no result.
+-- What each public call promises has one outcome: over a call's own promise, two results, and a store that is left, are the same. What is printed is no result.
 use mathlib.Core.Path.{_≡_, refl, sym, _∙_}
 use mathlib.Core.Bool.{Bool}
 use mathlib.Core.List.{List}
 use Prim.Native.Nat.{ℕ}
 use lib.ListN.{take, drop, getD}
 use Rattle.scope.specs.Numbers.{be16, be32}
+use Rattle.packed.specs.Lists.{unpacked, holdsNumbers, laid}
 use Rattle.packed.specs.Records.{number, part, firstRecord, afterFirst, tells}
 use Rattle.packed.specs.Tallies.{counted}
 use Rattle.packed.specs.declared.Tally.{Tally}
@@ -35,6 +36,12 @@ from v n r q e f = e ∙ sym f
 
 pub part-of : (v : List ℕ) (first head k : ℕ) (r q : List ℕ) → r ≡ part v first head k → q ≡ part v first head k → r ≡ q
 part-of v first head k r q e f = e ∙ sym f
+
+pub holds-numbers : (store v : List ℕ) (rest : ℕ) (r q : Bool) → r ≡ holdsNumbers store (unpacked v) rest → q ≡ holdsNumbers store (unpacked v) rest → r ≡ q
+holds-numbers store v rest r q e f = e ∙ sym f
+
+pub laid-of : (v store : List ℕ) (r q : ℕ) (s t : List ℕ) → (r, s) ≡ laid (unpacked v) store → (q, t) ≡ laid (unpacked v) store → _≡_ {A = ℕ × List ℕ} (r, s) (q, t)
+laid-of v store r q s t e f = e ∙ sym f
 
 pub first-record : (v r q : List ℕ) → r ≡ firstRecord v → q ≡ firstRecord v → r ≡ q
 first-record v r q e f = e ∙ sym f

@@ -23,7 +23,7 @@ module _ (v : List ℕ) where
   unfolding afterParts
   next-part j k rest h =
       let e : k - j ≡ suc (k - (j + 1)) = omega arith in
-      ap (λ (n : ℕ). afterParts v j n rest) e ∙ rw add-one
+      ap (λ (n : ℕ). afterParts v j n rest) e ∙ rw (add-one j)
 
   pub no-part : (j k : ℕ) (rest : List ℕ) → k ≤ j → afterParts v j (k - j) rest ≡ rest
   unfolding afterParts

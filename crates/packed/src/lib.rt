@@ -5,6 +5,7 @@ ghost use Prim.Native.Nat.{_+_, _*_, _^_, _<_};
 ghost use lib.ListN.{take, drop, getD};
 ghost use Rattle.scope.specs.Numbers.{be16, be32};
 ghost use Rattle.packed.specs.Records.{number, part, firstRecord, afterFirst, tells};
+ghost use Rattle.packed.specs.Lists.{unpacked, headOr, afterNumber, holdsNumbers, laid};
 ghost use Rattle.packed.specs.Tallies.{counted};
 use libc::STDOUT_FILENO;
 
@@ -114,6 +115,72 @@ pub fn part(record: &[u8], first: u32, head: u32, k: u32) -> &[u8]
         j += 1;
     }
     front(rest, number(record, k) as usize)
+}
+
+// The first number of a packed list; past the end another.
+fn first_number(list: &[u8], rest: u32) -> u32
+    ensures { λ r. ⌜ r ≡ headOr rest (unpacked (now (list .entry))) ⌝ }
+{
+    if list.len() == 0 {
+        return rest;
+    }
+    let first = byte(list, 0);
+    if first < 254 {
+        return wide(first);
+    }
+    if first == 254 {
+        return half(list, 1);
+    }
+    number32(list, 1)
+}
+
+// A packed list after its first number.
+fn after_number(list: &[u8]) -> &[u8]
+    ensures { λ r. ⌜ now r ≡ afterNumber (now (list .entry)) ⌝ }
+{
+    let first = byte(list, 0);
+    if first < 254 {
+        return from(list, 1);
+    }
+    if first == 254 {
+        return from(list, 3);
+    }
+    from(list, 5)
+}
+
+// Whether a store holds the numbers of a packed list, and one number again and again after them.
+pub fn holds_numbers(store: &[u32], list: &[u8], rest: u32) -> bool
+    ensures { λ r. ⌜ r ≡ holdsNumbers (now (store .entry)) (unpacked (now (list .entry))) rest ⌝ }
+{
+    let mut left = list;
+    let mut k: usize = 0;
+    while k < store.len() {
+        if store[k] != first_number(left, rest) {
+            return false;
+        }
+        let next = after_number(left);
+        left = next;
+        k += 1;
+    }
+    left.len() == 0
+}
+
+// The numbers of a packed list, laid over the start of a store; how many there is room for.
+pub fn laid(list: &[u8], store: &mut [u32]) -> usize
+    ensures { λ r. ⌜ (r, now (store .exit)) ≡ laid (unpacked (now (list .entry))) (now (store .entry)) ⌝ }
+{
+    let mut left = list;
+    let mut k: usize = 0;
+    while 0 < left.len() {
+        if store.len() <= k {
+            return k;
+        }
+        store[k] = first_number(left, 0);
+        let next = after_number(left);
+        left = next;
+        k += 1;
+    }
+    k
 }
 
 // The first record of a file, which begins with the count of the record's bytes.
