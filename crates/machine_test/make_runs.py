@@ -439,6 +439,7 @@ def largest():
     for _ in range(17):
         node = p.comp(node, node)
     yield "17 doubled comps", p, ""
+    # Each drop of a chain needs a type of its own, so no chain of 2,048 drops can be typed: two chains of 1,021 take all 1,024 types and 2,048 nodes.
     p = Program()
     ends = []
     for _ in range(2):

@@ -2,9 +2,7 @@
 // hold afterwards. The file `stdout` has what the requirements say. data/README.md says what stands in a record, and how both files were made.
 use libc::STDOUT_FILENO;
 use refusal::Answer;
-ghost use mathlib.Core.Path.{_≡_};
-ghost use Prim.Native.Nat.{_+_, _*_, _<_, _≤_};
-ghost use lib.ListN.{length};
+ghost use Prim.Native.Nat.{_≤_};
 
 // The largest stores: node numbers, cell bytes, frame numbers, answer bytes.
 const NODES: usize = 8_192;
@@ -15,175 +13,36 @@ const FRAMES: usize = 3_074;
 
 const ANSWER: usize = 1_024;
 
-// The bytes of a record before its parts, the most bytes of a part, and the most records of the file.
-const HEAD: usize = 60;
+// The parts of a record, each by the number that is its size, and how many numbers a record has.
+const NAME: u32 = 6;
 
-const MOST: usize = 65_536;
+const TYPES: u32 = 7;
 
-const TURNS: u32 = 100_000;
+const TABLE: u32 = 8;
 
-// The parts of a record.
-const NAME: usize = 0;
+const ARROWS: u32 = 9;
 
-const TYPES: usize = 1;
+const PROGRAM: u32 = 10;
 
-const TABLE: usize = 2;
+const HASHES: u32 = 11;
 
-const ARROWS: usize = 3;
+const GIVEN: u32 = 12;
 
-const PROGRAM: usize = 4;
+const WITNESS: u32 = 13;
 
-const HASHES: usize = 5;
+const INPUT: u32 = 14;
 
-const GIVEN: usize = 6;
-
-const WITNESS: usize = 7;
-
-const INPUT: usize = 8;
+const HEAD: u32 = 15;
 
 // A number that stands so many times in a row.
 struct Row {
-    number: u64,
+    number: u32,
     count: u64,
 }
 
-// A number, and where it ends.
-struct Short {
-    value: u32,
-    next: usize,
-}
-
-fn wide(b: u8) -> usize
-    ensures { λ r. ⌜ r < 256 ⌝ }
-{
-    b as usize
-}
-
-// The byte at i, and 0 past the end.
-fn byte(v: &[u8], i: usize) -> usize
-    ensures { λ r. ⌜ r < 256 ⌝ }
-{
-    if i < v.len() { wide(v[i]) } else { 0 }
-}
-
-// The number of 16 bits at i.
-fn number16(v: &[u8], i: usize) -> usize
-    requires { ⌜ i < 1000000 ⌝ }
-    ensures { λ r. ⌜ r < 65536 ⌝ }
-{
-    byte(v, i) * 256 + byte(v, i + 1)
-}
-
-// The number of 32 bits at i.
-fn number32(v: &[u8], i: usize) -> usize
-    requires { ⌜ i < 900000 ⌝ }
-    ensures { λ r. ⌜ r < 4294967296 ⌝ }
-{
-    number16(v, i) * 65536 + number16(v, i + 2)
-}
-
-// Number k of a record.
-fn number(record: &[u8], k: usize) -> usize
-    requires { ⌜ k < 15 ⌝ }
-    ensures { λ r. ⌜ r < 4294967296 ⌝ }
-{
-    number32(record, 4 * k)
-}
-
-// Where part k of a record starts; the sizes of the parts are its numbers from 6 on.
-fn start(record: &[u8], k: usize) -> usize
-    requires { ⌜ k < 9 ⌝ }
-    ensures { λ r. ⌜ r ≤ 60 + 9 * 4294967296 ⌝ }
-{
-    let mut at: usize = HEAD;
-    let mut i: usize = 0;
-    while i < k {
-        at += number(record, 6 + i);
-        i += 1;
-    }
-    at
-}
-
-// The bytes from one place to before another; none where they are not all there.
-fn between(v: &[u8], from: usize, to: usize) -> &[u8] {
-    if to < from {
-        return &v[..0];
-    }
-    if v.len() < to {
-        return &v[..0];
-    }
-    &v[from..to]
-}
-
-// Part k of a record.
-fn part(record: &[u8], k: usize) -> &[u8]
-    requires { ⌜ k < 9 ⌝ }
-{
-    let from = start(record, k);
-    between(record, from, from + number(record, 6 + k))
-}
-
-// The short number at a place: a byte below 254, after 254 two bytes, after 255 four.
-fn short_number(v: &[u8], at: usize) -> Short
-    requires { ⌜ at < 100000 ⌝ }
-    ensures { λ r. ⌜ (at < r .next) × (r .next ≤ at + 5) ⌝ }
-{
-    let first = byte(v, at);
-    if first < 254 {
-        return Short {
-            value: first as u32,
-            next: at + 1,
-        };
-    }
-    if first == 254 {
-        return Short {
-            value: number16(v, at + 1) as u32,
-            next: at + 3,
-        };
-    }
-    Short {
-        value: number32(v, at + 1) as u32,
-        next: at + 5,
-    }
-}
-
-// The numbers of a packed table, laid into a store; how many there are.
-fn laid(packed: &[u8], store: &mut [u32]) -> usize {
-    let mut at: usize = 0;
-    let mut k: usize = 0;
-    while at < packed.len() {
-        if MOST < at {
-            return k;
-        }
-        if store.len() <= k {
-            return k;
-        }
-        let n = short_number(packed, at);
-        store[k] = n.value;
-        at = n.next;
-        k += 1;
-    }
-    k
-}
-
-// The first n numbers, or as many as there are.
-fn front_numbers(v: &[u32], n: usize) -> &[u32] {
-    if n < v.len() {
-        return &v[0..n];
-    }
-    v
-}
-
-// The first n bytes, or as many as there are.
-fn front(v: &[u8], n: usize) -> &[u8] {
-    if n < v.len() {
-        return &v[0..n];
-    }
-    v
-}
-
-fn wide_number(n: u32) -> u64 {
-    n as u64
+// A part of a record.
+fn part(record: &[u8], k: u32) -> &[u8] {
+    packed::part(record, NAME, HEAD, k)
 }
 
 // Prints a number in hexadecimal, and how often it stands in a row where that is more than once.
@@ -193,7 +52,7 @@ fn print_row(row: Row) {
         return;
     }
     io::write_all(STDOUT_FILENO, b" ");
-    io::print_hex(STDOUT_FILENO, row.number, 1);
+    io::print_hex(STDOUT_FILENO, row.number as u64, 1);
     if 1 < count {
         io::write_all(STDOUT_FILENO, b"*");
         io::print_decimal(STDOUT_FILENO, count);
@@ -201,7 +60,7 @@ fn print_row(row: Row) {
 }
 
 // A row with the next number of its store; another number begins another row, and the one that ends is printed.
-fn row_after(row: Row, number: u64) -> Row {
+fn row_after(row: Row, number: u32) -> Row {
     let count = row.count;
     if row.number != number {
         print_row(row);
@@ -224,7 +83,7 @@ fn print_bytes(v: &[u8]) {
     };
     let mut i: usize = 0;
     while i < v.len() {
-        row = row_after(row, byte(v, i) as u64);
+        row = row_after(row, packed::byte(v, i) as u32);
         i += 1;
     }
     print_row(row);
@@ -238,7 +97,7 @@ fn print_numbers(v: &[u32]) {
     };
     let mut i: usize = 0;
     while i < v.len() {
-        row = row_after(row, wide_number(v[i]));
+        row = row_after(row, v[i]);
         i += 1;
     }
     print_row(row);
@@ -273,7 +132,7 @@ fn print_stores(cells: &[u8], frames: &[u32], answer: &[u8]) {
 fn print_head(record: &[u8]) {
     io::write_all(STDOUT_FILENO, part(record, NAME));
     io::write_all(STDOUT_FILENO, b", filled with ");
-    io::print_hex(STDOUT_FILENO, byte(record, 11) as u64, 1);
+    io::print_hex(STDOUT_FILENO, packed::byte(record, 11) as u64, 1);
     io::write_all(STDOUT_FILENO, b": ");
 }
 
@@ -293,9 +152,9 @@ fn run<'a>(
         part(record, HASHES),
         part(record, GIVEN),
         part(record, WITNESS),
-        number(record, 0) as u32,
+        packed::number(record, 0),
         part(record, INPUT),
-        number(record, 1) as u32,
+        packed::number(record, 1),
         cells,
         frames,
         answer,
@@ -317,11 +176,10 @@ fn show<'a>(
 }
 
 // Number k of a record, and at most the largest.
-fn size(record: &[u8], k: usize, most: usize) -> usize
-    requires { ⌜ k < 15 ⌝ }
+fn size(record: &[u8], k: u32, most: usize) -> usize
     ensures { λ r. ⌜ r ≤ most ⌝ }
 {
-    let n = number(record, k);
+    let n = packed::number(record, k) as usize;
     if most < n {
         return most;
     }
@@ -329,9 +187,9 @@ fn size(record: &[u8], k: usize, most: usize) -> usize
 }
 
 // A run on a table in stores of the record's sizes, filled as it says.
-fn show_record<'a>(record: &'a [u8], nodes: &'a [u32]) {
-    let fill = byte(record, 11) as u8;
-    let old = (byte(record, 11) * 16_843_009) as u32;
+fn show_run<'a>(record: &'a [u8], nodes: &'a [u32]) {
+    let fill = packed::byte(record, 11);
+    let old = fill as u32 * 16_843_009;
     let mut cells = [fill; CELLS];
     let mut frames = [old; FRAMES];
     let mut answer = [fill; ANSWER];
@@ -347,39 +205,19 @@ fn show_record<'a>(record: &'a [u8], nodes: &'a [u32]) {
     );
 }
 
-// The next record of a file, laid into a buffer; how many bytes it has, and 0 at the end.
-fn next_record(fd: i32, buffer: &mut [u8]) -> usize {
-    let mut size = [0u8; 4];
-    if io::read_full(fd, &mut size) < 4 {
-        return 0;
-    }
-    let n = number32(&size, 0);
-    if buffer.len() < n {
-        return 0;
-    }
-    io::read_full(fd, &mut buffer[0..n])
-}
-
-// Shows the next record, and answers whether there was one.
-fn show_next(fd: i32) -> bool {
-    let mut buffer = io::large_buffer();
-    let n = next_record(fd, &mut buffer);
-    if n == 0 {
-        return false;
-    }
+// A run of a record on its table.
+fn show_record(record: &[u8]) {
     let mut nodes = [0u32; NODES];
-    let k = laid(part(front(&buffer, n), TABLE), &mut nodes);
-    show_record(front(&buffer, n), front_numbers(&nodes, k));
-    true
+    let n = packed::laid(part(record, TABLE), &mut nodes);
+    show_run(record, packed::front_numbers(&nodes, n));
 }
 
-fn show_all(fd: i32) {
-    let mut turns = TURNS;
-    while 0 < turns {
-        if !show_next(fd) {
-            return;
-        }
-        turns -= 1;
+fn show_all(file: &[u8]) {
+    let mut rest = file;
+    while 0 < rest.len() {
+        show_record(packed::first_record(rest));
+        let next = packed::after_first(rest);
+        rest = next;
     }
 }
 
@@ -390,6 +228,8 @@ fn main() {
         os::fail(path);
         return;
     }
-    show_all(fd);
+    let mut file = [0u8; packed::FILE_BYTES];
+    let n = io::read_full(fd, &mut file);
     libc::close(fd);
+    show_all(&file[..n]);
 }

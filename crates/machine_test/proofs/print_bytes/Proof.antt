@@ -17,6 +17,9 @@ loop-holds c = search needs
 byte-requires : tie.Need-byte-requires Inv-loop μ-loop
 byte-requires c κs = search needs
 
+cast-row-after : tie.Need-cast-row-after Inv-loop μ-loop
+cast-row-after c = search needs
+
 row-after-requires : tie.Need-row-after-requires Inv-loop μ-loop
 row-after-requires c κs = search needs
 
@@ -43,6 +46,7 @@ print-bytes-spec =
     μ-loop
     loop-holds
     byte-requires
+    cast-row-after
     row-after-requires
     add-i
     loop-less

@@ -14,14 +14,11 @@ abbrev μ-loop : tie.MeasureT-loop
 loop-holds : tie.Need-loop-holds Inv-loop μ-loop
 loop-holds c = search needs
 
-mul-wide-number : tie.Need-mul-wide-number Inv-loop μ-loop
-mul-wide-number c = search needs
+mul-row-after : tie.Need-mul-row-after Inv-loop μ-loop
+mul-row-after c = search needs
 
-shared-slice-read-wide-number : tie.Need-shared-slice-read-wide-number Inv-loop μ-loop
-shared-slice-read-wide-number c = search needs
-
-wide-number-requires : tie.Need-wide-number-requires Inv-loop μ-loop
-wide-number-requires c κs = search needs
+shared-slice-read-row-after : tie.Need-shared-slice-read-row-after Inv-loop μ-loop
+shared-slice-read-row-after c = search needs
 
 row-after-requires : tie.Need-row-after-requires Inv-loop μ-loop
 row-after-requires c κs = search needs
@@ -48,9 +45,8 @@ print-numbers-spec =
     Inv-loop
     μ-loop
     loop-holds
-    mul-wide-number
-    shared-slice-read-wide-number
-    wide-number-requires
+    mul-row-after
+    shared-slice-read-row-after
     row-after-requires
     add-i
     loop-less

@@ -1,34 +1,36 @@
--- The loop counts its turns down.
+-- Each turn takes a record off the file.
+use lib.ListN.{length}
 use borrow.Author.Needs.{needs}
+use Rattle.packed.proofs.Records.{shorter}
 use Rattle.machine_test.proofs.show_all.Statement.{statement}
 use Rattle.machine_test.proofs.show_all.Tie as tie
 
 abbrev Inv-loop : tie.InvT-loop
-Inv-loop fd turns₀ turns = Unit {0}
+Inv-loop file rest₀ rest = Unit {0}
 
 abbrev μ-loop : tie.MeasureT-loop
-μ-loop fd turns₀ turns = turns
+μ-loop file rest₀ rest = length rest
 
 loop-holds : tie.Need-loop-holds Inv-loop μ-loop
 loop-holds c = search needs
 
-show-next-requires : tie.Need-show-next-requires Inv-loop μ-loop
-show-next-requires c κs = search needs
+first-record-requires : tie.Need-first-record-requires Inv-loop μ-loop
+first-record-requires c κs = search needs
 
-returns : tie.Need-returns Inv-loop μ-loop
-returns c = search needs
+show-record-requires : tie.Need-show-record-requires Inv-loop μ-loop
+show-record-requires c κs = search needs
 
-sub-turns : tie.Need-sub-turns Inv-loop μ-loop
-sub-turns c = search needs
+after-first-requires : tie.Need-after-first-requires Inv-loop μ-loop
+after-first-requires c κs = search needs
 
 loop-less : tie.Need-loop-less Inv-loop μ-loop
-loop-less c = search needs
+loop-less c = shorter (c .before .before .before .before .loop .rest .now) _ (c .after-first .ensures) (c .before .before .before .loop-test .taken)
 
 loop-again : tie.Need-loop-again Inv-loop μ-loop
 loop-again c = search needs
 
-returns-2 : tie.Need-returns-2 Inv-loop μ-loop
-returns-2 c = search needs
+returns : tie.Need-returns Inv-loop μ-loop
+returns c = search needs
 
 pub show-all-spec : {M : Type 1} → statement M
 show-all-spec =
@@ -37,9 +39,9 @@ show-all-spec =
     Inv-loop
     μ-loop
     loop-holds
-    show-next-requires
-    returns
-    sub-turns
+    first-record-requires
+    show-record-requires
+    after-first-requires
     loop-less
     loop-again
-    returns-2)
+    returns)
