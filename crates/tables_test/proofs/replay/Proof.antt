@@ -1,49 +1,39 @@
--- The loop counts its turns down.
+-- Each turn takes a record off the file.
+use lib.ListN.{length}
 use borrow.Author.Needs.{needs}
+use Rattle.packed.proofs.Records.{shorter}
 use Rattle.tables_test.proofs.replay.Statement.{statement}
 use Rattle.tables_test.proofs.replay.Tie as tie
 
 abbrev Inv-loop : tie.InvT-loop
-Inv-loop fd lent t₀ turns₀ t turns = Unit {0}
+Inv-loop file lent t₀ rest₀ t rest = Unit {0}
 
 abbrev μ-loop : tie.MeasureT-loop
-μ-loop fd lent t₀ turns₀ t turns = turns
+μ-loop file lent t₀ rest₀ t rest = length rest
 
 loop-holds : tie.Need-loop-holds Inv-loop μ-loop
 loop-holds c = search needs
 
-taken-requires : tie.Need-taken-requires Inv-loop μ-loop
-taken-requires c κs = search needs
+first-record-requires : tie.Need-first-record-requires Inv-loop μ-loop
+first-record-requires c κs = search needs
 
-enum-told : tie.Need-enum-told Inv-loop μ-loop
-enum-told c = search needs
-
-returns : tie.Need-returns Inv-loop μ-loop
-returns c = search needs
-
-enum-told-2 : tie.Need-enum-told-2 Inv-loop μ-loop
-enum-told-2 c = search needs
+right-requires : tie.Need-right-requires Inv-loop μ-loop
+right-requires c κs = search needs
 
 counted-requires : tie.Need-counted-requires Inv-loop μ-loop
 counted-requires c κs = search needs
 
-enum-told-3 : tie.Need-enum-told-3 Inv-loop μ-loop
-enum-told-3 c = search needs
-
-counted-requires-2 : tie.Need-counted-requires-2 Inv-loop μ-loop
-counted-requires-2 c κs = search needs
-
-sub-turns : tie.Need-sub-turns Inv-loop μ-loop
-sub-turns c = search needs
+after-first-requires : tie.Need-after-first-requires Inv-loop μ-loop
+after-first-requires c κs = search needs
 
 loop-less : tie.Need-loop-less Inv-loop μ-loop
-loop-less c = search needs
+loop-less c = shorter (c .before .before .before .before .before .loop .rest .now) _ (c .after-first .ensures) (c .before .before .before .before .loop-test .taken)
 
 loop-again : tie.Need-loop-again Inv-loop μ-loop
 loop-again c = search needs
 
-returns-2 : tie.Need-returns-2 Inv-loop μ-loop
-returns-2 c = search needs
+returns : tie.Need-returns Inv-loop μ-loop
+returns c = search needs
 
 pub replay-spec : {M : Type 1} → statement M
 replay-spec =
@@ -52,14 +42,10 @@ replay-spec =
     Inv-loop
     μ-loop
     loop-holds
-    taken-requires
-    enum-told
-    returns
-    enum-told-2
+    first-record-requires
+    right-requires
     counted-requires
-    enum-told-3
-    counted-requires-2
-    sub-turns
+    after-first-requires
     loop-less
     loop-again
-    returns-2)
+    returns)
