@@ -21,9 +21,6 @@ add-byte c = search needs
 byte-requires : tie.Need-byte-requires Inv-loop μ-loop
 byte-requires c κs = search needs
 
-cast-cells : tie.Need-cast-cells Inv-loop μ-loop
-cast-cells c = search needs
-
 array-write-cells : tie.Need-array-write-cells Inv-loop μ-loop
 array-write-cells c = search needs
 
@@ -48,7 +45,6 @@ before-spec =
     loop-holds
     add-byte
     byte-requires
-    cast-cells
     array-write-cells
     add-i
     loop-less
