@@ -1,56 +1,28 @@
 // Checks the type tables of the file `tables`, and skips, pads and unpads the values of the file `values` along their types.
 // Prints how many there were, and how many came out otherwise than the files say.
 // A record is 13 numbers of 16 bits and four parts of bytes; make_values.py says what each is.
-use libc::STDOUT_FILENO;
+use packed::Tally;
 use types::TypeAnswer;
 use value::ValueRead;
 use value::ValueWritten;
-ghost use mathlib.Core.Path.{_≡_};
-ghost use Prim.Native.Nat.{_<_, _≤_};
-ghost use lib.ListN.{length};
+ghost use Prim.Native.Nat.{_<_};
 
 // The bytes of a record before its parts, and the most bytes of a store.
 const HEAD: usize = 26;
 
 const MOST: usize = 4_352;
 
-struct Tally {
-    records: u32,
-    wrong: u32,
-}
-
-fn wide(b: u8) -> usize
-    ensures { λ r. ⌜ r < 256 ⌝ }
-{
-    b as usize
-}
-
-// The byte at i, and 0 past the end.
-fn byte(v: &[u8], i: usize) -> usize
-    ensures { λ r. ⌜ r < 256 ⌝ }
-{
-    if i < v.len() { wide(v[i]) } else { 0 }
-}
-
-// The number of 16 bits at i.
-fn number16(v: &[u8], i: usize) -> usize
-    requires { ⌜ i < 1000000 ⌝ }
-    ensures { λ r. ⌜ r < 65536 ⌝ }
-{
-    byte(v, i) * 256 + byte(v, i + 1)
-}
-
 // Number k of a record.
-fn number(record: &[u8], k: usize) -> usize
+fn number(record: &[u8], k: u32) -> usize
     requires { ⌜ k < 13 ⌝ }
-    ensures { λ r. ⌜ r < 65536 ⌝ }
+    ensures { λ r. ⌜ r < 4294967296 ⌝ }
 {
-    number16(record, 2 * k)
+    packed::number16(record, 2 * k) as usize
 }
 
 // Where part k of a record starts, of which 4 is the end: the sizes of the parts are its numbers 9 to 12.
-fn start(record: &[u8], k: usize) -> usize
-    ensures { λ r. ⌜ (0 < r) × (r < 327680) ⌝ }
+fn start(record: &[u8], k: u32) -> usize
+    ensures { λ r. ⌜ 0 < r ⌝ }
 {
     let one = HEAD + number(record, 9);
     let two = one + number(record, 10);
@@ -64,34 +36,14 @@ fn start(record: &[u8], k: usize) -> usize
     }
 }
 
-// Part k of a record; empty where the record is cut off.
-fn part(record: &[u8], k: usize) -> &[u8]
+// Part k of a record.
+fn part(record: &[u8], k: u32) -> &[u8]
     requires { ⌜ k < 4 ⌝ }
 {
-    let from = start(record, k);
-    let to = start(record, k + 1);
-    if to < from {
-        return &record[..0];
-    }
-    if record.len() < to {
-        return &record[..0];
-    }
-    &record[from..to]
-}
-
-// Whether two strings of bytes are the same.
-fn same(a: &[u8], b: &[u8]) -> bool {
-    if a.len() != b.len() {
-        return false;
-    }
-    let mut i: usize = 0;
-    while i < a.len() {
-        if byte(a, i) != byte(b, i) {
-            return false;
-        }
-        i += 1;
-    }
-    true
+    packed::front(
+        packed::from(record, start(record, k)),
+        number(record, 9 + k),
+    )
 }
 
 // Whether the answer is the record's: its numbers 0 and 1 are a refusal's number and place, or 0 and the count of records.
@@ -119,10 +71,10 @@ fn entries_right<'a>(record: &[u8], widths: &'a [u32], next: &'a [u16]) -> bool 
     let entries = part(record, 1);
     let mut k: usize = 0;
     while k < limits::TYPE_COUNT {
-        if types::width_at(widths, k) as usize != number16(entries, 4 * k) {
+        if types::width_at(widths, k) != packed::number16(entries, 4 * k as u32) {
             return false;
         }
-        if types::next_at(next, k) as usize != number16(entries, 4 * k + 2) {
+        if types::next_at(next, k) as u32 != packed::number16(entries, 4 * k as u32 + 2) {
             return false;
         }
         k += 1;
@@ -173,7 +125,7 @@ fn pad_right<'a>(record: &[u8], widths: &'a [u32], next: &'a [u16], cells: &mut 
         cells,
         at,
     );
-    if !same(cells, part(record, 2)) {
+    if !check::same(cells, part(record, 2)) {
         return false;
     }
     match said {
@@ -198,7 +150,7 @@ fn unpad_right<'a>(
     let at = number(record, 5) as u32;
     let q = number(record, 6) as u32;
     let said = value::unpad(part(record, 0), widths, next, i, cells, at, answer, q);
-    if !same(answer, part(record, 3)) {
+    if !check::same(answer, part(record, 3)) {
         return false;
     }
     match said {
@@ -240,7 +192,7 @@ fn stores_right<'a>(record: &[u8], widths: &'a [u32], next: &'a [u16]) -> bool {
     if MOST < m {
         return false;
     }
-    let fill = byte(record, 15) as u8;
+    let fill = packed::byte(record, 15);
     let mut cells = [fill; MOST];
     let mut answer = [fill; MOST];
     round_trip_right(record, widths, next, &mut cells[0..n], &mut answer[0..m])
@@ -260,51 +212,27 @@ fn value_right(record: &[u8]) -> bool {
     stores_right(record, &t.widths, &t.next)
 }
 
-fn counted(t: Tally, fine: bool) -> Tally {
-    let records = t.records;
-    let wrong = t.wrong;
-    if 1_000_000 < records {
-        return t;
-    }
-    if 1_000_000 < wrong {
-        return t;
-    }
-    if fine {
-        return Tally {
-            records: records + 1,
-            wrong,
-        };
-    }
-    Tally {
-        records: records + 1,
-        wrong: wrong + 1,
-    }
-}
-
+// Whether the record at the start of some bytes is right. One that is cut off is wrong.
 fn right(record: &[u8], tables: bool) -> bool {
+    if record.len() < start(record, 4) {
+        return false;
+    }
     if tables {
         return table_right(record);
     }
     value_right(record)
 }
 
-// All records of a file, which are tables or values. One that is cut off counts as wrong.
-fn replay(v: &[u8], tables: bool) -> Tally {
-    let mut tally = Tally {
-        records: 0,
-        wrong: 0,
-    };
-    let mut at: usize = 0;
-    while at < v.len() {
-        let long = start(&v[at..], 4);
-        if v.len() - at < long {
-            return counted(tally, false);
-        }
-        let end = at + long;
-        tally = counted(tally, right(&v[at..end], tables));
-        at = end;
+// All records of a file, which are tables or values.
+fn replay(file: &[u8], tables: bool) -> Tally {
+    let mut t = Tally { count: 0, wrong: 0 };
+    let mut rest = file;
+    while 0 < rest.len() {
+        t = packed::counted(t, right(rest, tables));
+        let next = packed::from(rest, start(rest, 4));
+        rest = next;
     }
-    tally
+    t
 }
 
 fn replay_file(path: &[u8], tables: bool) {
@@ -313,16 +241,10 @@ fn replay_file(path: &[u8], tables: bool) {
         os::fail(path);
         return;
     }
-    let mut file = io::large_buffer();
+    let mut file = [0u8; packed::FILE_BYTES];
     let n = io::read_full(fd, &mut file);
     libc::close(fd);
-    let t = replay(&file[..n], tables);
-    io::print_decimal(STDOUT_FILENO, t.records as u64);
-    io::write_all(STDOUT_FILENO, b" ");
-    io::write_all(STDOUT_FILENO, path);
-    io::write_all(STDOUT_FILENO, b", ");
-    io::print_decimal(STDOUT_FILENO, t.wrong as u64);
-    io::write_all(STDOUT_FILENO, b" wrong\n");
+    packed::print_tally(path, replay(&file[..n], tables));
 }
 
 fn main() {

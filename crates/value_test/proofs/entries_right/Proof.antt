@@ -20,8 +20,8 @@ loop-holds c = search needs
 width-at-requires : tie.Need-width-at-requires Inv-loop μ-loop
 width-at-requires c κs = search needs
 
-cast-if1 : tie.Need-cast-if1 Inv-loop μ-loop
-cast-if1 c = search needs
+cast-number16 : tie.Need-cast-number16 Inv-loop μ-loop
+cast-number16 c = search needs
 
 mul-number16 : tie.Need-mul-number16 Inv-loop μ-loop
 mul-number16 c = search needs
@@ -37,6 +37,9 @@ next-at-requires c κs = search needs
 
 cast-if2 : tie.Need-cast-if2 Inv-loop μ-loop
 cast-if2 c = search needs
+
+cast-number16-2 : tie.Need-cast-number16-2 Inv-loop μ-loop
+cast-number16-2 c = search needs
 
 mul-number16-2 : tie.Need-mul-number16-2 Inv-loop μ-loop
 mul-number16-2 c = search needs
@@ -71,12 +74,13 @@ entries-right-spec =
     part-requires
     loop-holds
     width-at-requires
-    cast-if1
+    cast-number16
     mul-number16
     number16-requires
     returns
     next-at-requires
     cast-if2
+    cast-number16-2
     mul-number16-2
     add-number16
     number16-requires-2
