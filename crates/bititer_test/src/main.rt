@@ -6,6 +6,7 @@ use bititer::BytesRead;
 use bititer::NaturalFault;
 use bititer::NaturalRead;
 use libc::STDOUT_FILENO;
+use packed::Tally;
 ghost use mathlib.Core.Path.{_≡_};
 ghost use Prim.Native.Nat.{_<_, _≤_};
 ghost use lib.ListN.{length};
@@ -16,73 +17,58 @@ const HEAD: usize = 17;
 // The longest stream, with a byte for the offset.
 const MOST: usize = 512;
 
-// What stands in a store before a read, and where the read begins to write.
+// What stands in a store before a read, where the read begins to write, and how many bytes the store has.
 const OLD: u8 = 165;
 
 const AT: usize = 3;
 
-struct Tally {
-    reads: u32,
-    wrong: u32,
-}
-
-fn wide(b: u8) -> u32
-    ensures { λ r. ⌜ r < 256 ⌝ }
-{
-    b as u32
-}
-
-// The byte at i, and 0 past the end.
-fn byte(v: &[u8], i: usize) -> u32
-    ensures { λ r. ⌜ r < 256 ⌝ }
-{
-    if i < v.len() { wide(v[i]) } else { 0 }
-}
-
-fn number16(v: &[u8], i: usize) -> u32
-    requires { ⌜ i < 256 ⌝ }
-    ensures { λ r. ⌜ r < 65536 ⌝ }
-{
-    byte(v, i) * 256 + byte(v, i + 1)
-}
-
-fn number32(v: &[u8], i: usize) -> u32
-    requires { ⌜ i < 128 ⌝ }
-{
-    number16(v, i) * 65536 + number16(v, i + 2)
-}
+const ROOM: usize = 80;
 
 // The fields of a record.
-fn kind(record: &[u8]) -> u32 {
-    byte(record, 0)
+fn kind(record: &[u8]) -> u8 {
+    packed::byte(record, 0)
 }
 
 fn stream_bytes(record: &[u8]) -> usize
-    ensures { λ r. ⌜ r < 65536 ⌝ }
+    ensures { λ r. ⌜ r < 4294967296 ⌝ }
 {
-    number16(record, 1) as usize
+    packed::number16(record, 1) as usize
 }
 
 fn position(record: &[u8]) -> usize
-    ensures { λ r. ⌜ r < 65536 ⌝ }
+    ensures { λ r. ⌜ r < 4294967296 ⌝ }
 {
-    number16(record, 3) as usize
+    packed::number16(record, 3) as usize
 }
 
-fn answer(record: &[u8]) -> u32 {
-    byte(record, 5)
+fn answer(record: &[u8]) -> u8 {
+    packed::byte(record, 5)
 }
 
 fn next_position(record: &[u8]) -> usize
-    ensures { λ r. ⌜ r < 65536 ⌝ }
+    ensures { λ r. ⌜ r < 4294967296 ⌝ }
 {
-    number16(record, 14) as usize
+    packed::number16(record, 14) as usize
 }
 
 fn read_bytes(record: &[u8]) -> usize
     ensures { λ r. ⌜ r < 256 ⌝ }
 {
-    byte(record, 16) as usize
+    packed::byte(record, 16) as usize
+}
+
+// How many bytes the record has.
+fn long(record: &[u8]) -> usize
+    ensures { λ r. ⌜ 0 < r ⌝ }
+{
+    HEAD + read_bytes(record) + stream_bytes(record)
+}
+
+// The byte at i, with room for another before it.
+fn wide_byte(record: &[u8], i: usize) -> u32
+    ensures { λ r. ⌜ r < 256 ⌝ }
+{
+    packed::byte(record, i) as u32
 }
 
 // The record's stream with `offset` zeros before it.
@@ -95,20 +81,12 @@ fn moved(record: &[u8], offset: u32) -> [u8; MOST]
     let mut before: u32 = 0;
     let mut i: usize = 0;
     while i < MOST {
-        let here = byte(record, start + i);
+        let here = wide_byte(record, start + i);
         stream[i] = (((before * 256 + here) >> offset) % 256) as u8;
         before = here;
         i += 1;
     }
     stream
-}
-
-// The first n bytes, or as many as there are.
-fn front(v: &[u8], n: usize) -> &[u8] {
-    if n < v.len() {
-        return &v[0..n];
-    }
-    v
 }
 
 // How many bytes that stream has.
@@ -117,7 +95,7 @@ fn moved_bytes(record: &[u8], offset: u32) -> usize {
     if offset == 0 { n } else { n + 1 }
 }
 
-fn fault_number(fault: NaturalFault) -> u32 {
+fn fault_number(fault: NaturalFault) -> u8 {
     match fault {
         NaturalFault::Ended => 1,
         NaturalFault::TooLong => 2,
@@ -133,10 +111,10 @@ fn natural_right(record: &[u8], offset: u32) -> bool
     let size = moved_bytes(record, offset);
     let moves = offset as usize;
     let p = position(record) + moves;
-    match bititer::natural(front(&stream, size), p, number32(record, 6)) {
+    match bititer::natural(packed::front(&stream, size), p, packed::number32(record, 6)) {
         NaturalRead::Read(n, next) => {
             answer(record) == 0
-                && n == number32(record, 10)
+                && n == packed::number32(record, 10)
                 && next == next_position(record) + moves
         }
         NaturalRead::Fault(fault) => answer(record) == fault_number(fault),
@@ -144,23 +122,20 @@ fn natural_right(record: &[u8], offset: u32) -> bool
 }
 
 // Whether the store holds the bytes that the record says were read, and else what it held.
-fn holds(store: &[u8], record: &[u8], count: usize) -> bool
-    requires { ⌜ count < 256 ⌝ }
-{
-    let mut i: usize = 0;
-    while i < store.len() {
-        let mut want = wide(OLD);
-        if AT <= i {
-            if i < AT + count {
-                want = byte(record, HEAD + i - AT);
-            }
-        }
-        if wide(store[i]) != want {
-            return false;
-        }
-        i += 1;
+fn holds(store: &[u8], record: &[u8], count: usize) -> bool {
+    let old = [OLD; ROOM];
+    let read = packed::from(store, AT);
+    if !check::same(packed::front(store, AT), packed::front(&old, AT)) {
+        return false;
     }
-    true
+    if !check::same(
+        packed::front(read, count),
+        packed::front(packed::from(record, HEAD), count),
+    ) {
+        return false;
+    }
+    let after = packed::from(read, count);
+    check::same(after, packed::front(&old, after.len()))
 }
 
 fn asked(s: &[u8], p: usize, store: &mut [u8], count: usize) -> BytesRead {
@@ -178,9 +153,9 @@ fn bytes_right(record: &[u8], offset: u32) -> bool
     let stream = moved(record, offset);
     let size = moved_bytes(record, offset);
     let count = read_bytes(record);
-    let mut store = [OLD; 80];
+    let mut store = [OLD; ROOM];
     let read = asked(
-        front(&stream, size),
+        packed::front(&stream, size),
         position(record) + offset as usize,
         &mut store,
         count,
@@ -198,12 +173,16 @@ fn bytes_right(record: &[u8], offset: u32) -> bool
 fn closing_right(record: &[u8]) -> bool {
     let stream = moved(record, 0);
     let size = moved_bytes(record, 0);
-    bititer::closes(front(&stream, size), position(record)) == (answer(record) == 0)
+    bititer::closes(packed::front(&stream, size), position(record)) == (answer(record) == 0)
 }
 
+// Whether the read is made as the record says. One that is cut off is wrong.
 fn right(record: &[u8], offset: u32) -> bool
     requires { ⌜ offset < 8 ⌝ }
 {
+    if record.len() < long(record) {
+        return false;
+    }
     match kind(record) {
         0 => natural_right(record, offset),
         1 => bytes_right(record, offset),
@@ -222,60 +201,41 @@ fn offsets(record: &[u8]) -> u32
     }
 }
 
-fn counted(t: Tally, fine: bool) -> Tally {
-    let reads = t.reads;
-    let wrong = t.wrong;
-    if 1_000_000 < reads {
-        return t;
-    }
-    if 1_000_000 < wrong {
-        return t;
-    }
-    if fine {
-        return Tally {
-            reads: reads + 1,
-            wrong,
-        };
-    }
-    Tally {
-        reads: reads + 1,
-        wrong: wrong + 1,
-    }
-}
-
 // The read of one record at each offset.
 fn replayed(t: Tally, record: &[u8]) -> Tally {
     let last = offsets(record);
     let mut tally = t;
     let mut offset: u32 = 0;
     while offset < last {
-        tally = counted(tally, right(record, offset));
+        tally = packed::counted(tally, right(record, offset));
         offset += 1;
     }
     tally
 }
 
-// All reads of a kind. A record that is cut off counts as wrong.
-fn replay(v: &[u8], wanted: u32) -> Tally {
-    let mut tally = Tally { reads: 0, wrong: 0 };
-    let mut at: usize = 0;
-    while at < v.len() {
-        let size = HEAD + read_bytes(&v[at..]) + stream_bytes(&v[at..]);
-        if v.len() - at < size {
-            return counted(tally, false);
-        }
-        let end = at + size;
-        if kind(&v[at..end]) == wanted {
-            tally = replayed(tally, &v[at..end]);
-        }
-        at = end;
+// The read of the record at the start of some bytes, if it is of a kind.
+fn replayed_of(t: Tally, record: &[u8], wanted: u8) -> Tally {
+    if kind(record) != wanted {
+        return t;
     }
-    tally
+    replayed(t, packed::front(record, long(record)))
+}
+
+// All reads of a kind.
+fn replay(file: &[u8], wanted: u8) -> Tally {
+    let mut t = Tally { count: 0, wrong: 0 };
+    let mut rest = file;
+    while 0 < rest.len() {
+        t = replayed_of(t, rest, wanted);
+        let next = packed::from(rest, long(rest));
+        rest = next;
+    }
+    t
 }
 
 fn print(name: &[u8], t: Tally) {
     io::write_all(STDOUT_FILENO, name);
-    io::print_decimal(STDOUT_FILENO, t.reads as u64);
+    io::print_decimal(STDOUT_FILENO, t.count as u64);
     io::write_all(STDOUT_FILENO, b" read, ");
     io::print_decimal(STDOUT_FILENO, t.wrong as u64);
     io::write_all(STDOUT_FILENO, b" wrong\n");
@@ -288,7 +248,7 @@ fn main() {
         os::fail(path);
         return;
     }
-    let mut file = io::large_buffer();
+    let mut file = [0u8; packed::FILE_BYTES];
     let n = io::read_full(fd, &mut file);
     libc::close(fd);
     print(b"naturals: ", replay(&file[..n], 0));

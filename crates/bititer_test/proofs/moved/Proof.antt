@@ -21,11 +21,11 @@ add-start c = search needs
 loop-holds : tie.Need-loop-holds Inv-loop μ-loop
 loop-holds c = search needs
 
-add-byte : tie.Need-add-byte Inv-loop μ-loop
-add-byte c = search needs
+add-wide-byte : tie.Need-add-wide-byte Inv-loop μ-loop
+add-wide-byte c = search needs
 
-byte-requires : tie.Need-byte-requires Inv-loop μ-loop
-byte-requires c κs = search needs
+wide-byte-requires : tie.Need-wide-byte-requires Inv-loop μ-loop
+wide-byte-requires c κs = search needs
 
 mul-stream : tie.Need-mul-stream Inv-loop μ-loop
 mul-stream c = search needs
@@ -63,8 +63,8 @@ moved-spec =
     read-bytes-requires
     add-start
     loop-holds
-    add-byte
-    byte-requires
+    add-wide-byte
+    wide-byte-requires
     mul-stream
     add-stream
     shr-stream
