@@ -4,6 +4,8 @@
 #   pack_cases.py original ORIGINAL CRATES  bounds.tsv of the folder vectors/original for crate replay, outputs.tsv for crate stores_test
 import sys
 
+from parts import write_parts
+
 # The most of each store that a run may ask: node numbers, hash bytes, cell bytes, frame numbers, answer bytes.
 LARGEST = [8192, 32768, 32768, 3072, 4096]
 NOT_TOLD = 255
@@ -122,7 +124,7 @@ FILES = {
 def main(kind, source, crates):
     for name, packed, crate in FILES[kind]:
         made = [one for row in rows(f"{source}/{name}.tsv") for one in packed(row)]
-        open(f"{crates}/{crate}/data/{name}", "wb").write(b"".join(made))
+        write_parts(f"{crates}/{crate}/data/{name}", made)
         print(len(made), name, sum(map(len, made)), "bytes")
 
 

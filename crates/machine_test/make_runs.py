@@ -4,6 +4,9 @@ import os
 import sys
 import threading
 
+sys.path.append(os.path.join(os.path.dirname(os.path.abspath(__file__)), "../../tools"))
+from parts import write_parts
+
 COMP, CASE, PAIR, DISCONNECT, INJL, INJR, TAKE, DROP, IDEN, UNIT, FAIL, DISCONNECT1, WITNESS, HIDDEN, WORD = range(15)
 FILLS = (0x00, 0xFF, 0xA5)
 
@@ -478,18 +481,18 @@ def trials(p, small):
 
 def main():
     sys.setrecursionlimit(100000)
-    data, lines = b"", ""
+    made, lines = [], ""
     groups = [(True, group) for group in (leaves, one_child, branches, pairs, disconnects)] + [(False, largest)]
     for small, group in groups:
         for name, p, given in group():
             for fill, sizes in trials(p, small):
                 said, cells, frames, answer = outcome(p, given, fill, sizes)
-                data += record(name, p, given, fill, sizes)
+                made.append(record(name, p, given, fill, sizes))
                 lines += f"{name}, filled with {fill:x}: {said}; cells{runs(cells)}; frames{runs(frames)}; answer{runs(answer)}\n"
     folder = os.path.dirname(os.path.abspath(__file__))
-    open(folder + "/data/runs", "wb").write(data)
+    write_parts(folder + "/data/runs", made)
     open(folder + "/stdout", "w").write(lines)
-    print(lines.count("\n"), "runs", len(data), "bytes")
+    print(len(made), "runs", sum(map(len, made)), "bytes")
 
 
 if __name__ == "__main__":

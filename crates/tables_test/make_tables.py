@@ -1,8 +1,12 @@
 # make_tables.py ORIGINAL CASES OUT: writes the files `lent` and `programs` into the folder OUT. ORIGINAL is the folder with the original's answers
 # (tables.tsv), CASES the one with the packed cases (stores). data/README.md says what stands in a record.
 # What is right is worked out here from the requirements; where the original or a case tells an answer, a table or a store, it is compared first.
+import os
 import random
 import sys
+
+sys.path.append(os.path.join(os.path.dirname(os.path.abspath(__file__)), "../../tools"))
+from parts import read_parts, write_parts
 
 COMP, CASE, PAIR, DISCONNECT, INJL, INJR, TAKE, DROP, IDEN, UNIT, FAIL, DISCONNECT1, WITNESS, HIDDEN, WORD = range(15)
 TWO, ONE, NONE = (COMP, CASE, PAIR, DISCONNECT), (INJL, INJR, TAKE, DROP, DISCONNECT1), (IDEN, UNIT, WITNESS)
@@ -383,7 +387,7 @@ def number_list(data):
 
 # The records of a packed file: their numbers, and their parts.
 def unpacked(path, numbers, parts):
-    data, at = open(path, "rb").read(), 0
+    data, at = read_parts(path), 0
     while at < len(data):
         end = at + 4 + int.from_bytes(data[at:at + 4], "big")
         start = at + 4 + 4 * (numbers + parts)
@@ -435,5 +439,5 @@ if __name__ == "__main__":
     rng = random.Random(1)
     made = {"lent": [lent_record(*case) for case in lent(rng)], "programs": [*originals(original), *cases(packed_cases), *more_programs()]}
     for name, written in made.items():
-        open(f"{out}/{name}", "wb").write(b"".join(written))
+        write_parts(f"{out}/{name}", written)
         print(len(written), name, sum(map(len, written)), "bytes", flush=True)

@@ -212,6 +212,7 @@ fn show_record(record: &[u8]) {
     show_run(record, packed::front_numbers(&nodes, n));
 }
 
+// Every run of a file.
 fn show_all(file: &[u8]) {
     let mut rest = file;
     while 0 < rest.len() {
@@ -221,8 +222,8 @@ fn show_all(file: &[u8]) {
     }
 }
 
-fn main() {
-    let path = b"runs";
+// The same of the file at a path.
+fn show_file(path: &[u8]) {
     let fd = os::open_read(path);
     if fd < 0 {
         os::fail(path);
@@ -232,4 +233,9 @@ fn main() {
     let n = io::read_full(fd, &mut file);
     libc::close(fd);
     show_all(&file[..n]);
+}
+
+fn main() {
+    show_file(b"runs0");
+    show_file(b"runs1");
 }

@@ -10,7 +10,7 @@ ghost use Rattle.packed.specs.Tallies.{counted};
 use libc::STDOUT_FILENO;
 
 // The most bytes of a file.
-pub const FILE_BYTES: usize = 300_000;
+pub const FILE_BYTES: usize = 65_536;
 
 // How many records a file had, and how many of them came out otherwise than it says.
 pub struct Tally {

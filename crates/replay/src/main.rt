@@ -140,8 +140,9 @@ fn right(record: &[u8]) -> bool {
     false
 }
 
-fn replay(file: &[u8]) -> Tally {
-    let mut t = Tally { count: 0, wrong: 0 };
+// The records of a file, counted on.
+fn replay(file: &[u8], before: Tally) -> Tally {
+    let mut t = before;
     let mut rest = file;
     while 0 < rest.len() {
         t = packed::counted(t, right(packed::first_record(rest)));
@@ -151,21 +152,36 @@ fn replay(file: &[u8]) -> Tally {
     t
 }
 
-fn replay_file(path: &[u8]) {
+// The same of the file at a path.
+fn replay_file(path: &[u8], before: Tally) -> Tally {
     let fd = os::open_read(path);
     if fd < 0 {
         os::fail(path);
-        return;
+        return before;
     }
     let mut file = [0u8; packed::FILE_BYTES];
     let n = io::read_full(fd, &mut file);
     libc::close(fd);
-    packed::print_tally(path, replay(&file[..n]));
+    replay(&file[..n], before)
 }
 
 fn main() {
-    replay_file(b"known");
-    replay_file(b"edges");
-    replay_file(b"random");
-    replay_file(b"bounds");
+    let none = Tally { count: 0, wrong: 0 };
+    let mut t = replay_file(b"known", none);
+    packed::print_tally(b"known", t);
+    t = replay_file(b"edges0", none);
+    t = replay_file(b"edges1", t);
+    t = replay_file(b"edges2", t);
+    t = replay_file(b"edges3", t);
+    t = replay_file(b"edges4", t);
+    packed::print_tally(b"edges", t);
+    t = replay_file(b"random0", none);
+    t = replay_file(b"random1", t);
+    t = replay_file(b"random2", t);
+    t = replay_file(b"random3", t);
+    t = replay_file(b"random4", t);
+    packed::print_tally(b"random", t);
+    t = replay_file(b"bounds0", none);
+    t = replay_file(b"bounds1", t);
+    packed::print_tally(b"bounds", t);
 }

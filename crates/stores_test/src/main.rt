@@ -171,8 +171,9 @@ fn right(record: &[u8], odd: bool) -> bool {
     false
 }
 
-fn replay(file: &[u8], odd: bool) -> Tally {
-    let mut t = Tally { count: 0, wrong: 0 };
+// The records of a file, counted on.
+fn replay(file: &[u8], odd: bool, before: Tally) -> Tally {
+    let mut t = before;
     let mut rest = file;
     while 0 < rest.len() {
         t = packed::counted(t, right(packed::first_record(rest), odd));
@@ -182,21 +183,32 @@ fn replay(file: &[u8], odd: bool) -> Tally {
     t
 }
 
-fn replay_file(path: &[u8], what: &[u8], odd: bool) {
+// The same of the file at a path.
+fn replay_file(path: &[u8], odd: bool, before: Tally) -> Tally {
     let fd = os::open_read(path);
     if fd < 0 {
         os::fail(path);
-        return;
+        return before;
     }
     let mut file = [0u8; packed::FILE_BYTES];
     let n = io::read_full(fd, &mut file);
     libc::close(fd);
-    packed::print_tally(what, replay(&file[..n], odd));
+    replay(&file[..n], odd, before)
 }
 
 fn main() {
-    replay_file(b"stores", b"stores", false);
-    replay_file(b"stores", b"stores with odd numbers more", true);
-    replay_file(b"lengths", b"lengths", false);
-    replay_file(b"outputs", b"outputs", false);
+    let none = Tally { count: 0, wrong: 0 };
+    let mut t = replay_file(b"stores0", false, none);
+    t = replay_file(b"stores1", false, t);
+    t = replay_file(b"stores2", false, t);
+    packed::print_tally(b"stores", t);
+    t = replay_file(b"stores0", true, none);
+    t = replay_file(b"stores1", true, t);
+    t = replay_file(b"stores2", true, t);
+    packed::print_tally(b"stores with odd numbers more", t);
+    packed::print_tally(b"lengths", replay_file(b"lengths", false, none));
+    t = replay_file(b"outputs0", false, none);
+    t = replay_file(b"outputs1", false, t);
+    t = replay_file(b"outputs2", false, t);
+    packed::print_tally(b"outputs", t);
 }

@@ -133,8 +133,9 @@ fn right(record: &[u8], lent: bool) -> bool {
     program_right(record)
 }
 
-fn replay(file: &[u8], lent: bool) -> Tally {
-    let mut t = Tally { count: 0, wrong: 0 };
+// The records of a file, counted on.
+fn replay(file: &[u8], lent: bool, before: Tally) -> Tally {
+    let mut t = before;
     let mut rest = file;
     while 0 < rest.len() {
         t = packed::counted(t, right(packed::first_record(rest), lent));
@@ -144,19 +145,28 @@ fn replay(file: &[u8], lent: bool) -> Tally {
     t
 }
 
-fn replay_file(path: &[u8], lent: bool) {
+// The same of the file at a path.
+fn replay_file(path: &[u8], lent: bool, before: Tally) -> Tally {
     let fd = os::open_read(path);
     if fd < 0 {
         os::fail(path);
-        return;
+        return before;
     }
     let mut file = [0u8; packed::FILE_BYTES];
     let n = io::read_full(fd, &mut file);
     libc::close(fd);
-    packed::print_tally(path, replay(&file[..n], lent));
+    replay(&file[..n], lent, before)
 }
 
 fn main() {
-    replay_file(b"lent", true);
-    replay_file(b"programs", false);
+    let none = Tally { count: 0, wrong: 0 };
+    let mut t = replay_file(b"lent0", true, none);
+    t = replay_file(b"lent1", true, t);
+    t = replay_file(b"lent2", true, t);
+    t = replay_file(b"lent3", true, t);
+    packed::print_tally(b"lent", t);
+    t = replay_file(b"programs0", false, none);
+    t = replay_file(b"programs1", false, t);
+    t = replay_file(b"programs2", false, t);
+    packed::print_tally(b"programs", t);
 }

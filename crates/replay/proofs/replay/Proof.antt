@@ -6,10 +6,10 @@ use Rattle.replay.proofs.replay.Statement.{statement}
 use Rattle.replay.proofs.replay.Tie as tie
 
 abbrev Inv-loop : tie.InvT-loop
-Inv-loop file t₀ rest₀ t rest = Unit {0}
+Inv-loop file before rest₀ t rest = Unit {0}
 
 abbrev μ-loop : tie.MeasureT-loop
-μ-loop file t₀ rest₀ t rest = length rest
+μ-loop file before rest₀ t rest = length rest
 
 loop-holds : tie.Need-loop-holds Inv-loop μ-loop
 loop-holds c = search needs
