@@ -51,7 +51,7 @@ unpadded (prod A B) = every (unpadded A ∷ unpadded B ∷ [])
 abbrev pub unpaddedMark : ℕ
 unpaddedMark = 65535
 
--- the same of a record, by the widths and the entries of its parts
+-- a record stands for a type without padding, by the widths and the entries of its parts
 abbrev pub unpaddedFrom : (tag leftWidth rightWidth left right : ℕ) → Bool
 unpaddedFrom zero a b left right = true
 unpaddedFrom (suc zero) a b left right = every (eqb left unpaddedMark ∷ eqb right unpaddedMark ∷ eqb a b ∷ [])
