@@ -1,10 +1,10 @@
 // Packed records of test data: numbers, the parts of a record, packed lists of numbers, and the tally that is printed of a file.
-// Every read has an answer past the end: a byte is 0 there, and a part is as much of it as there is.
+// Every read has an answer past the end: a byte is 0 there, and a part or a record that is cut off is empty.
 ghost use mathlib.Core.Path.{_≡_};
 ghost use Prim.Native.Nat.{_+_, _*_, _^_, _<_};
 ghost use lib.ListN.{take, drop, getD};
 ghost use Rattle.scope.specs.Numbers.{be16, be32};
-ghost use Rattle.packed.specs.Records.{number, part, firstRecord, afterFirst, tells};
+ghost use Rattle.packed.specs.Records.{number, whole, part, firstRecord, afterFirst, tells};
 ghost use Rattle.packed.specs.Lists.{unpacked, headOr, afterNumber, holdsNumbers, laid};
 ghost use Rattle.packed.specs.Tallies.{counted};
 use libc::STDOUT_FILENO;
@@ -103,7 +103,17 @@ pub fn from(v: &[u8], n: usize) -> &[u8]
     &v[..0]
 }
 
-// The part whose size is number k. The parts follow `head` numbers, and number `first` is the size of the first of them.
+// The first n bytes; none where they are not all there.
+fn whole(v: &[u8], n: usize) -> &[u8]
+    ensures { λ r. ⌜ now r ≡ whole n (now (v .entry)) ⌝ }
+{
+    if v.len() < n {
+        return &v[..0];
+    }
+    &v[..n]
+}
+
+// The part whose size is number k; none where it is not all there. The parts follow `head` numbers, and number `first` is the size of the first of them.
 pub fn part(record: &[u8], first: u32, head: u32, k: u32) -> &[u8]
     ensures { λ r. ⌜ now r ≡ part (now («record» .entry)) first head k ⌝ }
 {
@@ -114,7 +124,7 @@ pub fn part(record: &[u8], first: u32, head: u32, k: u32) -> &[u8]
         rest = next;
         j += 1;
     }
-    front(rest, number(record, k) as usize)
+    whole(rest, number(record, k) as usize)
 }
 
 // The first number of a packed list; past the end another.
@@ -183,11 +193,11 @@ pub fn laid(list: &[u8], store: &mut [u32]) -> usize
     k
 }
 
-// The first record of a file, which begins with the count of the record's bytes.
+// The first record of a file, which begins with the count of the record's bytes; none where it is not all there.
 pub fn first_record(file: &[u8]) -> &[u8]
     ensures { λ r. ⌜ now r ≡ firstRecord (now (file .entry)) ⌝ }
 {
-    front(from(file, 4), number(file, 0) as usize)
+    whole(from(file, 4), number(file, 0) as usize)
 }
 
 // The file after its first record.

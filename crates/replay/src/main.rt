@@ -107,8 +107,8 @@ fn run_right(
     if !answer_right(record, said) {
         return false;
     }
-    let output = part(record, OUTPUT);
-    check::same(packed::front(answer, output.len()), output)
+    let size = packed::number(record, OUTPUT) as usize;
+    check::same(packed::front(answer, size), part(record, OUTPUT))
 }
 
 // A run in the largest stores, and the bounds.

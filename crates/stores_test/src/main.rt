@@ -42,20 +42,20 @@ fn part(record: &[u8], k: u32) -> &[u8] {
     packed::part(record, NAME, HEAD, k)
 }
 
-// Whether a store holds the numbers of a packed list, and one number again and again after them. An empty list tells nothing.
-fn numbers_right(store: &[u32], list: &[u8], rest: u32) -> bool {
-    if list.len() == 0 {
+// Whether a store holds the numbers of a part, a packed list, and one number again and again after them. A part of no bytes tells nothing.
+fn numbers_right(record: &[u8], k: u32, store: &[u32], rest: u32) -> bool {
+    if packed::number(record, k) == 0 {
         return true;
     }
-    packed::holds_numbers(store, list, rest)
+    packed::holds_numbers(store, part(record, k), rest)
 }
 
-// Whether a store holds just some bytes. No bytes tell nothing.
-fn bytes_right(store: &[u8], bytes: &[u8]) -> bool {
-    if bytes.len() == 0 {
+// Whether a store holds just the bytes of a part. A part of no bytes tells nothing.
+fn bytes_right(record: &[u8], k: u32, store: &[u8]) -> bool {
+    if packed::number(record, k) == 0 {
         return true;
     }
-    check::same(store, bytes)
+    check::same(store, part(record, k))
 }
 
 // Whether an answer is that of numbers 0 and 1: a refusal's number and place, or 0 and the count of output bits.
@@ -73,25 +73,25 @@ fn old_number(record: &[u8]) -> u32 {
 
 // Whether the two stores of numbers are left as the record says. Numbers past those told are zero in the node store, old in the frame store.
 fn number_stores_right(record: &[u8], nodes: &[u32], frames: &[u32]) -> bool {
-    if !numbers_right(nodes, part(record, NODES_LEFT), 0) {
+    if !numbers_right(record, NODES_LEFT, nodes, 0) {
         return false;
     }
-    numbers_right(frames, part(record, FRAMES_LEFT), old_number(record))
+    numbers_right(record, FRAMES_LEFT, frames, old_number(record))
 }
 
 // Whether the three stores of bytes are left as the record says.
 fn byte_stores_right(record: &[u8], hashes: &[u8], cells: &[u8], answer: &[u8]) -> bool {
-    if !bytes_right(hashes, part(record, HASHES_LEFT)) {
+    if !bytes_right(record, HASHES_LEFT, hashes) {
         return false;
     }
-    if !bytes_right(cells, part(record, CELLS_LEFT)) {
+    if !bytes_right(record, CELLS_LEFT, cells) {
         return false;
     }
-    if !bytes_right(answer, part(record, ANSWER_LEFT)) {
+    if !bytes_right(record, ANSWER_LEFT, answer) {
         return false;
     }
-    let output = part(record, OUTPUT);
-    check::same(packed::front(answer, output.len()), output)
+    let size = packed::number(record, OUTPUT) as usize;
+    check::same(packed::front(answer, size), part(record, OUTPUT))
 }
 
 // Whether a run said and left what the record says.

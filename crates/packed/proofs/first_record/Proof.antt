@@ -9,15 +9,15 @@ from-requires c κs = search needs
 number-requires : tie.Need-number-requires
 number-requires c κs = search needs
 
-cast-front : tie.Need-cast-front
-cast-front c = search needs
+cast-whole : tie.Need-cast-whole
+cast-whole c = search needs
 
-front-requires : tie.Need-front-requires
-front-requires c κs = search needs
+whole-requires : tie.Need-whole-requires
+whole-requires c κs = search needs
 
 returns : tie.Need-returns
-returns c = cc (c .front .ensures, c .before .number .ensures, c .before .before .from .ensures)
+returns c = cc (c .whole .ensures, c .before .number .ensures, c .before .before .from .ensures)
 
 pub first-record-spec : {M : Type 1} → statement M
 first-record-spec =
-    tie.close (tie.spec from-requires number-requires cast-front front-requires returns)
+    tie.close (tie.spec from-requires number-requires cast-whole whole-requires returns)

@@ -43,14 +43,14 @@ loop-again c = (refl, cc (c .before .before .before .loop .inv .1, next-part _ _
 number-requires-2 : tie.Need-number-requires-2 Inv-loop μ-loop
 number-requires-2 c κs = search needs
 
-cast-front : tie.Need-cast-front Inv-loop μ-loop
-cast-front c = search needs
+cast-whole : tie.Need-cast-whole Inv-loop μ-loop
+cast-whole c = search needs
 
-front-requires : tie.Need-front-requires Inv-loop μ-loop
-front-requires c κs = search needs
+whole-requires : tie.Need-whole-requires Inv-loop μ-loop
+whole-requires c κs = search needs
 
 returns : tie.Need-returns Inv-loop μ-loop
-returns c = cc (c .front .ensures, c .before .number2 .ensures, c .before .before .before .loop .inv .1, no-part _ _ _ (c .before .before .before .loop .rest .now) (c .before .before .loop-test .left), c .before .before .before .before .from .ensures)
+returns c = cc (c .whole .ensures, c .before .number2 .ensures, c .before .before .before .loop .inv .1, no-part _ _ _ (c .before .before .before .loop .rest .now) (c .before .before .loop-test .left), c .before .before .before .before .from .ensures)
 
 pub part-spec : {M : Type 1} → statement M
 part-spec =
@@ -68,6 +68,6 @@ part-spec =
     loop-less
     loop-again
     number-requires-2
-    cast-front
-    front-requires
+    cast-whole
+    whole-requires
     returns)
