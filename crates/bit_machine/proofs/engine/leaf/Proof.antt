@@ -17,7 +17,6 @@ use mathlib.Core.List.{List, []}
 use Rattle.bit_machine.proofs.ByKind
 use Rattle.table.specs.Answers.{recordOf}
 use Rattle.scope.specs.Nodes.{NodeRecord}
-use Rattle.layout.specs.Safe.{length-bitsOf}
 use Rattle.bit_machine.proofs.Needs.{within-fed}
 
 record-at-requires : tie.Need-record-at-requires
@@ -95,7 +94,7 @@ write-bits-requires c κs =
     let inside = ByKind.word-inside (start .pre .0) (start .args .i) (recordOf (record-at-call .result)) (record-at-call .ensures) _ (start .pre .1 .1 .0) ((omega (arith, (ap (λ (r : NodeRecord). r .kind) (record-at-call .ensures)), (start .pre .1 .1 .1))), if1-there .left, if2-there .left, if3-there .left, if4-there .left) _ (c .before .before .target-width .ensures) in (
       within-fed (start .pre .1 .0),
       (
-        (inside, omega (arith, length-bitsOf (start .args .program .now), (start .pre .0) .programFits)),
+        inside,
         ByKind.word-need (start .pre .0) (start .args .i) (recordOf (record-at-call .result)) (record-at-call .ensures) _ (start .pre .1 .1 .0) ((omega (arith, (ap (λ (r : NodeRecord). r .kind) (record-at-call .ensures)), (start .pre .1 .1 .1))), if1-there .left, if2-there .left, if3-there .left, if4-there .left) _ (c .before .before .target-width .ensures),
       ),
     )

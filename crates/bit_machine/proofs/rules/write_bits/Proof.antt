@@ -49,7 +49,7 @@ same-length-2 c = search needs
 
 returns-2 : tie.Need-returns-2
 returns-2 c =
-    let fits = c .before .before .before .before .before .before .before .before .before .before .before .before .before .before .before .pre .1 .0 .0 in
+    let fits = c .before .before .before .before .before .before .before .before .before .before .before .before .before .before .before .pre .1 .0 in
     rw (c .before .before .set-cursor .ensures, c .before .before .before .before .before .before .put-bits .ensures ∙ put-within _ _ _ _ _ fits, c .before .before .before .before .before .before .before .before .cursor-at .ensures)
     (sym (some-written _ _ _ _ fits (c .before .before .before .before .before .before .before .before .before .before .before .if1 .left)))
 

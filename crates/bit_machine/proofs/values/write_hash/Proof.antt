@@ -36,11 +36,10 @@ write-bits-requires : tie.Need-write-bits-requires
 write-bits-requires c κs =
     let start = c .before .before .before .before .before .before .before .before .before in
     let wide-there = c .before .before .before .wide in
-    let e = hash-count (c .before .before .branch-hash .ensures ∙ ap (branchHash _ _) (wide-there .ensures .0)) in
-    let short = hash-short (c .before .before .branch-hash .result .now) _ _ _ (c .before .before .branch-hash .ensures ∙ ap (branchHash _ _) (wide-there .ensures .0)) in (
+    let e = hash-count (c .before .before .branch-hash .ensures ∙ ap (branchHash _ _) (wide-there .ensures .0)) in (
       start .pre .0,
       (
-        (omega (arith, length-bitsOf (c .before .before .branch-hash .result .now)), omega arith),
+        omega (arith, length-bitsOf (c .before .before .branch-hash .result .now)),
         λ pos. rw e (start .pre .1 (rw e at pos)),
       ),
     )
