@@ -6,9 +6,9 @@ use Prim.Native.Nat.{ℕ, _+_}
 use native.Mathlib.Omega.{arith}
 use Rattle.report.specs.Types.{width, wordTy}
 use Rattle.scope.specs.Nodes.{Kind, kComp, kCase, kPair, kDisconnect, kInjl, kInjr, kTake, kDrop, kIden, kUnit, kFail, kDisconnect1, kWitness, kHidden, kWord, kUnknown, NodeRecord, nodesOf}
-use Rattle.scope.specs.Walk6to9.{hiddenAt}
-use Rattle.scope.specs.Arrows11and12.{Arrow}
-use Rattle.scope.specs.Bounds14.{Bound, childRow, pairRow, caseRow, compRow, disconnectRow}
+use Rattle.scope.specs.Walk.{hiddenAt}
+use Rattle.scope.specs.Arrows.{Arrow}
+use Rattle.scope.specs.Bounds.{Bound, childRow, pairRow, caseRow, compRow, disconnectRow}
 use Rattle.analysis.specs.Held.{held, plain}
 use Rattle.analysis.specs.Rows.{caseBound, sourceWidth, targetWidth, keptWidth, rowOf}
 use Rattle.analysis.proofs.Sums.{bound-eq}

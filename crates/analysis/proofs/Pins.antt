@@ -1,7 +1,7 @@
 -- What each public call promises has one outcome: over the call's own promise, `Post`, two results are the same.
 use mathlib.Core.Path.{_≡_, sym, ap, _∙_}
 use Prim.Native.Nat.{ℕ}
-use Rattle.scope.specs.Bounds14 as scope
+use Rattle.scope.specs.Bounds as scope
 use Rattle.exactness.specs.Checks.{clash}
 use Rattle.types.proofs.Pins.{OneResult}
 use Rattle.analysis.specs.Limits.{boundedOf}

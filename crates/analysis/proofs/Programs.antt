@@ -14,13 +14,13 @@ use Rattle.report.specs.Nodes.{Node, disconnect}
 use Rattle.report.specs.Canonical.{children}
 use Rattle.report.specs.Terms.{Term, bad}
 use Rattle.scope.specs.Check.{passed, _>>=_}
-use Rattle.scope.specs.Types2.{TypeRecord, tyAt}
+use Rattle.scope.specs.Types.{TypeRecord, tyAt}
 use Rattle.scope.specs.Nodes.{Kind, kComp, kCase, kPair, kDisconnect, kInjl, kInjr, kTake, kDrop, kIden, kUnit, kFail, kDisconnect1, kWitness, kHidden, kWord, kUnknown, kindOf, NodeRecord, nodeOf, nodesOf, nodeAt}
-use Rattle.scope.specs.Walk6to9.{hiddenAt}
-use Rattle.scope.specs.Arrows11and12.{Arrow, source, target, arrowRule}
+use Rattle.scope.specs.Walk.{hiddenAt}
+use Rattle.scope.specs.Arrows.{Arrow, source, target, arrowRule}
 use Rattle.scope.specs.Program.{Program, sourceTy, targetTy, caseTerm, termOf, termMake, termAt, last, whole, wholeSource, wholeTarget}
-use Rattle.scope.specs.Bounds14.{Bound, bounds, compRow, pairRow, childRow, disconnectRow, copyRow, witnessRow, noRow, wholeCells, wholeFrames, wholeCost, checkBounds}
-use Rattle.scope.specs.Stages26.{noRecord}
+use Rattle.scope.specs.Bounds.{Bound, bounds, compRow, pairRow, childRow, disconnectRow, copyRow, witnessRow, noRow, wholeCells, wholeFrames, wholeCost, checkBounds}
+use Rattle.scope.specs.Stages.{noRecord}
 use Rattle.exactness.specs.Table.{entries-past}
 use Rattle.exactness.specs.Bits.{AllBelow}
 use Rattle.exactness.specs.Types.{TypesPass}

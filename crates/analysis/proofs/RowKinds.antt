@@ -4,9 +4,9 @@ use mathlib.Core.List.{List}
 use Prim.Native.Nat.{ℕ, _<_}
 use native.Mathlib.Omega.{arith}
 use Rattle.scope.specs.Nodes.{kindOf, NodeRecord}
-use Rattle.scope.specs.Arrows11and12.{Arrow}
-use Rattle.scope.specs.Bounds14.{childRow, failRow, noRow}
-use Rattle.scope.specs.Bounds14 as scope
+use Rattle.scope.specs.Arrows.{Arrow}
+use Rattle.scope.specs.Bounds.{childRow, failRow, noRow}
+use Rattle.scope.specs.Bounds as scope
 use Rattle.table.proofs.Groups.{by-kind, unknown}
 use Rattle.analysis.specs.Held.{held}
 use Rattle.analysis.specs.Rows.{rowOf}

@@ -10,13 +10,13 @@ use Rattle.report.specs.Types.{width}
 use Rattle.report.specs.Values.{Val}
 use Rattle.scope.specs.Check.{Check, passed, refused, _>>=_}
 use Rattle.scope.specs.Numbers.{streamOf}
-use Rattle.scope.specs.Types2.{typeRecords, tyAt, checkTypes}
+use Rattle.scope.specs.Types.{typeRecords, tyAt, checkTypes}
 use Rattle.scope.specs.Nodes.{nodeRecords}
-use Rattle.scope.specs.Arrows11and12.{arrowRecords}
+use Rattle.scope.specs.Arrows.{arrowRecords}
 use Rattle.scope.specs.Program.{Program, termAt}
-use Rattle.scope.specs.Bounds14.{Bound, bounds, wholeCells, wholeFrames, wholeCost, checkBounds}
+use Rattle.scope.specs.Bounds.{Bound, bounds, wholeCells, wholeFrames, wholeCost, checkBounds}
 use Rattle.scope.specs.Run.{programOf}
-use Rattle.scope.specs.Stages26.{counted, lent, arrowStage, boundsStage}
+use Rattle.scope.specs.Stages.{counted, lent, arrowStage, boundsStage}
 use Rattle.exactness.specs.Checks.{clash, then-passes}
 use Rattle.exactness.specs.Types.{types-pass}
 use Rattle.types.specs.Table.{checkTable, typeWidths}

@@ -11,10 +11,10 @@ use borrow.Author.Tests.{lt-ltb, le-ltb}
 use Rattle.limits.specs.Limits.{nodeCount}
 use Rattle.report.specs.Table.{entries}
 use Rattle.scope.specs.Nodes.{kindOf, NodeRecord}
-use Rattle.scope.specs.Arrows11and12.{Arrow}
-use Rattle.scope.specs.Bounds14.{noRow}
-use Rattle.scope.specs.Bounds14 as scope
-use Rattle.scope.specs.Stages26.{noRecord}
+use Rattle.scope.specs.Arrows.{Arrow}
+use Rattle.scope.specs.Bounds.{noRow}
+use Rattle.scope.specs.Bounds as scope
+use Rattle.scope.specs.Stages.{noRecord}
 use Rattle.types.proofs.Tables.{length-entries, entries-at, entries-past}
 use Rattle.analysis.specs.Held.{held, plain}
 use Rattle.analysis.specs.Rows.{rowOf, rowMake, boundAt, belowOr}

@@ -13,8 +13,8 @@ use Rattle.refusal.specs.declared.Refusal.{Refusal}
 use Rattle.scope.specs.Check.{Check, _>>=_, require}
 use Rattle.scope.specs.Nodes.{NodeRecord}
 use Rattle.scope.specs.Numbers.{tabulate}
-use Rattle.scope.specs.Arrows11and12.{Arrow}
-use Rattle.scope.specs.Bounds14.{Bound, checkLimits}
+use Rattle.scope.specs.Arrows.{Arrow}
+use Rattle.scope.specs.Bounds.{Bound, checkLimits}
 use Rattle.table.specs.Answers.{checkOf}
 use Rattle.table.specs.declared.Checked.{Checked}
 use Rattle.table.specs.declared.Checked.the-variants.{Refused as Stopped}

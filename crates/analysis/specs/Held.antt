@@ -2,7 +2,7 @@
 -- `held` takes a bound of the definitions to the code's, `plain` takes the code's back to its numbers.
 use Prim.Native.Nat.{ℕ, _+_, min}
 use Rattle.limits.specs.Limits.{cellCount, frameCount, costLimit}
-use Rattle.scope.specs.Bounds14 as scope
+use Rattle.scope.specs.Bounds as scope
 use Rattle.analysis.specs.declared.Bound.{Bound}
 
 -- a number, or one above its limit

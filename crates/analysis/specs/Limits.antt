@@ -5,11 +5,11 @@ use lib.ListN.{length}
 use Rattle.limits.specs.Limits.{nodeCount}
 use Rattle.scope.specs.Check.{Check, passed, refused, _>>=_}
 use Rattle.scope.specs.Nodes.{NodeRecord, nodeRecords}
-use Rattle.scope.specs.Arrows11and12.{Arrow, arrowRecords}
+use Rattle.scope.specs.Arrows.{Arrow, arrowRecords}
 use Rattle.scope.specs.Program.{Program}
-use Rattle.scope.specs.Bounds14.{Bound, checkLimits, wholeCells, wholeFrames, wholeCost}
+use Rattle.scope.specs.Bounds.{Bound, checkLimits, wholeCells, wholeFrames, wholeCost}
 use Rattle.scope.specs.Run.{programOf}
-use Rattle.scope.specs.Stages26.{counted, lent, boundsStage}
+use Rattle.scope.specs.Stages.{counted, lent, boundsStage}
 use Rattle.table.specs.declared.Checked.{Checked}
 use Rattle.table.specs.declared.Checked.the-variants.{Passed, Refused as Stopped}
 use Rattle.analysis.specs.Rows.{sourceWidth, targetWidth, boundAt}

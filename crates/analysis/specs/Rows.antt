@@ -9,9 +9,9 @@ use lib.ListN.{length, getD}
 use Rattle.report.specs.Table.{entries}
 use Rattle.report.specs.Types.{width, wordTy}
 use Rattle.scope.specs.Nodes.{Kind, kComp, kCase, kPair, kDisconnect, kInjl, kInjr, kTake, kDrop, kIden, kUnit, kFail, kDisconnect1, kWitness, kHidden, kWord, kUnknown, kindOf, NodeRecord, nodesOf}
-use Rattle.scope.specs.Walk6to9.{hiddenAt}
-use Rattle.scope.specs.Arrows11and12.{Arrow, source, target}
-use Rattle.scope.specs.Bounds14.{Bound, unitRow, copyRow, childRow, pairRow, caseRow, compRow, disconnectRow, witnessRow, failRow, noRow}
+use Rattle.scope.specs.Walk.{hiddenAt}
+use Rattle.scope.specs.Arrows.{Arrow, source, target}
+use Rattle.scope.specs.Bounds.{Bound, unitRow, copyRow, childRow, pairRow, caseRow, compRow, disconnectRow, witnessRow, failRow, noRow}
 
 -- a case, by which of its children are hidden: with one hidden it is an assertion
 unfoldable pub caseBound : (leftHidden rightHidden : Bool) → (left right : Bound) → Bound

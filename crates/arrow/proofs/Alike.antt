@@ -11,12 +11,12 @@ use Rattle.refusal.specs.declared.Refusal.the-variants.{OneChildDisconnect, Arr
 use Rattle.report.specs.Nodes.{Node}
 use Rattle.scope.specs.Check.{Check, _>>=_, require, each}
 use Rattle.scope.specs.Numbers.{every}
-use Rattle.scope.specs.Types2.{TypeRecord}
+use Rattle.scope.specs.Types.{TypeRecord}
 use Rattle.scope.specs.Nodes.{Kind, kComp, kCase, kPair, kDisconnect, kInjl, kInjr, kTake, kDrop, kIden, kUnit, kFail, kDisconnect1, kWitness, kHidden, kWord, kUnknown, kindOf, nodeOf, NodeRecord, nodesOf, nodeAt, onOneChild, onDisconnect}
-use Rattle.scope.specs.Walk6to9.{hiddenAt}
-use Rattle.scope.specs.Arrows11and12.{Arrow, source, target, isSum, isProduct, leftAt, rightAt, goes, branchRule, kindRule, arrowRule, noOneChild, checkArrows}
-use Rattle.scope.specs.Hashes13.{countPlace, rights, clash, checkHashes}
-use Rattle.scope.specs.Stages26.{noRecord}
+use Rattle.scope.specs.Walk.{hiddenAt}
+use Rattle.scope.specs.Arrows.{Arrow, source, target, isSum, isProduct, leftAt, rightAt, goes, branchRule, kindRule, arrowRule, noOneChild, checkArrows}
+use Rattle.scope.specs.Hashes.{countPlace, rights, clash, checkHashes}
+use Rattle.scope.specs.Stages.{noRecord}
 use Rattle.table.proofs.Records.{length-nodes, node-at}
 use Rattle.table.proofs.Hashes.{hidden-kind}
 use Rattle.arrow.specs.Hashes.{unlikeAt, clashAt}

@@ -11,13 +11,13 @@ use Rattle.refusal.specs.declared.Refusal.{Refusal}
 use Rattle.refusal.specs.declared.Refusal.the-variants.{Header}
 use Rattle.scope.specs.Check.{Check, passed, refused, _>>=_, require}
 use Rattle.scope.specs.Numbers.{streamOf}
-use Rattle.scope.specs.Types2.{typeRecords, checkTypes}
+use Rattle.scope.specs.Types.{typeRecords, checkTypes}
 use Rattle.scope.specs.Nodes.{nodeRecords, nodesOf}
-use Rattle.scope.specs.Walk6to9.{checkWalk}
-use Rattle.scope.specs.Arrows11and12.{arrowRecords, checkArrows}
-use Rattle.scope.specs.Hashes13.{checkHashes}
+use Rattle.scope.specs.Walk.{checkWalk}
+use Rattle.scope.specs.Arrows.{arrowRecords, checkArrows}
+use Rattle.scope.specs.Hashes.{checkHashes}
 use Rattle.scope.specs.Run.{checkTables}
-use Rattle.scope.specs.Stages26.{counted, checkRecords, lentTables, lent, arrowStage, hashStage}
+use Rattle.scope.specs.Stages.{counted, checkRecords, lentTables, lent, arrowStage, hashStage}
 use Rattle.exactness.specs.Checks.{both-passed}
 use Rattle.types.specs.Table.{checkTable, typeAnswer, typeTable}
 use Rattle.types.specs.declared.TypeTable.{TypeTable}

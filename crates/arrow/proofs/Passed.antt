@@ -14,12 +14,12 @@ use Rattle.report.specs.Nodes.{Node}
 use Rattle.report.specs.Canonical.{children}
 use Rattle.scope.specs.Check.{Check, passed, _>>=_, require}
 use Rattle.scope.specs.Numbers.{streamOf}
-use Rattle.scope.specs.Types2.{typeRecords, checkTypes}
+use Rattle.scope.specs.Types.{typeRecords, checkTypes}
 use Rattle.scope.specs.Nodes.{nodeRecords, nodesOf, nodeAt}
-use Rattle.scope.specs.Walk6to9.{checkWalk}
-use Rattle.scope.specs.Arrows11and12.{arrowRecords, arrowRule, checkArrows}
-use Rattle.scope.specs.Hashes13.{checkHashes}
-use Rattle.scope.specs.Stages26.{counted, recordRule, checkRecords, lentTables, lent, arrowStage, hashStage}
+use Rattle.scope.specs.Walk.{checkWalk}
+use Rattle.scope.specs.Arrows.{arrowRecords, arrowRule, checkArrows}
+use Rattle.scope.specs.Hashes.{checkHashes}
+use Rattle.scope.specs.Stages.{counted, recordRule, checkRecords, lentTables, lent, arrowStage, hashStage}
 use Rattle.exactness.specs.Checks.{both-passed, require-holds, each-holds}
 use Rattle.exactness.specs.Bits.{AllBelow}
 use Rattle.exactness.specs.Arrows.{arrows-pass}

@@ -12,8 +12,8 @@ use borrow.Author.Tests.{eq-eqb, ne-eqb}
 use Rattle.report.specs.Nodes.{Node, comp, case, pair, disconnect, injl, injr, take, drop, disconnect1, iden, unit, witness, fail, hidden, word}
 use Rattle.scope.specs.Numbers.{same}
 use Rattle.scope.specs.Nodes.{kindOf, nodeOf, NodeRecord, nodeRecords, nodeAt, onDisconnect}
-use Rattle.scope.specs.Hashes13.{rights, entry, clash}
-use Rattle.scope.specs.Stages26.{noRecord}
+use Rattle.scope.specs.Hashes.{rights, entry, clash}
+use Rattle.scope.specs.Stages.{noRecord}
 use Rattle.table.specs.Lent.{lentNodes}
 use Rattle.table.proofs.Records.{length-nodes, node-at}
 use Rattle.table.proofs.Groups.{by-kind, unknown}

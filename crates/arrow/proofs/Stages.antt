@@ -10,11 +10,11 @@ use Rattle.limits.specs.Limits.{nodeCount, hashBytes}
 use Rattle.refusal.specs.declared.Refusal.{Refusal}
 use Rattle.refusal.specs.declared.Refusal.the-variants.{OneChildDisconnect, Arrow as BadArrow, Hash}
 use Rattle.scope.specs.Check.{Check, passed, refused, _>>=_, require, each}
-use Rattle.scope.specs.Types2.{typeRecords}
+use Rattle.scope.specs.Types.{typeRecords}
 use Rattle.scope.specs.Nodes.{nodeRecords}
-use Rattle.scope.specs.Arrows11and12.{arrowRecords, noOneChild, arrowRule, checkArrows}
-use Rattle.scope.specs.Hashes13.{countPlace, rights, clash, checkHashes}
-use Rattle.scope.specs.Stages26.{counted}
+use Rattle.scope.specs.Arrows.{arrowRecords, noOneChild, arrowRule, checkArrows}
+use Rattle.scope.specs.Hashes.{countPlace, rights, clash, checkHashes}
+use Rattle.scope.specs.Stages.{counted}
 use Rattle.table.specs.Lent.{lentNodes}
 use Rattle.table.specs.Walking.{inTurn}
 use Rattle.table.proofs.Records.{length-nodes}

@@ -9,10 +9,10 @@ use lib.ListN.{length}
 use Rattle.report.specs.Canonical.{children}
 use Rattle.scope.specs.Check.{passed}
 use Rattle.scope.specs.Numbers.{streamOf}
-use Rattle.scope.specs.Types2.{typeRecords}
+use Rattle.scope.specs.Types.{typeRecords}
 use Rattle.scope.specs.Nodes.{nodeRecords, nodeAt}
-use Rattle.scope.specs.Arrows11and12.{arrowRecords, checkArrows}
-use Rattle.scope.specs.Stages26.{lentTables, lent, arrowStage}
+use Rattle.scope.specs.Arrows.{arrowRecords, checkArrows}
+use Rattle.scope.specs.Stages.{lentTables, lent, arrowStage}
 use Rattle.exactness.specs.Checks.{then-passes}
 use Rattle.exactness.specs.Bits.{AllBelow}
 use Rattle.exactness.specs.Types.{types-pass}

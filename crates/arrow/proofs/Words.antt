@@ -5,8 +5,8 @@ use mathlib.Core.List.{List, [], _∷_}
 use Prim.Native.Nat.{ℕ, zero, suc, _-_, _<_}
 use native.Mathlib.Omega.{arith}
 use Rattle.scope.specs.Numbers.{every}
-use Rattle.scope.specs.Types2.{TypeRecord}
-use Rattle.scope.specs.Arrows11and12.{isUnit, isSum, isProduct, isWord, leftAt, rightAt}
+use Rattle.scope.specs.Types.{TypeRecord}
+use Rattle.scope.specs.Arrows.{isUnit, isSum, isProduct, isWord, leftAt, rightAt}
 use Rattle.arrow.proofs.Tests.{every-one, every-held, every-failed}
 
 module _ (types : List TypeRecord) where

@@ -1,6 +1,6 @@
 -- What the code's arrow, and a type table's answer, stand for in the definitions.
 use Rattle.scope.specs.Check.{Check, passed, refused}
-use Rattle.scope.specs.Arrows11and12.{Arrow}
+use Rattle.scope.specs.Arrows.{Arrow}
 use Rattle.types.specs.declared.TypeAnswer.{TypeAnswer}
 use Rattle.types.specs.declared.TypeAnswer.the-variants.{Records, Refused}
 use Rattle.arrow.specs.declared.Arrow.{Arrow as Lent}

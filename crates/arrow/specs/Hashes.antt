@@ -7,7 +7,7 @@ use lib.Dec.{eqb}
 use lib.ListN.{length, getD, take, drop}
 use Rattle.scope.specs.Numbers.{same, every, anyBelow}
 use Rattle.scope.specs.Nodes.{NodeRecord}
-use Rattle.scope.specs.Hashes13.{rights, entry}
+use Rattle.scope.specs.Hashes.{rights, entry}
 use Rattle.table.specs.Lent.{nodeIs}
 
 -- the right child of a record that is a disconnect with two children

@@ -8,12 +8,12 @@ use Rattle.limits.specs.Limits.{typeCount, nodeCount, dossierBytes}
 use Rattle.refusal.specs.declared.Refusal.the-variants.{Header}
 use Rattle.scope.specs.Check.{Check, _>>=_, require}
 use Rattle.scope.specs.Numbers.{streamOf}
-use Rattle.scope.specs.Types2.{typeRecords, checkTypes}
+use Rattle.scope.specs.Types.{typeRecords, checkTypes}
 use Rattle.scope.specs.Nodes.{nodeRecords, nodesOf}
-use Rattle.scope.specs.Walk6to9.{checkWalk}
-use Rattle.scope.specs.Arrows11and12.{arrowRecords, checkArrows}
-use Rattle.scope.specs.Stages26.{counted, checkRecords}
-use Rattle.scope.specs.Hashes13.{checkHashes}
+use Rattle.scope.specs.Walk.{checkWalk}
+use Rattle.scope.specs.Arrows.{arrowRecords, checkArrows}
+use Rattle.scope.specs.Stages.{counted, checkRecords}
+use Rattle.scope.specs.Hashes.{checkHashes}
 use Rattle.table.specs.Lent.{lentNodes}
 
 -- 4 of the types, then 2

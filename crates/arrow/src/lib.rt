@@ -16,15 +16,15 @@ ghost use Rattle.refusal.specs.declared.Refusal.the-variants.{OneChildDisconnec
 ghost use Rattle.report.specs.Nodes.{Node, comp, case, pair, disconnect, injl, injr, take, drop, word};
 ghost use Rattle.scope.specs.Check.{require, each};
 ghost use Rattle.scope.specs.Numbers.{be16, every};
-ghost use Rattle.scope.specs.Types2.{TypeRecord, typeRecords};
+ghost use Rattle.scope.specs.Types.{TypeRecord, typeRecords};
 ghost use Rattle.scope.specs.Nodes.{nodeRecords};
-ghost use Rattle.scope.specs.Arrows11and12.{noArrow, arrowRecords, isUnit, isSum, isProduct, isWord, leftAt, rightAt, branchRule, kindRule, arrowRule, noOneChild};
-ghost use Rattle.scope.specs.Arrows11and12.{Arrow as ScopeArrow};
+ghost use Rattle.scope.specs.Arrows.{noArrow, arrowRecords, isUnit, isSum, isProduct, isWord, leftAt, rightAt, branchRule, kindRule, arrowRule, noOneChild};
+ghost use Rattle.scope.specs.Arrows.{Arrow as ScopeArrow};
 ghost use Rattle.table.specs.Answers.{recordOf, checkOf};
 ghost use Rattle.table.specs.Lent.{lentNodes, nodeIs};
 ghost use Rattle.arrow.specs.Answers.{arrowOf, withoutCount};
-ghost use Rattle.scope.specs.Hashes13.{rights, entry, countPlace};
-ghost use Rattle.scope.specs.Stages26.{counted, arrowStage, hashStage};
+ghost use Rattle.scope.specs.Hashes.{rights, entry, countPlace};
+ghost use Rattle.scope.specs.Stages.{counted, arrowStage, hashStage};
 ghost use Rattle.arrow.specs.Hashes.{rightOf, pushed, unlikeAt, clashAt};
 ghost use Rattle.arrow.specs.Stage.{countedTypes, countedArrows, countedHashes, toldTables, arrowTables, hashTables};
 

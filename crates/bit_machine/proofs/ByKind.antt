@@ -15,14 +15,14 @@ use Rattle.report.specs.Nodes.{Node}
 use Rattle.report.specs.Nodes as Node
 use Rattle.report.specs.Meaning.{Out, done, failed, pruned, stuck}
 use Rattle.scope.specs.Numbers.{streamOf}
-use Rattle.scope.specs.Types2.{typeRecords, tyAt}
+use Rattle.scope.specs.Types.{typeRecords, tyAt}
 use Rattle.scope.specs.Nodes.{NodeRecord, kindOf, nodeOf, nodeAt, nodesOf, nodeRecords}
-use Rattle.scope.specs.Walk6to9.{hiddenAt}
-use Rattle.scope.specs.Arrows11and12.{arrowRecords, source, target, leftAt}
-use Rattle.scope.specs.Hashes13.{branchHash}
+use Rattle.scope.specs.Walk.{hiddenAt}
+use Rattle.scope.specs.Arrows.{arrowRecords, source, target, leftAt}
+use Rattle.scope.specs.Hashes.{branchHash}
 use Rattle.scope.specs.Program.{Program, valueFrom, sourceTy, targetTy, termAt}
 use Rattle.scope.specs.Run.{programOf}
-use Rattle.scope.specs.Stages26.{lent}
+use Rattle.scope.specs.Stages.{lent}
 use Rattle.layout.specs.Mach.{Mach}
 use Rattle.layout.specs.Rules.{bitWritten, bitsWritten, skipped, copied, forwarded, peeked}
 use Rattle.layout.specs.Exec.{runTerm, pairing, composing, disconnecting}

@@ -15,14 +15,14 @@ use Rattle.report.specs.Types.{Ty, width}
 use Rattle.report.specs.Values.{Val, Cells, compact, valueAt}
 use Rattle.report.specs.Meaning.{Out, done, failed, pruned, stuck}
 use Rattle.scope.specs.Numbers.{streamOf, zeros, bytesFor, tabulate}
-use Rattle.scope.specs.Types2.{typeRecords, tyAt}
+use Rattle.scope.specs.Types.{typeRecords, tyAt}
 use Rattle.scope.specs.Nodes.{nodeRecords}
-use Rattle.scope.specs.Arrows11and12.{arrowRecords, source, target}
+use Rattle.scope.specs.Arrows.{arrowRecords, source, target}
 use Rattle.scope.specs.Program.{Program, last, whole, wholeSource, wholeTarget, sourceTy, targetTy, termAt}
-use Rattle.scope.specs.Bounds14.{wholeCells, wholeFrames}
-use Rattle.scope.specs.Machine18and19.{State, Step, machine}
+use Rattle.scope.specs.Bounds.{wholeCells, wholeFrames}
+use Rattle.scope.specs.Machine.{State, Step, machine}
 use Rattle.scope.specs.Run.{Left, programOf, cellsOf, packed, cleared, written, leftWith, ends, ran}
-use Rattle.scope.specs.Stages26.{lent}
+use Rattle.scope.specs.Stages.{lent}
 use Rattle.exactness.specs.Checks.{clash}
 use Rattle.layout.specs.Mach.{Mach, empty}
 use Rattle.layout.specs.Exec.{runWhole}

@@ -3,7 +3,7 @@ use mathlib.Core.Path.{_≡_, ap, _∙_}
 use mathlib.Core.List.{List}
 use Prim.Native.Nat.{ℕ}
 use lib.ListN.{set}
-use Rattle.scope.specs.Machine18and19.{Frame}
+use Rattle.scope.specs.Machine.{Frame}
 use Rattle.layout.specs.Mach.{recordsOf}
 use Rattle.frame.specs.Store.{withRecords}
 use Rattle.frame.proofs.Records.{records-put}

@@ -18,13 +18,13 @@ use Rattle.report.specs.Nodes.{Node}
 use Rattle.report.specs.Nodes as Node
 use Rattle.report.specs.Canonical.{children}
 use Rattle.scope.specs.Numbers.{streamOf, tabulate}
-use Rattle.scope.specs.Types2.{typeRecords, tyAt}
+use Rattle.scope.specs.Types.{typeRecords, tyAt}
 use Rattle.scope.specs.Nodes.{Kind, kComp, kCase, kPair, kDisconnect, kInjl, kInjr, kTake, kDrop, kIden, kUnit, kFail, kDisconnect1, kWitness, kHidden, kWord, kUnknown, kindOf, NodeRecord, nodeRecords, nodeOf, nodesOf, nodeAt, onHidden, onDisconnect, onWitness}
-use Rattle.scope.specs.Arrows11and12.{arrowRecords, source, target, leftAt, rightAt}
-use Rattle.scope.specs.Hashes13.{rights, whole, entry, entryFor, branchHash}
+use Rattle.scope.specs.Arrows.{arrowRecords, source, target, leftAt, rightAt}
+use Rattle.scope.specs.Hashes.{rights, whole, entry, entryFor, branchHash}
 use Rattle.scope.specs.Program.{Program, valueFrom, sourceTy, targetTy}
 use Rattle.scope.specs.Run.{programOf}
-use Rattle.scope.specs.Stages26.{lent}
+use Rattle.scope.specs.Stages.{lent}
 use Rattle.exactness.specs.Bits.{AllBelow, AreBits, below-front, below-drop, are-bits}
 use Rattle.exactness.specs.Values.{width-word}
 use Rattle.bititer.proofs.Bits.{length-bits}

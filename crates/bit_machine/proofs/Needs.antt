@@ -8,7 +8,7 @@ use lib.ListN.{length}
 use Rattle.limits.specs.Limits.{cellCount}
 use Rattle.report.specs.Bits.{Bit, bitsOf}
 use Rattle.report.specs.Types.{width, wordTy}
-use Rattle.scope.specs.Machine18and19.{Frame}
+use Rattle.scope.specs.Machine.{Frame}
 use Rattle.layout.specs.Mach.{Mach, mach}
 use Rattle.layout.specs.Rules.{pushed, moved, dropped, copied, forwarded, bitsWritten}
 use Rattle.layout.specs.Exec.{firstOf, secondOf, thirdOf}

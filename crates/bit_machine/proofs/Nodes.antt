@@ -15,7 +15,7 @@ use Rattle.report.specs.Canonical.{children}
 use Rattle.report.specs.Terms.{Term}
 use Rattle.report.specs.Meaning.{Out, done, failed, pruned, stuck, _>>=_}
 use Rattle.scope.specs.Nodes.{nodeAt}
-use Rattle.scope.specs.Walk6to9.{hiddenAt}
+use Rattle.scope.specs.Walk.{hiddenAt}
 use Rattle.scope.specs.Program.{Program, sourceTy, targetTy, valueFrom, caseTerm, termOf, termAt}
 use Rattle.exactness.specs.Bits.{AllBelow}
 use Rattle.theory.specs.NodeTerms.{term-step}

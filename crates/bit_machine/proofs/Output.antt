@@ -13,7 +13,7 @@ use Rattle.report.specs.Bits.{Bit, numberFrom, bitsOf, bytesOf}
 use Rattle.report.specs.Types.{Ty, width}
 use Rattle.report.specs.Values.{Val, Cells, compact, valueAt}
 use Rattle.scope.specs.Numbers.{zeros, bytesFor, every}
-use Rattle.scope.specs.Types2.{typeRecords, tyAt}
+use Rattle.scope.specs.Types.{typeRecords, tyAt}
 use Rattle.scope.specs.Run.{cellsOf, written}
 use Rattle.exactness.specs.Checks.{clash}
 use Rattle.exactness.specs.Values.{compact-fits, value-typed}

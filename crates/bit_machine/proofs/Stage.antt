@@ -11,10 +11,10 @@ use Rattle.report.specs.Meaning.{stuck}
 use Rattle.scope.specs.Check.{passed}
 use Rattle.scope.specs.Nodes.{nodeRecords}
 use Rattle.scope.specs.Program.{Program, valueFrom, whole, wholeSource, wholeTarget}
-use Rattle.scope.specs.Bounds14.{wholeCells, wholeFrames}
-use Rattle.scope.specs.Machine18and19.{machine}
+use Rattle.scope.specs.Bounds.{wholeCells, wholeFrames}
+use Rattle.scope.specs.Machine.{machine}
 use Rattle.scope.specs.Run.{Ready, Left, cellsOf, leftWith, ran}
-use Rattle.scope.specs.Stages26.{lent, runStage}
+use Rattle.scope.specs.Stages.{lent, runStage}
 use Rattle.table.proofs.Records.{length-records}
 use Rattle.types.specs.Table.{typeWidths, typeNext}
 use Rattle.ready.specs.Lent.{programAt, Shown}

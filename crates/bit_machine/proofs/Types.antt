@@ -12,8 +12,8 @@ use lib.Seq.{sets}
 use Rattle.report.specs.Bits.{Bit}
 use Rattle.report.specs.Types.{Ty, one, sum, prod, width, leftOf, rightOf}
 use Rattle.report.specs.Values.{Val, padded, Read, value, short, readValue}
-use Rattle.scope.specs.Types2.{TypeRecord, typeRecords, typeFrom, noType, tyAt, typeAt, partsRule}
-use Rattle.scope.specs.Arrows11and12.{leftAt, rightAt}
+use Rattle.scope.specs.Types.{TypeRecord, typeRecords, typeFrom, noType, tyAt, typeAt, partsRule}
+use Rattle.scope.specs.Arrows.{leftAt, rightAt}
 use Rattle.scope.specs.Program.{valueFrom}
 use Rattle.types.proofs.Laws.{every-true, parts-below, type-past, type-step, Parts}
 use Rattle.types.proofs.Sound.{Sound, Passed, passed-table, parts-of, widths-are}

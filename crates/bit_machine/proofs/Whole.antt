@@ -10,12 +10,12 @@ use Rattle.report.specs.Types.{Ty, width}
 use Rattle.report.specs.Values.{Val, padded}
 use Rattle.report.specs.Meaning.{Out, done, failed, pruned, stuck}
 use Rattle.scope.specs.Numbers.{streamOf, zeros}
-use Rattle.scope.specs.Types2.{typeRecords, tyAt}
-use Rattle.scope.specs.Arrows11and12.{arrowRecords, source, target}
+use Rattle.scope.specs.Types.{typeRecords, tyAt}
+use Rattle.scope.specs.Arrows.{arrowRecords, source, target}
 use Rattle.scope.specs.Program.{Program, valueFrom, sourceTy, targetTy, termAt}
 use Rattle.scope.specs.Run.{programOf}
-use Rattle.scope.specs.Stages26.{lent}
-use Rattle.scope.specs.Machine18and19.{Frame}
+use Rattle.scope.specs.Stages.{lent}
+use Rattle.scope.specs.Machine.{Frame}
 use Rattle.layout.specs.Mach.{Mach, mach, noFrame, empty, recordsOf}
 use Rattle.layout.specs.Rules.{pushed, moved, bitsWritten}
 use Rattle.layout.specs.Exec.{Outcome, runTerm, withInput, withOutput, runWhole}

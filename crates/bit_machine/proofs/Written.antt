@@ -14,9 +14,9 @@ use Rattle.report.specs.Bits.{Bit, bitsOf}
 use Rattle.report.specs.Types.{Ty, width}
 use Rattle.report.specs.Values.{Val, compact, padded, Read, value, short, readValue}
 use Rattle.report.specs.Nodes.{Node}
-use Rattle.scope.specs.Machine18and19.{Frame}
-use Rattle.scope.specs.Types2.{typeRecords, tyAt}
-use Rattle.scope.specs.Hashes13.{branchHash}
+use Rattle.scope.specs.Machine.{Frame}
+use Rattle.scope.specs.Types.{typeRecords, tyAt}
+use Rattle.scope.specs.Hashes.{branchHash}
 use Rattle.scope.specs.Program.{valueFrom}
 use Rattle.types.specs.Table.{typeWidths, typeNext}
 use Rattle.types.proofs.Sound.{Passed, passed-table}

@@ -11,8 +11,8 @@ use Rattle.report.specs.Values.{Val}
 use Rattle.report.specs.Meaning.{Out, done, failed, pruned, stuck}
 use Rattle.scope.specs.Numbers.{streamOf, bytesFor}
 use Rattle.scope.specs.Program.{Program, valueFrom, sourceTy, targetTy, termAt, last, whole, wholeSource, wholeTarget}
-use Rattle.scope.specs.Bounds14.{wholeCells, wholeFrames}
-use Rattle.scope.specs.Machine18and19.{machine}
+use Rattle.scope.specs.Bounds.{wholeCells, wholeFrames}
+use Rattle.scope.specs.Machine.{machine}
 use Rattle.scope.specs.Run.{Ready, cellsOf}
 use Rattle.layout.specs.Mach.{Mach}
 use Rattle.layout.specs.Exec.{Outcome, runWhole}

@@ -14,7 +14,7 @@ ghost use Prim.Native.Nat.{ℕ, _+_, _*_, _^_, _<_, _≤_};
 ghost use lib.ListN.{length, getD};
 ghost use Rattle.report.specs.Bits.{bitsOf};
 ghost use Rattle.scope.specs.Nodes.{nodeRecords, nodesOf};
-ghost use Rattle.scope.specs.Hashes13.{branchHash};
+ghost use Rattle.scope.specs.Hashes.{branchHash};
 ghost use Rattle.scope.specs.Program.{termAt};
 ghost use Rattle.layout.specs.Exec.{runTerm, firstOf, secondOf, thirdOf};
 ghost use Rattle.layout.specs.Safe.{Fed, Safe, FirstOk, SecondOk, ThirdOk, HandOk};

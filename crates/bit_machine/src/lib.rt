@@ -11,7 +11,7 @@ use refusal::Answer;
 ghost use mathlib.Core.Path.{_≡_};
 ghost use Prim.Native.Nat.{_^_, _<_};
 ghost use Rattle.scope.specs.Run.{leftWith};
-ghost use Rattle.scope.specs.Stages26.{runStage};
+ghost use Rattle.scope.specs.Stages.{runStage};
 
 // How many write frames and read frames stand, and the first cell above all frames.
 pub(crate) struct Heights {

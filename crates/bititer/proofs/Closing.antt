@@ -9,7 +9,7 @@ use lib.Dec.{eqb}
 use lib.ListN.{length, getD, drop, drop-of-length-le}
 use Rattle.report.specs.Bits.{Bit, byteBits, bitsOf}
 use Rattle.scope.specs.Numbers.{streamOf, every, allZero}
-use Rattle.scope.specs.Closing10.{closes}
+use Rattle.scope.specs.Closing.{closes}
 use Rattle.bititer.proofs.Bits.{bits-from, byte-at}
 use Rattle.bititer.proofs.Streams.{stream-within, stream-some, length-within}
 

@@ -14,7 +14,7 @@ use lib.Seq.{drop-drop}
 use Rattle.limits.specs.Limits.{naturalLength}
 use Rattle.report.specs.Bits.{Bit}
 use Rattle.scope.specs.Naturals.{Natural, natural, ended, tooLong, moreBits, ofLength, readNatural}
-use Rattle.scope.specs.Reading3to5.{got, fault, streamEnded, lengthTooLong, overBound, bounded, naturalUpTo}
+use Rattle.scope.specs.Reading.{got, fault, streamEnded, lengthTooLong, overBound, bounded, naturalUpTo}
 use Rattle.scope.specs.Numbers.{streamOf}
 use Rattle.bititer.specs.Parts.{ofLengths}
 use Rattle.bititer.proofs.Streams.{length-stream}

@@ -14,7 +14,7 @@ use lib.Pow.{pow-add}
 use lib.Seq.{paste, take-length, take-take, take-nil, take-at, take-append-seam, drop-at, drop-append-seam, drop-cons, drop-drop, length-take-le}
 use Rattle.report.specs.Bits.{Bit, byteBits, bitsOf, numberFrom, bytesOf}
 use Rattle.scope.specs.Numbers.{streamOf}
-use Rattle.scope.specs.Reading3to5.{Got, got, fault, streamEnded, hashesShort, octets}
+use Rattle.scope.specs.Reading.{Got, got, fault, streamEnded, hashesShort, octets}
 use Rattle.bititer.specs.Answers.{Stored, stored, placed, storing}
 use Rattle.bititer.proofs.Bits.{below-eight, bits-from, byte-at, byte-number}
 use Rattle.bititer.proofs.Streams.{stream-within, stream-some, octets-within, octets-past}

@@ -5,8 +5,8 @@ use mathlib.Core.List.{List}
 use Prim.Native.Nat.{ℕ}
 use Rattle.limits.specs.Limits.{hashBytes, failBytes}
 use Rattle.scope.specs.Numbers.{streamOf}
-use Rattle.scope.specs.Reading3to5.{code, naturalUpTo, octets}
-use Rattle.scope.specs.Closing10 as Closing10
+use Rattle.scope.specs.Reading.{code, naturalUpTo, octets}
+use Rattle.scope.specs.Closing as Closing
 use Rattle.bititer.specs.Answers.{gotCode, gotNatural, gotBytes, Stored, stored, storing}
 use Rattle.bititer.specs.declared.CodeRead.{CodeRead}
 use Rattle.bititer.specs.declared.NaturalFault.{NaturalFault}
@@ -64,5 +64,5 @@ pub fail-bytes : (s : List ℕ) (p : ℕ) (store : List ℕ) (at : ℕ) (r q : B
     → stored (gotBytes r) l ≡ storing (octets (streamOf s) failBytes p) store at → stored (gotBytes q) m ≡ storing (octets (streamOf s) failBytes p) store at → (r ≡ q) × (l ≡ m)
 fail-bytes s p store at r q l m d e = same-stored (storing (octets (streamOf s) failBytes p) store at) r q l m d e
 
-pub closes : (s : List ℕ) (p : ℕ) (r q : Bool) → r ≡ Closing10.closes (streamOf s) p → q ≡ Closing10.closes (streamOf s) p → r ≡ q
+pub closes : (s : List ℕ) (p : ℕ) (r q : Bool) → r ≡ Closing.closes (streamOf s) p → q ≡ Closing.closes (streamOf s) p → r ≡ q
 closes s p r q d e = d ∙ sym e

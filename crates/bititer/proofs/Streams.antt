@@ -11,7 +11,7 @@ use lib.Seq.{drop-cons}
 use Rattle.limits.specs.Limits.{dossierBytes}
 use Rattle.report.specs.Bits.{Bit, bitsOf, numberFrom, bytesOf}
 use Rattle.scope.specs.Numbers.{streamOf}
-use Rattle.scope.specs.Reading3to5.{got, fault, streamEnded, _>>=_, give, next, code, octets}
+use Rattle.scope.specs.Reading.{got, fault, streamEnded, _>>=_, give, next, code, octets}
 use Rattle.bititer.proofs.Bits.{length-bits, bitAt, bit-from}
 
 pub stream-within : (s : List ℕ) → length s ≤ dossierBytes → streamOf s ≡ bitsOf s

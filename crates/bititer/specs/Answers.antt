@@ -5,7 +5,7 @@ use mathlib.Core.List.{List, _++_}
 use Prim.Native.Nat.{ℕ, _+_}
 use lib.Dec.{leb}
 use lib.ListN.{length, take, drop}
-use Rattle.scope.specs.Reading3to5.{Got, got, fault, Fault, streamEnded, lengthTooLong, overBound, hashesShort}
+use Rattle.scope.specs.Reading.{Got, got, fault, Fault, streamEnded, lengthTooLong, overBound, hashesShort}
 use Rattle.bititer.specs.declared.CodeRead.{CodeRead}
 use Rattle.bititer.specs.declared.NaturalFault.{NaturalFault}
 use Rattle.bititer.specs.declared.NaturalRead.{NaturalRead}

@@ -8,8 +8,8 @@ ghost use lib.ListN.{length, take, drop};
 ghost use Rattle.limits.specs.Limits.{naturalLength, hashBytes, failBytes};
 ghost use Rattle.report.specs.Bits.{bitsOf, numberFrom};
 ghost use Rattle.scope.specs.Numbers.{streamOf};
-ghost use Rattle.scope.specs.Reading3to5.{code, naturalUpTo, octets};
-ghost use Rattle.scope.specs.Closing10.{closes};
+ghost use Rattle.scope.specs.Reading.{code, naturalUpTo, octets};
+ghost use Rattle.scope.specs.Closing.{closes};
 ghost use Rattle.bititer.specs.Answers.{gotCode, gotNatural, gotBytes, stored, storing};
 ghost use Rattle.bititer.specs.Parts.{OnesMean, BitsMean};
 

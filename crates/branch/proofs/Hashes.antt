@@ -14,7 +14,7 @@ use borrow.Author.Tests.{eq-eqb, ne-eqb}
 use Rattle.limits.specs.Limits.{nodeNumbers, hashBytes}
 use Rattle.report.specs.Nodes.{Node, hidden}
 use Rattle.scope.specs.Nodes.{kindOf, NodeRecord, nodeRecords, nodeOf, nodesOf, nodeAt, onHidden, onDisconnect}
-use Rattle.scope.specs.Hashes13.{rights, whole, entry, entryFor, branchHash}
+use Rattle.scope.specs.Hashes.{rights, whole, entry, entryFor, branchHash}
 use Rattle.branch.proofs.KindNumbers.{is-hidden, not-known, not-hidden, is-disconnect, not-disconnect}
 use Rattle.branch.proofs.Records.{length-lent, node-in, node-past}
 

@@ -3,7 +3,7 @@ use mathlib.Core.Path.{_≡_, sym, _∙_}
 use mathlib.Core.List.{List, []}
 use Prim.Native.Nat.{ℕ}
 use Rattle.scope.specs.Nodes.{nodeRecords, nodesOf}
-use Rattle.scope.specs.Hashes13.{branchHash}
+use Rattle.scope.specs.Hashes.{branchHash}
 
 pub branch-hash : (nodes hashes given : List ℕ) (j : ℕ) (r q : List ℕ)
     → r ≡ branchHash (nodesOf [] hashes (nodeRecords nodes)) given j → q ≡ branchHash (nodesOf [] hashes (nodeRecords nodes)) given j → r ≡ q

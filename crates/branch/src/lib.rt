@@ -7,7 +7,7 @@ ghost use Prim.Native.Nat.{_^_, _<_};
 ghost use lib.ListN.{take, drop};
 ghost use Rattle.limits.specs.Limits.{hashBytes};
 ghost use Rattle.scope.specs.Nodes.{nodeRecords, nodesOf};
-ghost use Rattle.scope.specs.Hashes13.{rights, whole, entry, entryFor, branchHash};
+ghost use Rattle.scope.specs.Hashes.{rights, whole, entry, entryFor, branchHash};
 
 // The kinds that matter here; a number above the last kind's is no kind.
 const DISCONNECT: u32 = 3;

@@ -11,7 +11,7 @@ use lib.Seq.{sets, getD-set-same, getD-set-other, ext-getD}
 use Rattle.report.specs.Bits.{bitsOf, bytesOf}
 use Rattle.report.specs.Values.{Cells}
 use Rattle.scope.specs.Numbers.{tabulate, tabulateFrom}
-use Rattle.scope.specs.Machine18and19.{setCell, putBits, copyCells}
+use Rattle.scope.specs.Machine.{setCell, putBits, copyCells}
 use Rattle.scope.specs.Run.{cellsOf, packed}
 use Rattle.bititer.proofs.Bits.{length-bits, Bytes, packing}
 use Rattle.cells.specs.Copying.{copyBits}

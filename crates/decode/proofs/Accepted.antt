@@ -9,7 +9,7 @@ use Rattle.limits.specs.Limits.{nodeNumbers}
 use Rattle.report.specs.Nodes.{Node}
 use Rattle.scope.specs.Numbers.{streamOf}
 use Rattle.scope.specs.Nodes.{NodeRecord, nodeRecords, nodesOf}
-use Rattle.scope.specs.Closing10.{decode}
+use Rattle.scope.specs.Closing.{decode}
 use Rattle.exactness.specs.Nodes.{layout}
 use Rattle.exactness.specs.Programs.{IsProgram}
 use Rattle.exactness.specs.Decoding.{decoded-is-program, program-is-decoded, decoded-nodes}

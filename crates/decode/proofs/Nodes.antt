@@ -13,7 +13,7 @@ use Rattle.refusal.specs.declared.Refusal.{Refusal}
 use Rattle.report.specs.Bits.{Bit}
 use Rattle.scope.specs.Check.{refused}
 use Rattle.scope.specs.Nodes.{NodeRecord}
-use Rattle.scope.specs.Reading3to5.{Got, got, fault, Fault, hashesShort, refusalAt, Reader, give, stop, Item, node, nodeIn}
+use Rattle.scope.specs.Reading.{Got, got, fault, Fault, hashesShort, refusalAt, Reader, give, stop, Item, node, nodeIn}
 use Rattle.exactness.specs.Checks.{clash}
 use Rattle.bititer.specs.Answers.{Stored, stored, placed, storing, bytesFault, gotBytes}
 use Rattle.bititer.specs.declared.BytesFault.{BytesFault}

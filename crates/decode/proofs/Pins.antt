@@ -4,7 +4,7 @@ use mathlib.Core.List.{List}
 use Prim.Native.Nat.{ℕ, _/_}
 use lib.ListN.{length}
 use Rattle.limits.specs.Limits.{nodeNumbers}
-use Rattle.scope.specs.Closing10 as Closing10
+use Rattle.scope.specs.Closing as Closing
 use Rattle.exactness.specs.Checks.{clash}
 use Rattle.decode.specs.declared.Decoded.{Decoded}
 use Rattle.decode.specs.Answers.{saidOf}
@@ -18,8 +18,8 @@ answer-tells (Decoded.Refused why) (Decoded.Table t) e = clash (cc)
 answer-tells (Decoded.Refused why) (Decoded.Refused other) e = ap Decoded.Refused (cc)
 
 pub decode : (program nodes hashes : List ℕ) (r q : Decoded) (n m h g : List ℕ)
-    → left (saidOf r) n h ≡ leftBy (Closing10.decode program (length nodes / nodeNumbers) (length hashes)) nodes hashes
-    → left (saidOf q) m g ≡ leftBy (Closing10.decode program (length nodes / nodeNumbers) (length hashes)) nodes hashes
+    → left (saidOf r) n h ≡ leftBy (Closing.decode program (length nodes / nodeNumbers) (length hashes)) nodes hashes
+    → left (saidOf q) m g ≡ leftBy (Closing.decode program (length nodes / nodeNumbers) (length hashes)) nodes hashes
     → (r ≡ q) × (n ≡ m) × (h ≡ g)
 decode program nodes hashes r q n m h g d e =
     let same : left (saidOf r) n h ≡ left (saidOf q) m g = d ∙ sym e in

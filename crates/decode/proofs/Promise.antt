@@ -9,8 +9,8 @@ use Rattle.refusal.specs.declared.Refusal.{Refusal}
 use Rattle.scope.specs.Check.{Check, passed, refused}
 use Rattle.scope.specs.Numbers.{zeros, filled}
 use Rattle.scope.specs.Nodes.{nodeRecords, nodeNumbersOf}
-use Rattle.scope.specs.Reading3to5.{Table}
-use Rattle.scope.specs.Closing10.{decode, nodesLeft, hashesLeft}
+use Rattle.scope.specs.Reading.{Table}
+use Rattle.scope.specs.Closing.{decode, nodesLeft, hashesLeft}
 use Rattle.exactness.specs.Checks.{clash}
 use Rattle.decode.specs.declared.Sizes.{Sizes}
 use Rattle.decode.specs.declared.Decoded.{Decoded}

@@ -15,9 +15,9 @@ use Rattle.report.specs.Bits.{Bit}
 use Rattle.scope.specs.Check.{Check, passed, refused, _>>=_, require}
 use Rattle.scope.specs.Numbers.{zeros, filled, streamOf, tabulateFrom, tabulate}
 use Rattle.scope.specs.Nodes.{NodeRecord, nodeRecords, nodeNumbersOf, nodesOf}
-use Rattle.scope.specs.Reading3to5.{Got, got, fault, refusalAt, Item, naturalUpTo, nodeIn, Table, nodesFrom, readNodes}
-use Rattle.scope.specs.Walk6to9.{checkWalk}
-use Rattle.scope.specs.Closing10.{closes, decode, nodesLeft, hashesLeft}
+use Rattle.scope.specs.Reading.{Got, got, fault, refusalAt, Item, naturalUpTo, nodeIn, Table, nodesFrom, readNodes}
+use Rattle.scope.specs.Walk.{checkWalk}
+use Rattle.scope.specs.Closing.{closes, decode, nodesLeft, hashesLeft}
 use Rattle.exactness.specs.Checks.{clash}
 use Rattle.bititer.specs.Answers.{placed}
 use Rattle.bititer.proofs.Naturals.{up-to-got}

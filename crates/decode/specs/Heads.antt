@@ -9,7 +9,7 @@ use Rattle.refusal.specs.declared.Refusal.the-variants.{StoreShort}
 use Rattle.report.specs.Bits.{Bit}
 use Rattle.scope.specs.Check.{Check, passed, refused}
 use Rattle.scope.specs.Nodes.{NodeRecord}
-use Rattle.scope.specs.Reading3to5.{Got, got, fault, Reader, _>>=_, give, Item, item, refusalAt, next, code, naturalUpTo, child, octets}
+use Rattle.scope.specs.Reading.{Got, got, fault, Reader, _>>=_, give, Item, item, refusalAt, next, code, naturalUpTo, child, octets}
 use Rattle.table.specs.Answers.{recordOf}
 use Rattle.decode.specs.declared.NumberRead.{NumberRead}
 use Rattle.decode.specs.declared.Follows.{Follows}

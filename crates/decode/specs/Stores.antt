@@ -11,9 +11,9 @@ use Rattle.report.specs.Bits.{Bit}
 use Rattle.scope.specs.Check.{Check, passed, refused, _>>=_, require}
 use Rattle.scope.specs.Numbers.{zeros, streamOf}
 use Rattle.scope.specs.Nodes.{NodeRecord, nodeRecords, nodesOf}
-use Rattle.scope.specs.Reading3to5.{got, nodeIn, Table, nodesFrom, readNodes}
-use Rattle.scope.specs.Walk6to9.{checkWalk}
-use Rattle.scope.specs.Closing10.{closes, nodesLeft, hashesLeft}
+use Rattle.scope.specs.Reading.{got, nodeIn, Table, nodesFrom, readNodes}
+use Rattle.scope.specs.Walk.{checkWalk}
+use Rattle.scope.specs.Closing.{closes, nodesLeft, hashesLeft}
 use Rattle.bititer.specs.Answers.{placed}
 use Rattle.table.specs.Answers.{recordOf}
 use Rattle.table.specs.declared.Checked.{Checked}

@@ -18,8 +18,8 @@ ghost use Rattle.limits.specs.Limits.{dossierBytes, nodeCount, nodeNumbers, wor
 ghost use Rattle.refusal.specs.declared.Refusal.the-variants.{Closing};
 ghost use Rattle.scope.specs.Check.{require};
 ghost use Rattle.scope.specs.Numbers.{streamOf};
-ghost use Rattle.scope.specs.Reading3to5.{refusalAt, naturalUpTo, child, combinator as combinatorAt, wordItem, node as nodeAt, nodesFrom};
-ghost use Rattle.scope.specs.Closing10.{closes, decode as decodeAll};
+ghost use Rattle.scope.specs.Reading.{refusalAt, naturalUpTo, child, combinator as combinatorAt, wordItem, node as nodeAt, nodesFrom};
+ghost use Rattle.scope.specs.Closing.{closes, decode as decodeAll};
 ghost use Rattle.bititer.specs.Answers.{naturalFault, bytesFault, gotBytes, stored, storing};
 ghost use Rattle.table.specs.Answers.{recordOf, checkOf};
 ghost use Rattle.decode.specs.Answers.{numberOf, sizeOf, saidOf};

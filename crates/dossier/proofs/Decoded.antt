@@ -19,15 +19,15 @@ use Rattle.report.specs.Naturals.{codeNatural}
 use Rattle.report.specs.Nodes.{Node, codeNodes, codeProgram}
 use Rattle.scope.specs.Check.{Check, passed, refused, _>>=_, require, each}
 use Rattle.scope.specs.Numbers.{every, streamOf, tabulate}
-use Rattle.scope.specs.Header1.{count, size, start, countRule, typeCountRule, headerRule, checkHeader, section, sTypes, sProgram, sArrows, sWitness, sInput, sHashes}
-use Rattle.scope.specs.Types2.{typeRecords, typeRecord, checkTypes}
+use Rattle.scope.specs.Header.{count, size, start, countRule, typeCountRule, headerRule, checkHeader, section, sTypes, sProgram, sArrows, sWitness, sInput, sHashes}
+use Rattle.scope.specs.Types.{typeRecords, typeRecord, checkTypes}
 use Rattle.scope.specs.Nodes.{NodeRecord, nodeRecords, nodesOf, nodeNumbersOf}
-use Rattle.scope.specs.Reading3to5.{Table}
-use Rattle.scope.specs.Walk6to9.{checkWalk}
-use Rattle.scope.specs.Closing10.{decode}
-use Rattle.scope.specs.Arrows11and12.{arrowRecords}
+use Rattle.scope.specs.Reading.{Table}
+use Rattle.scope.specs.Walk.{checkWalk}
+use Rattle.scope.specs.Closing.{decode}
+use Rattle.scope.specs.Arrows.{arrowRecords}
 use Rattle.scope.specs.Run.{Tables, checkTables, tablesOf, Left, leftWith, runTables}
-use Rattle.scope.specs.Stages26.{counted, noRecord, recordRule, checkRecords, lentTables, lent, hashStage, runStage}
+use Rattle.scope.specs.Stages.{counted, noRecord, recordRule, checkRecords, lentTables, lent, hashStage, runStage}
 use Rattle.exactness.specs.Checks.{every-all, all-every, holds-require, then-passes, holds-each}
 use Rattle.exactness.specs.Nodes.{recordsFrom, hashesOf, layout}
 use Rattle.exactness.specs.Stream.{Stands, stands-split}

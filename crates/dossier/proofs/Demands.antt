@@ -16,13 +16,13 @@ use Rattle.report.specs.Nodes.{Node}
 use Rattle.report.specs.Meaning.{stuck, eval, visits}
 use Rattle.scope.specs.Check.{passed, refused}
 use Rattle.scope.specs.Numbers.{zeros, filled}
-use Rattle.scope.specs.Header1.{section, sProgram}
+use Rattle.scope.specs.Header.{section, sProgram}
 use Rattle.scope.specs.Nodes.{nodeNumbersOf}
-use Rattle.scope.specs.Reading3to5.{Table}
-use Rattle.scope.specs.Closing10.{decode}
+use Rattle.scope.specs.Reading.{Table}
+use Rattle.scope.specs.Closing.{decode}
 use Rattle.scope.specs.Program.{whole, wholeSource, wholeTarget}
-use Rattle.scope.specs.Bounds14.{wholeCells, wholeFrames, wholeCost}
-use Rattle.scope.specs.Machine18and19.{machine}
+use Rattle.scope.specs.Bounds.{wholeCells, wholeFrames, wholeCost}
+use Rattle.scope.specs.Machine.{machine}
 use Rattle.scope.specs.Run.{Ready, checkReady, tablesOf, checkDossier, leftWith, runTables, cellsOf, Ended, ended, run}
 use Rattle.exactness.specs.Nodes.{layout}
 use Rattle.exactness.specs.Programs.{IsProgram}

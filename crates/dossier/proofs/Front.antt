@@ -6,9 +6,9 @@ use lib.ListN.{length}
 use Rattle.limits.specs.Limits.{typeCount}
 use Rattle.refusal.specs.declared.Refusal.{Refusal}
 use Rattle.scope.specs.Check.{Check, passed, refused, _>>=_}
-use Rattle.scope.specs.Header1.{checkHeader, section, sTypes}
-use Rattle.scope.specs.Types2.{typeRecords, checkTypes}
-use Rattle.scope.specs.Stages26.{counted}
+use Rattle.scope.specs.Header.{checkHeader, section, sTypes}
+use Rattle.scope.specs.Types.{typeRecords, checkTypes}
+use Rattle.scope.specs.Stages.{counted}
 use Rattle.exactness.specs.Checks.{then-passes}
 use Rattle.header.specs.Answer.{headerAnswer}
 use Rattle.header.specs.declared.HeaderAnswer.{HeaderAnswer}

@@ -17,11 +17,11 @@ use Rattle.report.specs.Nodes.{Node}
 use Rattle.report.specs.Naturals.{codeNatural}
 use Rattle.scope.specs.Check.{Check, passed, refused, _>>=_}
 use Rattle.scope.specs.Numbers.{zeros, filled}
-use Rattle.scope.specs.Header1.{checkHeader, section, sTypes, sProgram}
-use Rattle.scope.specs.Types2.{typeRecords, checkTypes}
+use Rattle.scope.specs.Header.{checkHeader, section, sTypes, sProgram}
+use Rattle.scope.specs.Types.{typeRecords, checkTypes}
 use Rattle.scope.specs.Nodes.{nodeNumbersOf}
-use Rattle.scope.specs.Reading3to5.{Table}
-use Rattle.scope.specs.Closing10.{decode}
+use Rattle.scope.specs.Reading.{Table}
+use Rattle.scope.specs.Closing.{decode}
 use Rattle.scope.specs.Run.{Tables, checkTables, tablesOf, checkDossier, Left, leftWith, runTables, Ended, ended, run}
 use Rattle.exactness.specs.Checks.{both-passed, then-passes}
 use Rattle.exactness.specs.Nodes.{layout}

@@ -19,17 +19,17 @@ use Rattle.report.specs.Nodes.{Node}
 use Rattle.report.specs.Meaning.{done, failed, pruned, stuck}
 use Rattle.scope.specs.Check.{Check, passed, refused, _>>=_, require, firstFailing, each}
 use Rattle.scope.specs.Numbers.{bytesFor, every, streamOf}
-use Rattle.scope.specs.Types2.{TypeRecord, tyAt}
+use Rattle.scope.specs.Types.{TypeRecord, tyAt}
 use Rattle.scope.specs.Nodes.{onWitness}
-use Rattle.scope.specs.Closing10.{closes}
-use Rattle.scope.specs.Arrows11and12.{Arrow, target, noOneChild, arrowRule, checkArrows}
-use Rattle.scope.specs.Hashes13.{countPlace, rights, clash, checkHashes}
+use Rattle.scope.specs.Closing.{closes}
+use Rattle.scope.specs.Arrows.{Arrow, target, noOneChild, arrowRule, checkArrows}
+use Rattle.scope.specs.Hashes.{countPlace, rights, clash, checkHashes}
 use Rattle.scope.specs.Program.{Program, whole, wholeSource, wholeTarget}
-use Rattle.scope.specs.Bounds14.{wholeCells, wholeFrames, wholeCost, checkLimits, checkBounds}
-use Rattle.scope.specs.Witness15.{Values, valuesFrom, checkWitness}
-use Rattle.scope.specs.Input16.{checkInput}
-use Rattle.scope.specs.Stores17.{checkStores}
-use Rattle.scope.specs.Machine18and19.{Step, machine}
+use Rattle.scope.specs.Bounds.{wholeCells, wholeFrames, wholeCost, checkLimits, checkBounds}
+use Rattle.scope.specs.Witness.{Values, valuesFrom, checkWitness}
+use Rattle.scope.specs.Input.{checkInput}
+use Rattle.scope.specs.Stores.{checkStores}
+use Rattle.scope.specs.Machine.{Step, machine}
 use Rattle.scope.specs.Run.{Tables, Ready, programOf, checkTables, checkReady, Left, leftWith, cellsOf, ends, ran, runTables}
 use Rattle.exactness.specs.Checks as Checks
 

@@ -10,13 +10,13 @@ use Rattle.refusal.specs.declared.Refusal.{Refusal}
 use Rattle.refusal.specs.declared.Answer.{Answer}
 use Rattle.scope.specs.Check.{Check, passed, refused}
 use Rattle.scope.specs.Numbers.{zeros, filled}
-use Rattle.scope.specs.Header1.{count, checkHeader, section, sTypes, sProgram, sArrows, sWitness, sInput, sHashes}
-use Rattle.scope.specs.Types2.{typeRecords, checkTypes}
+use Rattle.scope.specs.Header.{count, checkHeader, section, sTypes, sProgram, sArrows, sWitness, sInput, sHashes}
+use Rattle.scope.specs.Types.{typeRecords, checkTypes}
 use Rattle.scope.specs.Nodes.{nodeNumbersOf}
-use Rattle.scope.specs.Reading3to5.{Table}
-use Rattle.scope.specs.Closing10 as Closing10
-use Rattle.scope.specs.Closing10.{nodesLeft, hashesLeft}
-use Rattle.scope.specs.Stages26.{runStage}
+use Rattle.scope.specs.Reading.{Table}
+use Rattle.scope.specs.Closing as Closing
+use Rattle.scope.specs.Closing.{nodesLeft, hashesLeft}
+use Rattle.scope.specs.Stages.{runStage}
 use Rattle.scope.specs.Run.{checkTables, tablesOf, Left, leftWith, Ended, ended, run}
 use Rattle.exactness.specs.Checks.{clash, both-passed}
 use Rattle.table.specs.Answers.{checkOf}
@@ -53,15 +53,15 @@ module _ (d nodes hashes cells frames answer : List ℕ) (checked : Checked) (ch
 
   -- a dossier that passed 1 and 2, and what decoding promises of it
   module _ (passes : checked ≡ Checked.Passed) (program : List ℕ) (is : program ≡ section d sProgram) (r : Decoded) (n h : List ℕ)
-      (decodes : left (saidOf r) n h ≡ leftBy (Closing10.decode program (length nodes / nodeNumbers) (length hashes)) nodes hashes) where
+      (decodes : left (saidOf r) n h ≡ leftBy (Closing.decode program (length nodes / nodeNumbers) (length hashes)) nodes hashes) where
     typed : front d ≡ passed tt
     typed = sym checks ∙ ap checkOf passes
 
     abbrev read : Check Table
-    read = Closing10.decode (section d sProgram) (length nodes / nodeNumbers) (length hashes)
+    read = Closing.decode (section d sProgram) (length nodes / nodeNumbers) (length hashes)
 
     decodes-own : left (saidOf r) n h ≡ leftBy read nodes hashes
-    decodes-own = decodes ∙ ap (λ (p : List ℕ). leftBy (Closing10.decode p (length nodes / nodeNumbers) (length hashes)) nodes hashes) is
+    decodes-own = decodes ∙ ap (λ (p : List ℕ). leftBy (Closing.decode p (length nodes / nodeNumbers) (length hashes)) nodes hashes) is
 
     -- 3 to 10
     pub ends-undecoded : (why : Refusal) → r ≡ Decoded.Refused why → (said : Answer) → said ≡ undecodedOf r → ended said n h cells frames answer ≡ run d nodes hashes cells frames answer

@@ -13,10 +13,10 @@ use Rattle.decode.specs.declared.Decoded.{Decoded}
 use Rattle.decode.specs.declared.Decoded.the-variants.{Table, Refused as Undecoded}
 use Rattle.scope.specs.Check.{Check, _>>=_}
 use Rattle.scope.specs.Numbers.{zeros}
-use Rattle.scope.specs.Header1.{count, checkHeader, section, sTypes, sProgram, sArrows, sWitness, sInput, sHashes}
+use Rattle.scope.specs.Header.{count, checkHeader, section, sTypes, sProgram, sArrows, sWitness, sInput, sHashes}
 use Rattle.scope.specs.Run.{Left}
-use Rattle.scope.specs.Stages26.{runStage}
-use Rattle.scope.specs.Types2.{typeRecords, checkTypes}
+use Rattle.scope.specs.Stages.{runStage}
+use Rattle.scope.specs.Types.{typeRecords, checkTypes}
 
 -- 1 and 2
 unfoldable pub front : (dossier : List ℕ) → Check (Unit {0})

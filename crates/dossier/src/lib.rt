@@ -6,7 +6,7 @@ use header::HeaderAnswer;
 use refusal::Answer;
 use table::Checked;
 ghost use mathlib.Core.Path.{_≡_};
-ghost use Rattle.scope.specs.Header1.{checkHeader};
+ghost use Rattle.scope.specs.Header.{checkHeader};
 ghost use Rattle.scope.specs.Run.{leftWith, ended, run};
 ghost use Rattle.table.specs.Answers.{checkOf};
 ghost use Rattle.dossier.specs.Ends.{front, keeps, settled, refusedOf, undecodedOf, sectionsRun};

@@ -17,7 +17,7 @@ use Rattle.report.specs.Canonical.{children, isDone, upFrom, order, Canonical}
 use Rattle.report.specs.Canonical.{walkEach as plainEach, walkMake as plainMake}
 use Rattle.scope.specs.Check.{Check, passed, require}
 use Rattle.scope.specs.Nodes.{nodeAt}
-use Rattle.scope.specs.Walk6to9.{hiddenAt, allowed, walkEach, walkMake, walkFrom, checkWalk}
+use Rattle.scope.specs.Walk.{hiddenAt, allowed, walkEach, walkMake, walkFrom, checkWalk}
 use Rattle.exactness.specs.Table.{length-entries, entries-at, before-none}
 use Rattle.exactness.specs.Checks.{clash, require-holds, holds-require, both-passed, then-passes}
 use Rattle.exactness.specs.Walk.{Counted, Upto, arrive, Walks, walkIn, walkNode, walksBefore}

@@ -19,9 +19,9 @@ use Rattle.report.specs.Nodes.{codeNode, codeNodes, codeProgram}
 use Rattle.scope.specs.Check.{Check, passed, _>>=_, require}
 use Rattle.scope.specs.Numbers.{zeros, streamOf, allZero}
 use Rattle.scope.specs.Nodes.{NodeRecord, kindOf, nodeOf, nodesOf}
-use Rattle.scope.specs.Reading3to5.{Table, readNodes}
-use Rattle.scope.specs.Walk6to9.{checkWalk}
-use Rattle.scope.specs.Closing10.{closes, decode}
+use Rattle.scope.specs.Reading.{Table, readNodes}
+use Rattle.scope.specs.Walk.{checkWalk}
+use Rattle.scope.specs.Closing.{closes, decode}
 use Rattle.exactness.specs.Checks.{clash, every-all, all-every, require-holds, holds-require, both-passed, then-passes}
 use Rattle.exactness.specs.Bits.{AreBits, are-bits}
 use Rattle.exactness.specs.Naturals.{code-some}

@@ -13,7 +13,7 @@ use Rattle.report.specs.Canonical.{children, isDone}
 use Rattle.scope.specs.Check.{passed, require}
 use Rattle.scope.specs.Numbers.{every, anyBelow, same}
 use Rattle.scope.specs.Nodes.{nodeAt, onHidden}
-use Rattle.scope.specs.Walk6to9.{hiddenAt, hides, noneHidden, allowed}
+use Rattle.scope.specs.Walk.{hiddenAt, hides, noneHidden, allowed}
 use Rattle.exactness.specs.Checks.{clash, all-every, none-below, below-none, same-equal, equal-same, require-holds, holds-require, both-passed}
 
 -- node j is hidden

@@ -7,10 +7,10 @@ use Prim.Native.Nat.{ℕ, _-_, _<_}
 use lib.ListN.{length}
 use Rattle.report.specs.Types.{Ty, one, sum, prod, wordTy}
 use Rattle.report.specs.Nodes.{Node, comp, case, pair, disconnect, injl, injr, take, drop, iden, unit, witness, fail, hidden, word}
-use Rattle.scope.specs.Types2.{TypeRecord, tyAt}
+use Rattle.scope.specs.Types.{TypeRecord, tyAt}
 use Rattle.scope.specs.Nodes.{nodeAt}
-use Rattle.scope.specs.Walk6to9.{hiddenAt}
-use Rattle.scope.specs.Arrows11and12.{Arrow, source, target}
+use Rattle.scope.specs.Walk.{hiddenAt}
+use Rattle.scope.specs.Arrows.{Arrow, source, target}
 
 -- node j goes from A to B
 pub record Goes (from to : ℕ → Ty) (j : ℕ) (A B : Ty) : Type 0 where

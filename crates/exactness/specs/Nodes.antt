@@ -13,7 +13,7 @@ use Rattle.report.specs.Nodes.{Node, comp, case, pair, disconnect, injl, injr, 
 use Rattle.report.specs.Nodes.{codeNode, codeProgram}
 use Rattle.report.specs.Canonical.{children}
 use Rattle.scope.specs.Nodes.{NodeRecord, nodeAt}
-use Rattle.scope.specs.Reading3to5.{Table}
+use Rattle.scope.specs.Reading.{Table}
 use Rattle.exactness.specs.Bits.{AllBelow, AreBits, AreBytes}
 
 -- what a node holds is of the right size

@@ -8,8 +8,8 @@ use Rattle.report.specs.Nodes.{Node, injl, unit}
 use Rattle.scope.specs.Check.{passed}
 use Rattle.scope.specs.Numbers.{streamOf}
 use Rattle.scope.specs.Nodes.{nodesOf}
-use Rattle.scope.specs.Reading3to5.{Table}
-use Rattle.scope.specs.Closing10.{decode}
+use Rattle.scope.specs.Reading.{Table}
+use Rattle.scope.specs.Closing.{decode}
 use Rattle.exactness.specs.Nodes.{layout}
 use Rattle.exactness.specs.Programs.{IsProgram}
 use Rattle.exactness.specs.Decoding.{decoded-is-program, decoded-nodes}

@@ -16,7 +16,7 @@ use Rattle.report.specs.Naturals.{codeNatural}
 use Rattle.report.specs.Nodes.{Node, codeNode, codeNodes, codeProgram}
 use Rattle.scope.specs.Check.{passed, refused}
 use Rattle.scope.specs.Nodes.{NodeRecord}
-use Rattle.scope.specs.Reading3to5.{refusalAt, hashesShort, Got, got, fault, Reader, give, stop, Item, naturalUpTo, node, nodeIn, Table, nodesFrom, readNodes}
+use Rattle.scope.specs.Reading.{refusalAt, hashesShort, Got, got, fault, Reader, give, stop, Item, naturalUpTo, node, nodeIn, Table, nodesFrom, readNodes}
 use Rattle.exactness.specs.Checks.{clash}
 use Rattle.exactness.specs.Bits.{AreBits}
 use Rattle.exactness.specs.Naturals.{naturalBound}

@@ -12,7 +12,7 @@ use borrow.Author.Tests.{leb-true, le-leb}
 use Rattle.report.specs.Bits.{Bit, bitsOf, numberFrom, bytesOf}
 use Rattle.report.specs.Naturals.{codeNatural}
 use Rattle.scope.specs.Naturals.{Natural, natural, ended, tooLong, readNatural}
-use Rattle.scope.specs.Reading3to5.{streamEnded, overBound, Got, got, fault, Reader, _>>=_, give, next, code, bounded, naturalUpTo, child, octets}
+use Rattle.scope.specs.Reading.{streamEnded, overBound, Got, got, fault, Reader, _>>=_, give, next, code, bounded, naturalUpTo, child, octets}
 use Rattle.exactness.specs.Checks.{clash}
 use Rattle.exactness.specs.Bits.{AreBits, AreBytes, below-drop, below-front, length-bits, length-bytes, bits-of-bytes, bytes-of-bits}
 use Rattle.exactness.specs.Naturals.{naturalBound, code-some, reads-code, read-is-code}

@@ -18,7 +18,7 @@ use Rattle.report.specs.Nodes.{Node, hidden}
 use Rattle.report.specs.Canonical.{children, isDone, upFrom}
 use Rattle.scope.specs.Check.{Check, passed, refused, _>>=_, require}
 use Rattle.scope.specs.Nodes.{nodeAt}
-use Rattle.scope.specs.Walk6to9.{hiddenAt, allowed, walkEach, walkMake, walkFrom, checkWalk}
+use Rattle.scope.specs.Walk.{hiddenAt, allowed, walkEach, walkMake, walkFrom, checkWalk}
 use Rattle.exactness.specs.Table.{length-entries, entries-at, before-at}
 use Rattle.exactness.specs.Checks.{clash, require-holds, both-passed}
 use Rattle.exactness.specs.Bits.{AllBelow}

@@ -3,8 +3,8 @@ use mathlib.Core.Path.{_≡_, sym, _∙_}
 use mathlib.Core.List.{List}
 use Prim.Native.Nat.{ℕ}
 use Rattle.scope.specs.Check.{Check}
-use Rattle.scope.specs.Reading3to5.{Table, Got}
-use Rattle.scope.specs.Bounds14.{Bound}
+use Rattle.scope.specs.Reading.{Table, Got}
+use Rattle.scope.specs.Bounds.{Bound}
 use Rattle.scope.specs.Run.{Left, Ended}
 use Rattle.exports.specs.Codes.{Judged, judgedBy, Decoding, decodingBy, Bounding, boundingBy, Staged, stagedBy, Finished, finishedBy, Read, readBy}
 

@@ -7,9 +7,9 @@ use Rattle.refusal.specs.declared.Refusal.{Refusal}
 use Rattle.refusal.specs.declared.Answer.{Answer}
 use Rattle.refusal.specs.Numbers.{numberOf, placeOf}
 use Rattle.scope.specs.Check.{Check, passed, refused}
-use Rattle.scope.specs.Reading3to5.{Table, Got, got, fault}
-use Rattle.scope.specs.Closing10.{nodesLeft, hashesLeft}
-use Rattle.scope.specs.Bounds14.{Bound}
+use Rattle.scope.specs.Reading.{Table, Got, got, fault}
+use Rattle.scope.specs.Closing.{nodesLeft, hashesLeft}
+use Rattle.scope.specs.Bounds.{Bound}
 use Rattle.scope.specs.Run.{Left, leftWith, Ended, ended}
 use Rattle.exactness.specs.Checks.{clash}
 use Rattle.bititer.specs.Answers.{naturalFault, gotNatural}

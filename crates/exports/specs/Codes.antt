@@ -6,9 +6,9 @@ use Rattle.refusal.specs.declared.Answer.{Answer}
 use Rattle.refusal.specs.declared.Answer.the-variants.{Value, Refused}
 use Rattle.refusal.specs.Numbers.{numberOf, placeOf}
 use Rattle.scope.specs.Check.{Check, passed, refused}
-use Rattle.scope.specs.Reading3to5.{Table, Got, got, fault, Fault, streamEnded, lengthTooLong, overBound, aJet, hashesShort}
-use Rattle.scope.specs.Closing10.{nodesLeft, hashesLeft}
-use Rattle.scope.specs.Bounds14.{Bound}
+use Rattle.scope.specs.Reading.{Table, Got, got, fault, Fault, streamEnded, lengthTooLong, overBound, aJet, hashesShort}
+use Rattle.scope.specs.Closing.{nodesLeft, hashesLeft}
+use Rattle.scope.specs.Bounds.{Bound}
 use Rattle.scope.specs.Run.{Left, Ended}
 use Rattle.table.specs.declared.Checked.{Checked}
 use Rattle.table.specs.declared.Checked.the-variants.{Passed, Refused as Stopped}

@@ -2,8 +2,8 @@
 use mathlib.Core.Path.{_≡_, refl, ap}
 use Prim.Native.Nat.{ℕ, _+_, _-_, _≤_, min}
 use native.Mathlib.Omega.{arith}
-use Rattle.scope.specs.Machine18and19.{forward, backward, reset}
-use Rattle.scope.specs.Machine18and19 as Machine
+use Rattle.scope.specs.Machine.{forward, backward, reset}
+use Rattle.scope.specs.Machine as Machine
 use Rattle.layout.specs.Mach.{frame}
 use Rattle.frame.specs.Cursor.{frameOf, largest, held}
 use Rattle.frame.specs.declared.Frame.{Frame}

@@ -3,7 +3,7 @@ use mathlib.Core.Path.{_≡_, sym, _∙_}
 use mathlib.Core.List.{List}
 use Prim.Native.Nat.{ℕ}
 use lib.ListN.{getD, set}
-use Rattle.scope.specs.Machine18and19 as Machine
+use Rattle.scope.specs.Machine as Machine
 use Rattle.layout.specs.Mach.{frame, noFrame, recordsOf}
 use Rattle.frame.specs.Cursor.{frameOf, held}
 use Rattle.frame.specs.Store.{withRecords}

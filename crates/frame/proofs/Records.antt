@@ -6,7 +6,7 @@ use native.Mathlib.Omega.{arith}
 use lib.ListN.{length, getD, set, List·getD-eq-default}
 use lib.Seq.{set-out}
 use Rattle.limits.specs.Limits.{frameNumbers}
-use Rattle.scope.specs.Machine18and19.{Frame}
+use Rattle.scope.specs.Machine.{Frame}
 use Rattle.layout.specs.Mach.{frame, noFrame, recordsOf, length-recordsOf, record-get}
 use Rattle.frame.specs.Store.{withRecords}
 

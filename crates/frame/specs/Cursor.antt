@@ -1,7 +1,7 @@
 -- A frame of the code as a frame of the requirements, and a cursor that is held at the largest number.
 -- A cursor that is moved back past 0 needs no word: the requirements' difference is then 0.
 use Prim.Native.Nat.{ℕ, min}
-use Rattle.scope.specs.Machine18and19 as Machine
+use Rattle.scope.specs.Machine as Machine
 use Rattle.layout.specs.Mach.{frame}
 use Rattle.frame.specs.declared.Frame.{Frame}
 

@@ -3,7 +3,7 @@ use mathlib.Core.List.{List, [], _∷_}
 use Prim.Native.Nat.{ℕ}
 use lib.ListN.{drop}
 use Rattle.limits.specs.Limits.{frameNumbers}
-use Rattle.scope.specs.Machine18and19.{Frame}
+use Rattle.scope.specs.Machine.{Frame}
 
 unfoldable pub withRecords : List Frame → (numbers : List ℕ) → List ℕ
 withRecords [] numbers = numbers

@@ -4,7 +4,7 @@
 ghost use mathlib.Core.Path.{_≡_};
 ghost use Prim.Native.Nat.{_+_, _-_, min};
 ghost use lib.ListN.{getD, set};
-ghost use Rattle.scope.specs.Machine18and19.{forward, backward, reset};
+ghost use Rattle.scope.specs.Machine.{forward, backward, reset};
 ghost use Rattle.layout.specs.Mach.{frame, noFrame, recordsOf};
 ghost use Rattle.frame.specs.Cursor.{frameOf, largest, held};
 ghost use Rattle.frame.specs.Store.{withRecords};

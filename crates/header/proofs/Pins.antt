@@ -2,7 +2,7 @@
 use mathlib.Core.Path.{_≡_, sym, _∙_}
 use mathlib.Core.List.{List}
 use Prim.Native.Nat.{ℕ}
-use Rattle.scope.specs.Header1.{count, checkHeader, section, opened}
+use Rattle.scope.specs.Header.{count, checkHeader, section, opened}
 use Rattle.header.specs.Answer.{headerAnswer}
 use Rattle.header.specs.declared.HeaderAnswer.{HeaderAnswer}
 

@@ -15,7 +15,7 @@ use Rattle.refusal.specs.declared.Refusal.{Refusal}
 use Rattle.refusal.specs.declared.Refusal.the-variants.{Header}
 use Rattle.scope.specs.Check.{Check, passed, refused, _>>=_, require, firstFailing, each}
 use Rattle.scope.specs.Numbers.{be16, bytesFor, every}
-use Rattle.scope.specs.Header1.{number, count, offset, size, start, countRule, typeCountRule, offsetRule, totalRule, headerRule, checkHeader, section, opened}
+use Rattle.scope.specs.Header.{number, count, offset, size, start, countRule, typeCountRule, offsetRule, totalRule, headerRule, checkHeader, section, opened}
 use Rattle.header.specs.Answer.{headerAnswer}
 use Rattle.header.specs.declared.HeaderAnswer.the-variants.{Passed, Refused}
 use Rattle.header.proofs.Checks.{every-one, every-last, fails-here, holds-here, first-holds}

@@ -7,7 +7,7 @@ ghost use lib.ListN.{length, getD};
 ghost use Rattle.limits.specs.Limits.{dossierBytes};
 ghost use Rattle.scope.specs.Check.{firstFailing};
 ghost use Rattle.scope.specs.Numbers.{be16};
-ghost use Rattle.scope.specs.Header1.{number, count, size, start, headerRule, checkHeader, section, opened};
+ghost use Rattle.scope.specs.Header.{number, count, size, start, headerRule, checkHeader, section, opened};
 ghost use Rattle.header.specs.Answer.{headerAnswer};
 use refusal::Refusal;
 

@@ -8,7 +8,7 @@ use Rattle.report.specs.Bits.{Bit}
 use Rattle.report.specs.Types.{width, wordTy}
 use Rattle.report.specs.Terms.{Term}
 use Rattle.report.specs.Meaning.{done, _>>=_}
-use Rattle.scope.specs.Machine18and19.{State, Step, newFrame, moveFrame, dropFrame, writeBits, copy, fwd, exec}
+use Rattle.scope.specs.Machine.{State, Step, newFrame, moveFrame, dropFrame, writeBits, copy, fwd, exec}
 use Rattle.layout.specs.Mach.{Mach}
 use Rattle.layout.specs.Rules.{pushed, moved, dropped, bitsWritten, copied, forwarded}
 use Rattle.layout.specs.Exec.{Around, pairing, composing, disconnecting, firstOf, secondOf, thirdOf}

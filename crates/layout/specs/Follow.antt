@@ -12,7 +12,7 @@ use Rattle.report.specs.Bits.{Bit}
 use Rattle.report.specs.Values.{Cells}
 use Rattle.report.specs.Meaning.{Out, done, failed, pruned, stuck}
 use Rattle.scope.specs.Numbers.{tabulate}
-use Rattle.scope.specs.Machine18and19.{Frame, State, Step, setCell, putBits, copyCells, need, newFrame, moveFrame, dropFrame, writeBits, skip, copy, fwd, back, peek}
+use Rattle.scope.specs.Machine.{Frame, State, Step, setCell, putBits, copyCells, need, newFrame, moveFrame, dropFrame, writeBits, skip, copy, fwd, back, peek}
 use Rattle.layout.specs.Mach.{Mach, mach-eq, frame}
 use Rattle.layout.specs.Rules.{pushed, moved, dropped, bitWritten, bitsWritten, bitWritten-list, skipped, copied, forwarded, backed, peeked}
 use Rattle.layout.specs.Safe.{PushOk, MoveOk, DropOk, WriteOk, ReadOk, BackOk, CopyOk}

@@ -11,7 +11,7 @@ use Rattle.report.specs.Values.{Val, Cells, padded}
 use Rattle.report.specs.Terms.{Term, iden, comp, unit, injl, injr, case, pair, take, drop, assertl, assertr, fail, witness, word, disconnect, bad}
 use Rattle.report.specs.Meaning.{done, failed, pruned, stuck, _>>=_}
 use Rattle.scope.specs.Numbers.{tabulate}
-use Rattle.scope.specs.Machine18and19.{State, Step, newFrame, moveFrame, dropFrame, writeBits, skip, fwd, back, peek, exec}
+use Rattle.scope.specs.Machine.{State, Step, newFrame, moveFrame, dropFrame, writeBits, skip, fwd, back, peek, exec}
 use Rattle.layout.specs.Mach.{Mach}
 use Rattle.layout.specs.Rules.{bitWritten, skipped, forwarded, backed, peeked}
 use Rattle.layout.specs.Exec.{Outcome, Around, pairing, composing, disconnecting, firstOf, secondOf, thirdOf, around, returning, under, tagged, runTerm, returning-none}

@@ -10,7 +10,7 @@ use borrow.Author.Tests.{eq-eqb, ne-eqb}
 use Rattle.report.specs.Bits.{Bit}
 use Rattle.report.specs.Values.{Cells}
 use Rattle.scope.specs.Numbers.{tabulateFrom, tabulate}
-use Rattle.scope.specs.Machine18and19.{Frame, State, setCell, putBits, copyCells}
+use Rattle.scope.specs.Machine.{Frame, State, setCell, putBits, copyCells}
 use Rattle.layout.specs.Mach.{Mach, mach, noFrame}
 use Rattle.layout.specs.Rules.{bitsPut, bitsCopied, bitsCopied-first}
 

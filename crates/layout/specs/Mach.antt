@@ -7,7 +7,7 @@ use Prim.Native.Nat.{ℕ, zero, suc, _+_, _-_, _*_, _/_, _<_}
 use native.Mathlib.Omega.{arith}
 use lib.ListN.{length, getD, set, replicate}
 use Rattle.limits.specs.Limits.{frameNumbers}
-use Rattle.scope.specs.Machine18and19.{Frame}
+use Rattle.scope.specs.Machine.{Frame}
 
 -- a frame by its three numbers
 abbrev pub frame : (cursor start len : ℕ) → Frame

@@ -6,7 +6,7 @@ use lib.ListN.{length}
 use Rattle.report.specs.Values.{Cells}
 use Rattle.report.specs.Meaning.{Out, done, failed, pruned, stuck, _>>=_}
 use Rattle.scope.specs.Numbers.{tabulate}
-use Rattle.scope.specs.Machine18and19.{State, Step}
+use Rattle.scope.specs.Machine.{State, Step}
 use Rattle.layout.specs.Mach.{Mach}
 use Rattle.layout.specs.Exec.{Outcome}
 use Rattle.layout.specs.Layout.{layout, length-tabulate}

@@ -9,7 +9,7 @@ use native.Mathlib.Nat.{add-zero}
 use native.Mathlib.Numerals.{add-one}
 use lib.ListN.{length, getD, set, replicate, length-set}
 use Rattle.report.specs.Bits.{Bit}
-use Rattle.scope.specs.Machine18and19.{Frame}
+use Rattle.scope.specs.Machine.{Frame}
 use Rattle.layout.specs.Mach.{Mach, mach, frame, noFrame, writePlace, readPlace, activeWrite, activeRead}
 
 -- a list of cells with bits from a place on, one after the other

@@ -10,7 +10,7 @@ use Rattle.report.specs.Types.{Ty, width, padL, padR, wordTy}
 use Rattle.report.specs.Values.{Val, padded}
 use Rattle.report.specs.Terms.{Term, iden, comp, unit, injl, injr, case, pair, take, drop, assertl, assertr, fail, witness, word, disconnect, bad}
 use Rattle.report.specs.Meaning.{done}
-use Rattle.scope.specs.Machine18and19.{Frame}
+use Rattle.scope.specs.Machine.{Frame}
 use Rattle.layout.specs.Mach.{Mach, mach, activeWrite, activeRead}
 use Rattle.layout.specs.Rules.{pushed, moved, dropped, bitWritten, bitsWritten, skipped, copied, forwarded, peeked}
 use Rattle.layout.specs.Exec.{Outcome, Around, pairing, composing, disconnecting, firstOf, secondOf, runTerm, withInput, withOutput}

@@ -12,7 +12,7 @@ use Rattle.report.specs.Values.{Val, Cells, padded}
 use Rattle.report.specs.Terms.{Term}
 use Rattle.report.specs.Meaning.{done, _>>=_}
 use Rattle.scope.specs.Numbers.{tabulate}
-use Rattle.scope.specs.Machine18and19.{Frame, State, Step, newFrame, moveFrame, writeBits, exec, input, output, machine}
+use Rattle.scope.specs.Machine.{Frame, State, Step, newFrame, moveFrame, writeBits, exec, input, output, machine}
 use Rattle.layout.specs.Mach.{Mach, mach-eq, noFrame, empty}
 use Rattle.layout.specs.Rules.{pushed, moved, bitsWritten}
 use Rattle.layout.specs.Exec.{runTerm, withInput, withOutput, runWhole}

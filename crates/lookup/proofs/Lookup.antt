@@ -5,9 +5,9 @@ use Prim.Native.Nat.{ℕ, _-_, _≤_, _<_, max}
 use native.Mathlib.Omega.{arith}
 use borrow.Author.Tests.{eq-eqb, ne-eqb}
 use lib.ListN.{getD}
-use Rattle.scope.specs.Types2.{typeRecords}
+use Rattle.scope.specs.Types.{typeRecords}
 use Rattle.scope.specs.Nodes.{NodeRecord}
-use Rattle.scope.specs.Arrows11and12.{arrowRecords, source, target, leftAt}
+use Rattle.scope.specs.Arrows.{arrowRecords, source, target, leftAt}
 use Rattle.lookup.specs.declared.Around.{Around}
 use Rattle.lookup.specs.declared.Around.the-variants.{Pairing, Composing, Disconnecting}
 use Rattle.lookup.specs.declared.Padding.{Padding}

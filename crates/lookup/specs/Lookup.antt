@@ -4,10 +4,10 @@ use mathlib.Core.List.{List}
 use Prim.Native.Nat.{ℕ, _-_, max}
 use lib.Dec.{eqb}
 use lib.ListN.{getD}
-use Rattle.scope.specs.Types2.{typeRecords}
+use Rattle.scope.specs.Types.{typeRecords}
 use Rattle.scope.specs.Nodes.{NodeRecord, nodeRecords}
-use Rattle.scope.specs.Stages26.{noRecord}
-use Rattle.scope.specs.Arrows11and12.{arrowRecords, source, target, leftAt, rightAt}
+use Rattle.scope.specs.Stages.{noRecord}
+use Rattle.scope.specs.Arrows.{arrowRecords, source, target, leftAt, rightAt}
 use Rattle.lookup.specs.declared.Padding.{Padding}
 use Rattle.lookup.specs.declared.Around.{Around}
 use Rattle.lookup.specs.declared.Around.the-variants.{Pairing, Composing, Disconnecting}

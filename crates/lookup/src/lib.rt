@@ -2,8 +2,8 @@
 // Each is total: past the end of a table stands an arrow of unit to unit, a type of width 0, a node of no kind.
 ghost use mathlib.Core.Path.{_≡_};
 ghost use lib.ListN.{getD};
-ghost use Rattle.scope.specs.Types2.{typeRecords};
-ghost use Rattle.scope.specs.Arrows11and12.{arrowRecords, source, target, leftAt};
+ghost use Rattle.scope.specs.Types.{typeRecords};
+ghost use Rattle.scope.specs.Arrows.{arrowRecords, source, target, leftAt};
 ghost use Rattle.lookup.specs.Lookup.{paddingOf, paddingIn, aroundIn};
 
 // How many cells of padding follow the tag of a sum's left part, and of its right part.

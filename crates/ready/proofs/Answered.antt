@@ -8,16 +8,16 @@ use Rattle.report.specs.Types.{width}
 use Rattle.report.specs.Values.{Val}
 use Rattle.scope.specs.Check.{Check, passed, refused, _>>=_}
 use Rattle.scope.specs.Numbers.{zeros, streamOf}
-use Rattle.scope.specs.Types2.{typeRecords, tyAt}
+use Rattle.scope.specs.Types.{typeRecords, tyAt}
 use Rattle.scope.specs.Nodes.{nodeRecords, nodesOf}
-use Rattle.scope.specs.Arrows11and12.{arrowRecords, source, target}
+use Rattle.scope.specs.Arrows.{arrowRecords, source, target}
 use Rattle.scope.specs.Program.{Program, sourceTy, targetTy, last, wholeSource, wholeTarget}
-use Rattle.scope.specs.Bounds14.{checkBounds, wholeCells, wholeFrames}
-use Rattle.scope.specs.Witness15.{checkWitness}
-use Rattle.scope.specs.Input16.{checkInput}
-use Rattle.scope.specs.Stores17.{checkStores}
+use Rattle.scope.specs.Bounds.{checkBounds, wholeCells, wholeFrames}
+use Rattle.scope.specs.Witness.{checkWitness}
+use Rattle.scope.specs.Input.{checkInput}
+use Rattle.scope.specs.Stores.{checkStores}
 use Rattle.scope.specs.Run.{Tables, programOf, Ready, checkReady}
-use Rattle.scope.specs.Stages26.{lent, arrowStage, hashStage}
+use Rattle.scope.specs.Stages.{lent, arrowStage, hashStage}
 use Rattle.exactness.specs.Checks.{clash, then-passes}
 use Rattle.theory.specs.NodeTerms.{cells-alike, frames-alike}
 use Rattle.table.specs.declared.Checked.the-variants.{Passed, Refused}

@@ -14,11 +14,11 @@ use Rattle.report.specs.Types.{width}
 use Rattle.report.specs.Values.{⟨⟩, compact, Read, value, short, readValue}
 use Rattle.report.specs.Nodes.{Node}
 use Rattle.scope.specs.Numbers.{every}
-use Rattle.scope.specs.Types2.{TypeRecord, typeRecords, tyAt}
+use Rattle.scope.specs.Types.{TypeRecord, typeRecords, tyAt}
 use Rattle.scope.specs.Nodes.{Kind, kindOf, nodeOf, NodeRecord, nodesOf, nodeAt, onWitness}
-use Rattle.scope.specs.Arrows11and12.{Arrow, noArrow, target}
-use Rattle.scope.specs.Stages26.{noRecord}
-use Rattle.scope.specs.Closing10.{closes}
+use Rattle.scope.specs.Arrows.{Arrow, noArrow, target}
+use Rattle.scope.specs.Stages.{noRecord}
+use Rattle.scope.specs.Closing.{closes}
 use Rattle.exactness.specs.Checks.{not-both}
 use Rattle.bititer.proofs.Closing.{closes-past}
 use Rattle.table.proofs.Records.{node-at}

@@ -13,11 +13,11 @@ use Rattle.report.specs.Types.{Ty, width}
 use Rattle.report.specs.Values.{Val, Read, value, short, readValue}
 use Rattle.scope.specs.Check.{Check, passed, refused, _>>=_, require}
 use Rattle.scope.specs.Numbers.{streamOf, every, bytesFor}
-use Rattle.scope.specs.Closing10.{closes}
+use Rattle.scope.specs.Closing.{closes}
 use Rattle.scope.specs.Program.{Program, wholeTarget}
-use Rattle.scope.specs.Bounds14.{wholeCells, wholeFrames, checkLimits}
-use Rattle.scope.specs.Input16.{checkInput}
-use Rattle.scope.specs.Stores17.{checkStores}
+use Rattle.scope.specs.Bounds.{wholeCells, wholeFrames, checkLimits}
+use Rattle.scope.specs.Input.{checkInput}
+use Rattle.scope.specs.Stores.{checkStores}
 use Rattle.exactness.specs.Checks.{clash, both-passed, require-holds}
 use Rattle.ready.proofs.FirstBits.{in-all}
 

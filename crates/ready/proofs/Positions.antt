@@ -14,11 +14,11 @@ use Rattle.report.specs.Nodes.{Node, comp, case, pair, disconnect, injl, injr, 
 use Rattle.report.specs.Nodes as Node
 use Rattle.scope.specs.Check.{passed, refused}
 use Rattle.scope.specs.Numbers.{tabulate}
-use Rattle.scope.specs.Types2.{TypeRecord, tyAt}
+use Rattle.scope.specs.Types.{TypeRecord, tyAt}
 use Rattle.scope.specs.Nodes.{nodeAt, onWitness}
-use Rattle.scope.specs.Arrows11and12.{Arrow, target}
+use Rattle.scope.specs.Arrows.{Arrow, target}
 use Rattle.scope.specs.Program.{valueFrom}
-use Rattle.scope.specs.Witness15.{Values, valuesFrom}
+use Rattle.scope.specs.Witness.{Values, valuesFrom}
 use Rattle.exactness.specs.Checks.{clash}
 use Rattle.types.proofs.Tables.{tabulate-more}
 use Rattle.value.proofs.Types.{read-fit}

@@ -17,18 +17,18 @@ use Rattle.report.specs.Canonical.{children}
 use Rattle.report.specs.Meaning.{stuck}
 use Rattle.scope.specs.Check.{passed, _>>=_, require}
 use Rattle.scope.specs.Numbers.{streamOf, tabulate, every, bytesFor, zeros}
-use Rattle.scope.specs.Types2.{TypeRecord, typeRecords, tyAt, checkTypes}
+use Rattle.scope.specs.Types.{TypeRecord, typeRecords, tyAt, checkTypes}
 use Rattle.scope.specs.Nodes.{nodeRecords, nodeAt, onWitness}
-use Rattle.scope.specs.Closing10.{closes}
-use Rattle.scope.specs.Arrows11and12.{Arrow, arrowRecords, target}
+use Rattle.scope.specs.Closing.{closes}
+use Rattle.scope.specs.Arrows.{Arrow, arrowRecords, target}
 use Rattle.scope.specs.Program.{Program, valueFrom, whole, wholeSource, wholeTarget}
-use Rattle.scope.specs.Bounds14.{wholeCells, wholeFrames, wholeCost, checkBounds}
-use Rattle.scope.specs.Witness15.{Values, valuesFrom, checkWitness}
-use Rattle.scope.specs.Input16.{checkInput}
-use Rattle.scope.specs.Stores17.{checkStores}
+use Rattle.scope.specs.Bounds.{wholeCells, wholeFrames, wholeCost, checkBounds}
+use Rattle.scope.specs.Witness.{Values, valuesFrom, checkWitness}
+use Rattle.scope.specs.Input.{checkInput}
+use Rattle.scope.specs.Stores.{checkStores}
 use Rattle.scope.specs.Run.{Tables, programOf, Ready, checkReady, cellsOf}
-use Rattle.scope.specs.Stages26.{counted, lent, arrowStage, hashStage}
-use Rattle.scope.specs.Machine18and19.{machine}
+use Rattle.scope.specs.Stages.{counted, lent, arrowStage, hashStage}
+use Rattle.scope.specs.Machine.{machine}
 use Rattle.exactness.specs.Checks.{clash, both-passed, then-passes}
 use Rattle.exactness.specs.Bits.{AllBelow}
 use Rattle.exactness.specs.NodeTyping.{NodeTyped, Word, fromTy, toTy}

@@ -8,10 +8,10 @@ use Rattle.report.specs.Types.{width}
 use Rattle.report.specs.Values.{Val}
 use Rattle.report.specs.Nodes.{Node}
 use Rattle.scope.specs.Check.{Check, passed, refused, _>>=_}
-use Rattle.scope.specs.Types2.{TypeRecord, tyAt}
-use Rattle.scope.specs.Arrows11and12.{Arrow, noArrow, source, target}
-use Rattle.scope.specs.Witness15.{checkWitness}
-use Rattle.scope.specs.Input16.{checkInput}
+use Rattle.scope.specs.Types.{TypeRecord, tyAt}
+use Rattle.scope.specs.Arrows.{Arrow, noArrow, source, target}
+use Rattle.scope.specs.Witness.{checkWitness}
+use Rattle.scope.specs.Input.{checkInput}
 use Rattle.exactness.specs.Checks.{clash}
 use Rattle.table.specs.declared.Checked.the-variants.{Passed, Refused}
 use Rattle.ready.specs.Positions.{positionsOf}

@@ -8,10 +8,10 @@ use Rattle.refusal.specs.declared.Refusal.{Refusal}
 use Rattle.refusal.specs.declared.Answer.the-variants.{Refused}
 use Rattle.scope.specs.Check.{Check, passed, refused, _>>=_}
 use Rattle.scope.specs.Numbers.{zeros}
-use Rattle.scope.specs.Bounds14.{wholeCells, wholeFrames}
-use Rattle.scope.specs.Stores17.{checkStores}
+use Rattle.scope.specs.Bounds.{wholeCells, wholeFrames}
+use Rattle.scope.specs.Stores.{checkStores}
 use Rattle.scope.specs.Run.{Tables, Ready, checkReady, Left, leftWith, ran, runTables}
-use Rattle.scope.specs.Stages26.{lent, hashStage, runStage}
+use Rattle.scope.specs.Stages.{lent, hashStage, runStage}
 use Rattle.exactness.specs.Checks.{clash, both-passed}
 use Rattle.types.specs.Table.{typeWidths, typeNext}
 use Rattle.ready.specs.Positions.{positionsOf}

@@ -14,8 +14,8 @@ use Rattle.report.specs.Types.{Ty}
 use Rattle.report.specs.Values.{Val, compact, Read, value, short, readValue}
 use Rattle.scope.specs.Check.{passed, refused, _>>=_, require}
 use Rattle.scope.specs.Numbers.{streamOf, every, bytesFor}
-use Rattle.scope.specs.Closing10.{closes}
-use Rattle.scope.specs.Input16.{checkInput}
+use Rattle.scope.specs.Closing.{closes}
+use Rattle.scope.specs.Input.{checkInput}
 use Rattle.exactness.specs.Checks.{clash}
 use Rattle.table.specs.declared.Checked.{Checked}
 use Rattle.table.specs.declared.Checked.the-variants.{Passed, Refused}

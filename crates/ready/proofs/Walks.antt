@@ -15,11 +15,11 @@ use Rattle.report.specs.Values.{Val, ⟨⟩, compact, Read, value, short, readV
 use Rattle.report.specs.Nodes.{Node}
 use Rattle.scope.specs.Check.{Check, passed, refused, _>>=_, require}
 use Rattle.scope.specs.Numbers.{zeros, tabulate, streamOf, every}
-use Rattle.scope.specs.Types2.{TypeRecord, tyAt}
+use Rattle.scope.specs.Types.{TypeRecord, tyAt}
 use Rattle.scope.specs.Nodes.{nodeAt}
-use Rattle.scope.specs.Arrows11and12.{Arrow, target}
-use Rattle.scope.specs.Closing10.{closes}
-use Rattle.scope.specs.Witness15.{Values, checkWitness}
+use Rattle.scope.specs.Arrows.{Arrow, target}
+use Rattle.scope.specs.Closing.{closes}
+use Rattle.scope.specs.Witness.{Values, checkWitness}
 use Rattle.exactness.specs.Checks.{clash}
 use Rattle.table.specs.declared.Checked.the-variants.{Passed}
 use Rattle.types.proofs.Tables.{length-tabulate, tabulate-more}

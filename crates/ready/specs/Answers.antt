@@ -11,13 +11,13 @@ use Rattle.report.specs.Values.{compact, Read, value, short}
 use Rattle.report.specs.Nodes.{Node}
 use Rattle.scope.specs.Check.{Check, passed, refused, _>>=_, require}
 use Rattle.scope.specs.Numbers.{zeros, bytesFor}
-use Rattle.scope.specs.Types2.{TypeRecord, typeRecords, tyAt}
-use Rattle.scope.specs.Arrows11and12.{Arrow, arrowRecords, source, target}
-use Rattle.scope.specs.Bounds14.{wholeCells, wholeFrames}
-use Rattle.scope.specs.Witness15.{checkWitness}
-use Rattle.scope.specs.Input16.{checkInput}
+use Rattle.scope.specs.Types.{TypeRecord, typeRecords, tyAt}
+use Rattle.scope.specs.Arrows.{Arrow, arrowRecords, source, target}
+use Rattle.scope.specs.Bounds.{wholeCells, wholeFrames}
+use Rattle.scope.specs.Witness.{checkWitness}
+use Rattle.scope.specs.Input.{checkInput}
 use Rattle.scope.specs.Run.{checkReady}
-use Rattle.scope.specs.Stages26.{lent, hashStage}
+use Rattle.scope.specs.Stages.{lent, hashStage}
 use Rattle.table.specs.declared.Checked.{Checked}
 use Rattle.table.specs.declared.Checked.the-variants.{Passed, Refused}
 use Rattle.types.specs.Table.{typeWidths, typeNext}

@@ -11,13 +11,13 @@ use Rattle.report.specs.Values.{Val, ⟨⟩, value, readValue}
 use Rattle.report.specs.Nodes.{Node, word, witness}
 use Rattle.report.specs.Canonical.{children}
 use Rattle.scope.specs.Numbers.{streamOf, tabulate}
-use Rattle.scope.specs.Types2.{typeRecords, tyAt}
+use Rattle.scope.specs.Types.{typeRecords, tyAt}
 use Rattle.scope.specs.Nodes.{nodeRecords, nodesOf, nodeAt, onWitness}
 use Rattle.scope.specs.Check.{passed}
-use Rattle.scope.specs.Arrows11and12.{arrowRecords, target}
+use Rattle.scope.specs.Arrows.{arrowRecords, target}
 use Rattle.scope.specs.Program.{Program, valueFrom}
 use Rattle.scope.specs.Run.{programOf}
-use Rattle.scope.specs.Stages26.{lent}
+use Rattle.scope.specs.Stages.{lent}
 use Rattle.types.specs.Table.{checkTable, typeWidths, typeNext}
 use Rattle.exactness.specs.Bits.{AllBelow}
 

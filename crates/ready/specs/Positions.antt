@@ -8,9 +8,9 @@ use Rattle.report.specs.Bits.{Bit}
 use Rattle.report.specs.Values.{⟨⟩, compact, Read, value, short, readValue}
 use Rattle.report.specs.Nodes.{Node}
 use Rattle.scope.specs.Numbers.{zeros, streamOf, tabulate}
-use Rattle.scope.specs.Types2.{TypeRecord, tyAt}
+use Rattle.scope.specs.Types.{TypeRecord, tyAt}
 use Rattle.scope.specs.Nodes.{nodeAt, onWitness}
-use Rattle.scope.specs.Arrows11and12.{Arrow, target}
+use Rattle.scope.specs.Arrows.{Arrow, target}
 
 -- how many bits a value that was read takes
 unfoldable pub bitsTaken : Read → ℕ

@@ -11,7 +11,7 @@ use Rattle.report.specs.Values.{Val, ⟨⟩}
 use Rattle.report.specs.Terms.{Term, iden, comp, unit, injl, injr, case, pair, take, drop, assertl, assertr, fail, witness, word, disconnect}
 use Rattle.scope.specs.Check.{Check, passed, refused}
 use Rattle.scope.specs.Numbers.{same}
-use Rattle.scope.specs.Bounds14.{Bound, bounds, checkLimits}
+use Rattle.scope.specs.Bounds.{Bound, bounds, checkLimits}
 
 -- a cell of the table, at a term
 pub data Line : Type 0 where

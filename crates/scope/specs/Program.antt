@@ -11,10 +11,10 @@ use Rattle.report.specs.Values.{Val, ⟨⟩, Read, value, short, readValue}
 use Rattle.report.specs.Nodes.{Node}
 use Rattle.report.specs.Nodes as Node
 use Rattle.report.specs.Terms.{Term, iden, comp, unit, injl, injr, case, pair, take, drop, assertl, assertr, fail, witness, word, disconnect, bad}
-use Rattle.scope.specs.Types2.{TypeRecord, tyAt}
+use Rattle.scope.specs.Types.{TypeRecord, tyAt}
 use Rattle.scope.specs.Nodes.{nodeAt}
-use Rattle.scope.specs.Walk6to9.{hiddenAt}
-use Rattle.scope.specs.Arrows11and12.{Arrow, source, target}
+use Rattle.scope.specs.Walk.{hiddenAt}
+use Rattle.scope.specs.Arrows.{Arrow, source, target}
 
 -- `witnesses` has a value for each node, of which only those of witness nodes are used; `hash j` is the hash of the branch at node j, as a word of 256 bits
 pub record Program : Type 0 where

@@ -11,7 +11,7 @@ use Rattle.refusal.specs.Numbers.{numberOf, placeOf}
 use Rattle.scope.specs.Check.{Check, passed, refused, _>>=_}
 use Rattle.scope.specs.Numbers.{every, same}
 use Rattle.scope.specs.Program.{Program}
-use Rattle.scope.specs.Bounds14.{checkBounds, wholeCells, wholeFrames, wholeCost}
+use Rattle.scope.specs.Bounds.{checkBounds, wholeCells, wholeFrames, wholeCost}
 use Rattle.scope.specs.Run.{Ended, run, checkDossier, tablesOf, programOf}
 
 -- k digits of a number to a base, the highest first

@@ -17,19 +17,19 @@ use Rattle.report.specs.Nodes.{Node}
 use Rattle.report.specs.Meaning.{Out, done, failed, pruned, stuck}
 use Rattle.scope.specs.Check.{Check, passed, refused, _>>=_}
 use Rattle.scope.specs.Numbers.{zeros, filled, bytesFor, streamOf, tabulate}
-use Rattle.scope.specs.Header1.{checkHeader, section, count, sTypes, sProgram, sArrows, sWitness, sInput, sHashes}
-use Rattle.scope.specs.Types2.{TypeRecord, typeRecords, checkTypes}
+use Rattle.scope.specs.Header.{checkHeader, section, count, sTypes, sProgram, sArrows, sWitness, sInput, sHashes}
+use Rattle.scope.specs.Types.{TypeRecord, typeRecords, checkTypes}
 use Rattle.scope.specs.Nodes.{NodeRecord, nodeNumbersOf, nodesOf}
-use Rattle.scope.specs.Reading3to5.{Table}
-use Rattle.scope.specs.Closing10.{decode}
-use Rattle.scope.specs.Arrows11and12.{Arrow, arrowRecords, checkArrows}
-use Rattle.scope.specs.Hashes13.{checkHashes, branchHash}
+use Rattle.scope.specs.Reading.{Table}
+use Rattle.scope.specs.Closing.{decode}
+use Rattle.scope.specs.Arrows.{Arrow, arrowRecords, checkArrows}
+use Rattle.scope.specs.Hashes.{checkHashes, branchHash}
 use Rattle.scope.specs.Program.{Program, valueFrom, whole, wholeSource, wholeTarget}
-use Rattle.scope.specs.Bounds14.{checkBounds, wholeCells, wholeFrames}
-use Rattle.scope.specs.Witness15.{checkWitness}
-use Rattle.scope.specs.Input16.{checkInput}
-use Rattle.scope.specs.Stores17.{checkStores}
-use Rattle.scope.specs.Machine18and19.{State, Step, machine}
+use Rattle.scope.specs.Bounds.{checkBounds, wholeCells, wholeFrames}
+use Rattle.scope.specs.Witness.{checkWitness}
+use Rattle.scope.specs.Input.{checkInput}
+use Rattle.scope.specs.Stores.{checkStores}
+use Rattle.scope.specs.Machine.{State, Step, machine}
 
 -- the tables of a program, and the bits that it is run on
 pub record Tables : Type 0 where

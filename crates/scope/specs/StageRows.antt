@@ -9,11 +9,11 @@ use lib.ListN.{replicate}
 use Rattle.limits.specs.Limits.{nodeCount, typeCount, dossierBytes}
 use Rattle.scope.specs.Check.{Check}
 use Rattle.scope.specs.Numbers.{zeros, every, same, tabulate}
-use Rattle.scope.specs.Header1.{opened}
+use Rattle.scope.specs.Header.{opened}
 use Rattle.scope.specs.Nodes.{nodeRecords, nodesOf}
-use Rattle.scope.specs.Hashes13.{countPlace, branchHash}
+use Rattle.scope.specs.Hashes.{countPlace, branchHash}
 use Rattle.scope.specs.Run.{Left}
-use Rattle.scope.specs.Stages26.{counted, walkStage, arrowStage, hashStage, boundsStage, runStage}
+use Rattle.scope.specs.Stages.{counted, walkStage, arrowStage, hashStage, boundsStage, runStage}
 use Rattle.scope.specs.Rows.{digits, bytes, said}
 use Rattle.scope.specs.BoundsTable.{told}
 

@@ -14,8 +14,8 @@ use Rattle.report.specs.Canonical.{children, upFrom}
 use Rattle.scope.specs.Check.{Check, passed, refused, _>>=_, require}
 use Rattle.scope.specs.Numbers.{every, anyBelow}
 use Rattle.scope.specs.Nodes.{Kind, kComp, kCase, kPair, kDisconnect, kInjl, kInjr, kTake, kDrop, kIden, kUnit, kFail, kDisconnect1, kWitness, kHidden, kWord, kUnknown, kindOf, NodeRecord, nodeOf, nodesOf, nodeAt, onHidden}
-use Rattle.scope.specs.Walk6to9.{hiddenAt, hides, noneHidden, allowed, walkFrom, checkWalk}
-use Rattle.scope.specs.Stages26.{noRecord}
+use Rattle.scope.specs.Walk.{hiddenAt, hides, noneHidden, allowed, walkFrom, checkWalk}
+use Rattle.scope.specs.Stages.{noRecord}
 use Rattle.exactness.specs.Walk.{count, arriveCount, walkCount, walk-past, check-walk-count}
 use Rattle.table.specs.Lent.{leftOf, rightOf}
 use Rattle.table.specs.Walking.{childWalk}

@@ -11,7 +11,7 @@ use borrow.Author.Tests.{lt-ltb, lt-leb, ne-eqb}
 use Rattle.report.specs.Canonical.{children}
 use Rattle.scope.specs.Numbers.{every}
 use Rattle.scope.specs.Nodes.{Kind, kComp, kCase, kPair, kDisconnect, kInjl, kInjr, kTake, kDrop, kIden, kUnit, kFail, kDisconnect1, kWitness, kHidden, kWord, kUnknown, kindOf, nodeOf, onHidden}
-use Rattle.scope.specs.Stages26.{numbersRule}
+use Rattle.scope.specs.Stages.{numbersRule}
 use Rattle.exactness.specs.Checks.{clash}
 use Rattle.table.specs.Lent.{childCount, hiddenKind, hashIs}
 

@@ -13,8 +13,8 @@ use Rattle.limits.specs.Limits.{hashBytes}
 use Rattle.report.specs.Nodes.{Node}
 use Rattle.scope.specs.Numbers.{anyBelow, same}
 use Rattle.scope.specs.Nodes.{kindOf, NodeRecord, nodeOf, nodesOf, nodeAt, onHidden}
-use Rattle.scope.specs.Walk6to9.{hiddenAt, hides}
-use Rattle.scope.specs.Stages26.{noRecord}
+use Rattle.scope.specs.Walk.{hiddenAt, hides}
+use Rattle.scope.specs.Stages.{noRecord}
 use Rattle.table.specs.Lent.{nodeIs, hiddenKind, hashIs}
 use Rattle.table.proofs.Records.{node-at}
 use Rattle.table.proofs.Groups.{by-hidden}

@@ -8,8 +8,8 @@ use Rattle.limits.specs.Limits.{nodeCount}
 use Rattle.scope.specs.Check.{Check, passed, refused}
 use Rattle.scope.specs.Numbers.{same}
 use Rattle.scope.specs.Nodes.{kindOf, NodeRecord, nodeRecords}
-use Rattle.scope.specs.Walk6to9.{hiddenAt}
-use Rattle.scope.specs.Stages26.{counted, numbersRule, noRecord, walkStage}
+use Rattle.scope.specs.Walk.{hiddenAt}
+use Rattle.scope.specs.Stages.{counted, numbersRule, noRecord, walkStage}
 use Rattle.exactness.specs.Checks.{clash}
 use Rattle.table.specs.declared.NodeRecord.{NodeRecord as Lent}
 use Rattle.table.specs.declared.Checked.{Checked}

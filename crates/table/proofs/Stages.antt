@@ -14,8 +14,8 @@ use Rattle.refusal.specs.declared.Refusal.the-variants.{Header, HiddenElsewhere
 use Rattle.scope.specs.Check.{Check, passed, refused, _>>=_, require, firstFailing, each}
 use Rattle.scope.specs.Numbers.{streamOf}
 use Rattle.scope.specs.Nodes.{kindOf, NodeRecord, nodeRecords, nodesOf}
-use Rattle.scope.specs.Walk6to9.{hiddenAt, checkWalk}
-use Rattle.scope.specs.Stages26.{counted, numbersRule, noRecord, recordRule, checkRecords, walkStage}
+use Rattle.scope.specs.Walk.{hiddenAt, checkWalk}
+use Rattle.scope.specs.Stages.{counted, numbersRule, noRecord, recordRule, checkRecords, walkStage}
 use Rattle.exactness.specs.Checks.{both-passed}
 use Rattle.exactness.specs.Walk.{walkCount, check-walk-count}
 use Rattle.table.specs.declared.Checked.{Checked}

@@ -19,8 +19,8 @@ use Rattle.report.specs.Canonical.{children, upFrom}
 use Rattle.scope.specs.Check.{Check, passed, refused, _>>=_, require}
 use Rattle.scope.specs.Numbers.{every}
 use Rattle.scope.specs.Nodes.{Kind, kindOf, NodeRecord, nodeRecords, nodeOf, nodeAt, onHidden}
-use Rattle.scope.specs.Walk6to9.{hiddenAt, noneHidden, allowed, walkEach, walkMake, walkFrom, checkWalk}
-use Rattle.scope.specs.Stages26.{noRecord}
+use Rattle.scope.specs.Walk.{hiddenAt, noneHidden, allowed, walkEach, walkMake, walkFrom, checkWalk}
+use Rattle.scope.specs.Stages.{noRecord}
 use Rattle.exactness.specs.Checks.{clash, require-holds, both-passed}
 use Rattle.exactness.specs.Table.{before-none}
 use Rattle.exactness.specs.Walk.{length-upFrom, upFrom-more, done-below, arrive, arriveCount, count, walkCount, walksBefore, walkNode, walk-at, walk-is-count}

@@ -11,7 +11,7 @@ use lib.Pow.{pow-lt}
 use borrow.Author.Tests.{le-leb, lt-leb, eq-eqb, ne-eqb}
 use Rattle.limits.specs.Limits.{wordMost}
 use Rattle.scope.specs.Numbers.{every}
-use Rattle.scope.specs.Stages26.{numbersRule}
+use Rattle.scope.specs.Stages.{numbersRule}
 use Rattle.table.specs.Lent.{wordRule}
 
 pub every-one : (b : Bool) → every (b ∷ []) ≡ b

@@ -9,7 +9,7 @@ use Rattle.report.specs.Nodes.{Node}
 use Rattle.report.specs.Canonical.{children}
 use Rattle.scope.specs.Numbers.{every}
 use Rattle.scope.specs.Nodes.{Kind, kWord, kindOf, NodeRecord, nodeRecords, nodeOf, nodesOf, onHidden}
-use Rattle.scope.specs.Stages26.{numbersRule}
+use Rattle.scope.specs.Stages.{numbersRule}
 
 -- the nodes of a lent table; a word's bits play no part in a walk and are left out
 abbrev pub lentNodes : (hashes nodes : List ℕ) → List Node

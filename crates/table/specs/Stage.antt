@@ -5,8 +5,8 @@ use lib.ListN.{length}
 use Rattle.limits.specs.Limits.{nodeCount}
 use Rattle.scope.specs.Check.{Check, passed, refused, _>>=_}
 use Rattle.scope.specs.Nodes.{nodeRecords}
-use Rattle.scope.specs.Walk6to9.{checkWalk}
-use Rattle.scope.specs.Stages26.{counted, checkRecords}
+use Rattle.scope.specs.Walk.{checkWalk}
+use Rattle.scope.specs.Stages.{counted, checkRecords}
 use Rattle.table.specs.Lent.{lentNodes}
 
 -- 4, then 26

@@ -11,7 +11,7 @@ use Rattle.report.specs.Nodes.{Node}
 use Rattle.scope.specs.Check.{Check, passed, refused, _>>=_, require}
 use Rattle.scope.specs.Numbers.{every, anyBelow}
 use Rattle.scope.specs.Nodes.{nodeRecords}
-use Rattle.scope.specs.Walk6to9.{hides}
+use Rattle.scope.specs.Walk.{hides}
 use Rattle.exactness.specs.Walk.{walkCount}
 use Rattle.table.specs.Lent.{hashIs}
 

@@ -13,16 +13,16 @@ use Rattle.report.specs.Meaning.{eval}
 use Rattle.report.specs.Nodes.{Node, disconnect, hidden, word}
 use Rattle.report.specs.Canonical.{children}
 use Rattle.scope.specs.Check.{passed, _>>=_}
-use Rattle.scope.specs.Types2.{checkTypes}
+use Rattle.scope.specs.Types.{checkTypes}
 use Rattle.scope.specs.Nodes.{nodeAt}
-use Rattle.scope.specs.Walk6to9.{hiddenAt, allowed, checkWalk}
-use Rattle.scope.specs.Arrows11and12.{checkArrows}
-use Rattle.scope.specs.Hashes13.{checkHashes}
+use Rattle.scope.specs.Walk.{hiddenAt, allowed, checkWalk}
+use Rattle.scope.specs.Arrows.{checkArrows}
+use Rattle.scope.specs.Hashes.{checkHashes}
 use Rattle.scope.specs.Program.{Program, whole, wholeSource, sourceTy, targetTy, last}
-use Rattle.scope.specs.Bounds14.{checkBounds, wholeFrames}
-use Rattle.scope.specs.Witness15.{checkWitness}
-use Rattle.scope.specs.Input16.{checkInput}
-use Rattle.scope.specs.Stores17.{checkStores}
+use Rattle.scope.specs.Bounds.{checkBounds, wholeFrames}
+use Rattle.scope.specs.Witness.{checkWitness}
+use Rattle.scope.specs.Input.{checkInput}
+use Rattle.scope.specs.Stores.{checkStores}
 use Rattle.scope.specs.Run.{Tables, programOf, Ready, checkTables, checkReady, Left, cleared, ran, runTables}
 use Rattle.exactness.specs.Checks.{clash, both-passed}
 use Rattle.exactness.specs.Bits.{AllBelow}

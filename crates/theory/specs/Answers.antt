@@ -10,9 +10,9 @@ use Rattle.refusal.specs.declared.Answer.the-variants.{Value, Refused}
 use Rattle.report.specs.Types.{width}
 use Rattle.report.specs.Values.{Val, HasTy, compact}
 use Rattle.report.specs.Meaning.{done, failed, pruned, stuck, Means, eval}
-use Rattle.scope.specs.Machine18and19.{Step}
+use Rattle.scope.specs.Machine.{Step}
 use Rattle.scope.specs.Program.{Program, whole, wholeSource, wholeTarget}
-use Rattle.scope.specs.Bounds14.{wholeCells, wholeFrames}
+use Rattle.scope.specs.Bounds.{wholeCells, wholeFrames}
 use Rattle.scope.specs.Run.{Ready, Left, cellsOf, cleared, written, ends, ran}
 use Rattle.theory.specs.WholeRuns.{Ran, RanValue, RanFail, RanPrune}
 use Rattle.theory.specs.Sound.{Sound}

@@ -10,7 +10,7 @@ use lib.ListN.{length, getD}
 use Rattle.report.specs.Bits.{Bit}
 use Rattle.report.specs.Types.{Ty, one, sum, prod, width, padL, padR}
 use Rattle.report.specs.Values.{Val, inl, inr, _&_, HasTy, Cells, padded, valueAt}
-use Rattle.scope.specs.Machine18and19.{setCell, putBits, copyCells}
+use Rattle.scope.specs.Machine.{setCell, putBits, copyCells}
 use Rattle.exactness.specs.Values.{Hold, value-held}
 
 -- j is one of the n places from `at` on

@@ -10,8 +10,8 @@ use Rattle.report.specs.Values.{Val, Cells, valueAt}
 use Rattle.report.specs.Terms.{Term}
 use Rattle.report.specs.Typing.{Typed}
 use Rattle.report.specs.Meaning.{Out, done, failed, pruned, stuck, _>>=_, Means, eval}
-use Rattle.scope.specs.Machine18and19.{Frame, State, Step, state, exec}
-use Rattle.scope.specs.Bounds14.{Bound, bounds}
+use Rattle.scope.specs.Machine.{Frame, State, Step, state, exec}
+use Rattle.scope.specs.Bounds.{Bound, bounds}
 use Rattle.exactness.specs.Checks.{clash}
 use Rattle.theory.specs.Room.{tightCells, tight-within}
 use Rattle.theory.specs.Cells.{Apart, Kept}

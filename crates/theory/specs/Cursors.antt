@@ -6,7 +6,7 @@ use Rattle.report.specs.Types.{width, padL, padR, wordTy}
 use Rattle.report.specs.Values.{Cells, padded}
 use Rattle.report.specs.Terms.{Term, iden, comp, unit, injl, injr, case, pair, take, drop, assertl, assertr, fail, witness, word, disconnect, bad}
 use Rattle.report.specs.Meaning.{Out, done, failed, pruned, stuck, _>>=_}
-use Rattle.scope.specs.Machine18and19.{putBits, copyCells}
+use Rattle.scope.specs.Machine.{putBits, copyCells}
 
 -- what a term leaves in the cells, read at rd and written at wr, where the cells from nx on are free
 unfoldable pub onCells : Term → (rd wr nx : ℕ) → Cells → Out Cells Cells

@@ -12,8 +12,8 @@ use Rattle.report.specs.Values.{Val, HasTy, Cells, padded}
 use Rattle.report.specs.Terms.{Term, iden, comp, unit, injl, injr, case, pair, take, drop, assertl, assertr, disconnect}
 use Rattle.report.specs.Typing.{Typed, Iden, Comp, Unit·, Injl, Injr, Case, Pair, Take, Drop, Assertl, Assertr, Fail, Witness, Word, Disconnect}
 use Rattle.report.specs.Meaning.{Out, done, failed, pruned, stuck, _>>=_}
-use Rattle.scope.specs.Machine18and19.{Frame, State, state, forward, reset, putBits, copyCells, moveFrame, writeBits, skip, fwd, back, exec}
-use Rattle.scope.specs.Bounds14.{Bound, bounds}
+use Rattle.scope.specs.Machine.{Frame, State, state, forward, reset, putBits, copyCells, moveFrame, writeBits, skip, fwd, back, exec}
+use Rattle.scope.specs.Bounds.{Bound, bounds}
 use Rattle.theory.specs.Room.{tightCells, extraFrames}
 use Rattle.theory.specs.Cursors.{onCells}
 use Rattle.theory.specs.Instructions.{At, advance, advance-none, advance-advance, length-advance, at-less, at-advance, newFrame-does, writeBits-does, skip-does, copy-does, fwd-does, back-does, peek-does, dropFrame-does, value-does}

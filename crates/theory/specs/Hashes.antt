@@ -18,8 +18,8 @@ use Rattle.report.specs.Values.{HasTy}
 use Rattle.report.specs.Nodes.{Node, comp, case, pair, disconnect, injl, injr, take, drop, disconnect1, iden, unit, witness, fail, hidden, word}
 use Rattle.scope.specs.Check.{passed, require, each}
 use Rattle.scope.specs.Nodes.{nodeAt, onHidden, onDisconnect}
-use Rattle.scope.specs.Walk6to9.{hiddenAt}
-use Rattle.scope.specs.Hashes13.{countPlace, rights, whole, entry, clash, checkHashes, entryFor, branchHash}
+use Rattle.scope.specs.Walk.{hiddenAt}
+use Rattle.scope.specs.Hashes.{countPlace, rights, whole, entry, clash, checkHashes, entryFor, branchHash}
 use Rattle.scope.specs.Program.{valueFrom}
 use Rattle.exactness.specs.Checks as Checks
 use Rattle.exactness.specs.Checks.{not-both, both-passed, require-holds}

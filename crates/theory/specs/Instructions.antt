@@ -11,7 +11,7 @@ use Rattle.report.specs.Bits.{Bit}
 use Rattle.report.specs.Types.{Ty, width}
 use Rattle.report.specs.Values.{Val, HasTy, Cells, padded}
 use Rattle.report.specs.Meaning.{done}
-use Rattle.scope.specs.Machine18and19.{Frame, State, state, need, forward, backward, inFrame, putBits, copyCells, newFrame, dropFrame, writeBits, skip, copy, fwd, back, peek}
+use Rattle.scope.specs.Machine.{Frame, State, state, need, forward, backward, inFrame, putBits, copyCells, newFrame, dropFrame, writeBits, skip, copy, fwd, back, peek}
 use Rattle.exactness.specs.Values.{length-padded}
 
 -- n cells can be read or written at the cursor `at` of the active frame; where n is 0 there need be no frame

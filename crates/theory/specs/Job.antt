@@ -16,14 +16,14 @@ use Rattle.report.specs.Canonical.{children}
 use Rattle.report.specs.Meaning.{eval}
 use Rattle.scope.specs.Check.{Check, passed, refused, _>>=_}
 use Rattle.scope.specs.Numbers.{streamOf}
-use Rattle.scope.specs.Header1.{checkHeader, section, sTypes, sProgram}
-use Rattle.scope.specs.Types2.{typeRecords, checkTypes}
+use Rattle.scope.specs.Header.{checkHeader, section, sTypes, sProgram}
+use Rattle.scope.specs.Types.{typeRecords, checkTypes}
 use Rattle.scope.specs.Nodes.{nodeAt, nodesOf}
-use Rattle.scope.specs.Reading3to5.{Table}
-use Rattle.scope.specs.Walk6to9.{checkWalk}
-use Rattle.scope.specs.Closing10.{decode}
+use Rattle.scope.specs.Reading.{Table}
+use Rattle.scope.specs.Walk.{checkWalk}
+use Rattle.scope.specs.Closing.{decode}
 use Rattle.scope.specs.Program.{Program, whole, wholeSource}
-use Rattle.scope.specs.Stores17.{checkStores}
+use Rattle.scope.specs.Stores.{checkStores}
 use Rattle.scope.specs.Run.{Tables, Ready, checkTables, checkReady, tablesOf, checkDossier, leftWith, runTables, Ended, ended, run}
 use Rattle.exactness.specs.Checks.{clash, both-passed}
 use Rattle.exactness.specs.Bits.{AllBelow}

@@ -14,12 +14,12 @@ use Rattle.report.specs.Bits.{Bit}
 use Rattle.report.specs.Meaning.{eval}
 use Rattle.scope.specs.Check.{Check, passed, _>>=_, require}
 use Rattle.scope.specs.Numbers.{every, streamOf}
-use Rattle.scope.specs.Types2.{typeRecords, checkTypes}
+use Rattle.scope.specs.Types.{typeRecords, checkTypes}
 use Rattle.scope.specs.Nodes.{NodeRecord, nodeRecords, nodesOf}
-use Rattle.scope.specs.Walk6to9.{checkWalk}
+use Rattle.scope.specs.Walk.{checkWalk}
 use Rattle.scope.specs.Program.{whole}
 use Rattle.scope.specs.Run.{Tables, Ready, checkTables, checkReady, Left}
-use Rattle.scope.specs.Stages26.{counted, recordRule, checkRecords, lentTables, lent, hashStage, runStage}
+use Rattle.scope.specs.Stages.{counted, recordRule, checkRecords, lentTables, lent, hashStage, runStage}
 use Rattle.exactness.specs.Checks.{every-all, both-passed, require-holds, each-holds}
 use Rattle.exactness.specs.Bits.{length-bits}
 use Rattle.theory.specs.Records.{length-nodes, records-below, records-word}

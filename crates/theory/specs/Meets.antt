@@ -12,7 +12,7 @@ use Rattle.report.specs.Values.{Val, inl, inr, _&_, HasTy, Cells, padded, value
 use Rattle.report.specs.Terms.{Term, iden, comp, unit, injl, injr, case, pair, take, drop, assertl, assertr, disconnect}
 use Rattle.report.specs.Typing.{Typed, Iden, Comp, Unit·, Injl, Injr, Case, Pair, Take, Drop, Assertl, Assertr, Fail, Witness, Word, Disconnect}
 use Rattle.report.specs.Meaning.{Out, done, failed, pruned, _>>=_, Means, split, branch, eval}
-use Rattle.scope.specs.Machine18and19.{putBits, copyCells}
+use Rattle.scope.specs.Machine.{putBits, copyCells}
 use Rattle.exactness.specs.Values.{length-padded}
 use Rattle.theory.specs.Room.{tightCells}
 use Rattle.theory.specs.Cursors.{onCells}

@@ -14,12 +14,12 @@ use Rattle.report.specs.Values.{Val}
 use Rattle.report.specs.Nodes.{Node, comp, case, pair, disconnect, injl, injr, take, drop, disconnect1, iden, unit, witness, fail, hidden, word}
 use Rattle.report.specs.Canonical.{children}
 use Rattle.report.specs.Terms.{Term, bad}
-use Rattle.scope.specs.Types2.{TypeRecord, tyAt}
+use Rattle.scope.specs.Types.{TypeRecord, tyAt}
 use Rattle.scope.specs.Nodes.{nodeAt}
-use Rattle.scope.specs.Walk6to9.{hiddenAt}
-use Rattle.scope.specs.Arrows11and12.{Arrow, source, target}
+use Rattle.scope.specs.Walk.{hiddenAt}
+use Rattle.scope.specs.Arrows.{Arrow, source, target}
 use Rattle.scope.specs.Program.{Program, sourceTy, targetTy, caseTerm, termOf, termMake, termAt, last, whole, wholeSource, wholeTarget}
-use Rattle.scope.specs.Bounds14.{Bound, bounds, childRow, pairRow, caseRow, compRow, disconnectRow, wholeCells, wholeFrames, wholeCost}
+use Rattle.scope.specs.Bounds.{Bound, bounds, childRow, pairRow, caseRow, compRow, disconnectRow, wholeCells, wholeFrames, wholeCost}
 use Rattle.exactness.specs.Bits.{AllBelow}
 use Rattle.exactness.specs.Table.{length-entries, entries-at, entries-past}
 

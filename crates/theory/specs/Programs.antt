@@ -12,10 +12,10 @@ use Rattle.report.specs.Types.{width}
 use Rattle.report.specs.Values.{Val, HasTy, Cells, valueAt}
 use Rattle.report.specs.Typing.{Typed}
 use Rattle.report.specs.Meaning.{stuck, Means, eval, visits}
-use Rattle.scope.specs.Machine18and19.{Frame, Step, state, exec, machine, answer}
-use Rattle.scope.specs.Walk6to9.{hiddenAt}
+use Rattle.scope.specs.Machine.{Frame, Step, state, exec, machine, answer}
+use Rattle.scope.specs.Walk.{hiddenAt}
 use Rattle.scope.specs.Program.{Program, sourceTy, targetTy, termAt, last, whole, wholeSource, wholeTarget}
-use Rattle.scope.specs.Bounds14.{Bound, bounds, wholeCells, wholeFrames, wholeCost}
+use Rattle.scope.specs.Bounds.{Bound, bounds, wholeCells, wholeFrames, wholeCost}
 use Rattle.exactness.specs.Checks.{clash}
 use Rattle.theory.specs.Safety.{Good, safe}
 use Rattle.theory.specs.Visits.{visits-bound}

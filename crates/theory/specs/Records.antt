@@ -17,7 +17,7 @@ use Rattle.report.specs.Nodes.{hidden, word}
 use Rattle.report.specs.Canonical.{children}
 use Rattle.scope.specs.Numbers.{every}
 use Rattle.scope.specs.Nodes.{Kind, kComp, kCase, kPair, kDisconnect, kInjl, kInjr, kTake, kDrop, kIden, kUnit, kFail, kDisconnect1, kWitness, kHidden, kWord, kUnknown, kindOf, NodeRecord, nodeOf, nodesOf, nodeAt}
-use Rattle.scope.specs.Stages26.{numbersRule, noRecord, recordRule}
+use Rattle.scope.specs.Stages.{numbersRule, noRecord, recordRule}
 use Rattle.exactness.specs.Checks.{clash, not-both, every-all}
 use Rattle.exactness.specs.Bits.{AllBelow}
 

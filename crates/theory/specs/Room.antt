@@ -4,7 +4,7 @@ use Prim.Native.Nat.{ℕ, _+_, _≤_, max}
 use native.Mathlib.Omega.{arith}
 use Rattle.report.specs.Types.{width, wordTy}
 use Rattle.report.specs.Terms.{Term, iden, comp, unit, injl, injr, case, pair, take, drop, assertl, assertr, fail, witness, word, disconnect, bad}
-use Rattle.scope.specs.Bounds14.{Bound, bounds}
+use Rattle.scope.specs.Bounds.{Bound, bounds}
 
 -- the cells above `next` that a term uses
 unfoldable pub tightCells : Term → ℕ

@@ -19,8 +19,8 @@ use Rattle.report.specs.Typing.{Typed, Iden, Comp, Unit·, Injl, Injr, Case, Pa
 use Rattle.scope.specs.Check.{passed, _>>=_, require}
 use Rattle.scope.specs.Numbers.{every}
 use Rattle.scope.specs.Nodes.{nodeAt}
-use Rattle.scope.specs.Walk6to9.{hiddenAt, noneHidden, allowed}
-use Rattle.scope.specs.Arrows11and12.{arrowRule}
+use Rattle.scope.specs.Walk.{hiddenAt, noneHidden, allowed}
+use Rattle.scope.specs.Arrows.{arrowRule}
 use Rattle.scope.specs.Program.{Program, sourceTy, targetTy, caseTerm, termOf, termAt, last}
 use Rattle.exactness.specs.Checks.{not-both, both-passed, require-holds}
 use Rattle.exactness.specs.Bits.{AllBelow}

@@ -16,12 +16,12 @@ use Rattle.report.specs.Nodes.{Node, comp, case, pair, disconnect, injl, injr, 
 use Rattle.report.specs.Nodes as Node
 use Rattle.scope.specs.Check.{passed, refused, _>>=_, require}
 use Rattle.scope.specs.Numbers.{streamOf, every}
-use Rattle.scope.specs.Types2.{TypeRecord, tyAt}
+use Rattle.scope.specs.Types.{TypeRecord, tyAt}
 use Rattle.scope.specs.Nodes.{nodeAt, onWitness}
-use Rattle.scope.specs.Closing10.{closes}
-use Rattle.scope.specs.Arrows11and12.{Arrow, target}
-use Rattle.scope.specs.Witness15.{Values, valuesFrom, checkWitness}
-use Rattle.scope.specs.Input16.{checkInput}
+use Rattle.scope.specs.Closing.{closes}
+use Rattle.scope.specs.Arrows.{Arrow, target}
+use Rattle.scope.specs.Witness.{Values, valuesFrom, checkWitness}
+use Rattle.scope.specs.Input.{checkInput}
 use Rattle.exactness.specs.Table.{length-snoc}
 use Rattle.exactness.specs.Checks.{clash, both-passed}
 use Rattle.theory.specs.Values.{ReadTyped, aValue, tooFew, read-typed}

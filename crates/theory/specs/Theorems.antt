@@ -24,18 +24,18 @@ use Rattle.report.specs.Typing.{Typed}
 use Rattle.report.specs.Meaning.{Means, done, stuck, eval, visits}
 use Rattle.scope.specs.Check.{passed}
 use Rattle.scope.specs.Numbers.{tabulate, streamOf}
-use Rattle.scope.specs.Types2.{TypeRecord, typeFrom, tyAt, checkTypes}
+use Rattle.scope.specs.Types.{TypeRecord, typeFrom, tyAt, checkTypes}
 use Rattle.scope.specs.Naturals.{natural, readNatural}
 use Rattle.scope.specs.Nodes.{nodeAt, nodesOf}
-use Rattle.scope.specs.Reading3to5.{Table}
-use Rattle.scope.specs.Walk6to9.{hiddenAt, walkFrom, checkWalk}
-use Rattle.scope.specs.Closing10.{decode}
-use Rattle.scope.specs.Arrows11and12.{Arrow, leftAt, rightAt, isWord, arrowRule, checkArrows}
+use Rattle.scope.specs.Reading.{Table}
+use Rattle.scope.specs.Walk.{hiddenAt, walkFrom, checkWalk}
+use Rattle.scope.specs.Closing.{decode}
+use Rattle.scope.specs.Arrows.{Arrow, leftAt, rightAt, isWord, arrowRule, checkArrows}
 use Rattle.scope.specs.Program.{Program, sourceTy, targetTy, termOf, termAt, whole, wholeSource, wholeTarget}
-use Rattle.scope.specs.Bounds14.{Bound, bounds, wholeCells, wholeFrames, wholeCost}
+use Rattle.scope.specs.Bounds.{Bound, bounds, wholeCells, wholeFrames, wholeCost}
 use Rattle.scope.specs.Run.{Ready, Left, Ended, checkDossier, tablesOf, checkReady, run, cellsOf}
-use Rattle.scope.specs.Stages26.{lent, hashStage, runStage}
-use Rattle.scope.specs.Machine18and19.{Frame, State, Step, state, exec, machine, answer}
+use Rattle.scope.specs.Stages.{lent, hashStage, runStage}
+use Rattle.scope.specs.Machine.{Frame, State, Step, state, exec, machine, answer}
 use Rattle.exactness.specs.Table.{length-entries, entries-at}
 use Rattle.exactness.specs.Bits.{AllBelow, AreBits}
 use Rattle.exactness.specs.Naturals.{naturalBound, reads-code, read-is-code}

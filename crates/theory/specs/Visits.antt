@@ -7,7 +7,7 @@ use Rattle.limits.specs.Limits.{nodeCost}
 use Rattle.report.specs.Values.{Val, ⟨⟩, inl, inr, _&_}
 use Rattle.report.specs.Terms.{Term, iden, comp, unit, injl, injr, case, pair, take, drop, assertl, assertr, fail, witness, word, disconnect, bad}
 use Rattle.report.specs.Meaning.{done, failed, pruned, stuck, _>>=_, Means, split, branch, eval, after, inPair, inSum, visits}
-use Rattle.scope.specs.Bounds14.{Bound, bounds}
+use Rattle.scope.specs.Bounds.{Bound, bounds}
 
 -- what a part that stopped may owe
 unfoldable pub owed : Means → ℕ

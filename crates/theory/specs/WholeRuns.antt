@@ -12,8 +12,8 @@ use Rattle.report.specs.Values.{Val, HasTy, Cells, padded, valueAt}
 use Rattle.report.specs.Terms.{Term}
 use Rattle.report.specs.Typing.{Typed}
 use Rattle.report.specs.Meaning.{done, failed, pruned, _>>=_, Means, eval}
-use Rattle.scope.specs.Machine18and19.{Frame, State, Step, state, forward, reset, putBits, writeBits, moveFrame, exec, input, output, machine, answer}
-use Rattle.scope.specs.Bounds14.{Bound, bounds}
+use Rattle.scope.specs.Machine.{Frame, State, Step, state, forward, reset, putBits, writeBits, moveFrame, exec, input, output, machine, answer}
+use Rattle.scope.specs.Bounds.{Bound, bounds}
 use Rattle.exactness.specs.Values.{length-padded}
 use Rattle.theory.specs.Room.{tightCells, tight-within}
 use Rattle.theory.specs.Cells.{Kept, bits-out, value-written}

@@ -14,8 +14,8 @@ use Rattle.refusal.specs.declared.Refusal.the-variants.{Natural, TypeRecord as 
 use Rattle.report.specs.Types.{width}
 use Rattle.scope.specs.Check.{passed, refused, _>>=_, require, firstFailing, each}
 use Rattle.scope.specs.Numbers.{zeros, tabulateFrom, tabulate, every, anyBelow}
-use Rattle.scope.specs.Stages26.{counted}
-use Rattle.scope.specs.Types2.{TypeRecord, typeRecords, tyAt, typeAt, sameType, partsRule, typeRule, checkTypes}
+use Rattle.scope.specs.Stages.{counted}
+use Rattle.scope.specs.Types.{TypeRecord, typeRecords, tyAt, typeAt, sameType, partsRule, typeRule, checkTypes}
 use Rattle.types.specs.Records.{partsWidth, verdict, recordJudged, nextFrom, recordNext, nextAt}
 use Rattle.types.specs.Table.{checkTable, typeAnswer, goodRecords, arrayOf, typeWidths, typeNext, typeTable}
 use Rattle.types.specs.declared.Judged.the-variants.{Width, Broken}

@@ -12,7 +12,7 @@ use borrow.Author.Tests.{ltb-true}
 use Rattle.report.specs.Table.{entries}
 use Rattle.report.specs.Types.{Ty, one, width}
 use Rattle.scope.specs.Numbers.{every}
-use Rattle.scope.specs.Types2.{TypeRecord, typeFrom, typeMake, noType, tyAt, typeAt, partsRule}
+use Rattle.scope.specs.Types.{TypeRecord, typeFrom, typeMake, noType, tyAt, typeAt, partsRule}
 use Rattle.types.specs.Records.{partsWidth, nextFrom, nextMake, nextAt}
 use Rattle.types.proofs.Tables.{length-entries, entries-at, entries-past}
 

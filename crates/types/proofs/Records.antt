@@ -11,7 +11,7 @@ use lib.ListN.{length}
 use borrow.Author.Tests.{eq-eqb, ne-eqb}
 use Rattle.limits.specs.Limits.{typeBytes}
 use Rattle.scope.specs.Numbers.{every, anyBelow}
-use Rattle.scope.specs.Types2.{TypeRecord, typeRecord, typeRecords, typeAt, noType, partsRule}
+use Rattle.scope.specs.Types.{TypeRecord, typeRecord, typeRecords, typeAt, noType, partsRule}
 use Rattle.types.specs.Records.{partsWidth, unpaddedMark, unpaddedFrom, markWhere, paddedNext, nextFrom}
 use Rattle.types.proofs.Tables.{tabulate-at, tabulate-past, length-tabulate}
 

@@ -18,8 +18,8 @@ use Rattle.refusal.specs.declared.Refusal.the-variants.{Natural, TypeRecord as 
 use Rattle.report.specs.Types.{Ty, one, sum, prod, width}
 use Rattle.scope.specs.Check.{Check, passed, refused, _>>=_, require, firstFailing, each}
 use Rattle.scope.specs.Numbers.{every, anyBelow}
-use Rattle.scope.specs.Stages26.{counted}
-use Rattle.scope.specs.Types2.{TypeRecord, typeRecords, typeFrom, tyAt, typeAt, sameType, partsRule, typeRule, checkTypes}
+use Rattle.scope.specs.Stages.{counted}
+use Rattle.scope.specs.Types.{TypeRecord, typeRecords, typeFrom, tyAt, typeAt, sameType, partsRule, typeRule, checkTypes}
 use Rattle.types.specs.Records.{unpadded, unpaddedMark, unpaddedFrom, passOver, paddedNext, nextFrom, nextAt}
 use Rattle.types.specs.Table.{checkTable, typeAnswer, goodRecords, arrayOf, typeWidths, typeNext}
 use Rattle.types.specs.declared.TypeAnswer.the-variants.{Records, Refused}

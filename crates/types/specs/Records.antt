@@ -10,7 +10,7 @@ use Rattle.limits.specs.Limits.{typeWidth}
 use Rattle.report.specs.Table.{entries}
 use Rattle.report.specs.Types.{Ty, one, sum, prod, width}
 use Rattle.scope.specs.Numbers.{every, anyBelow}
-use Rattle.scope.specs.Types2.{TypeRecord, tyAt, typeAt, sameType, partsRule}
+use Rattle.scope.specs.Types.{TypeRecord, tyAt, typeAt, sameType, partsRule}
 use Rattle.types.specs.declared.Judged.{Judged}
 use Rattle.types.specs.declared.Judged.the-variants.{Width, Broken}
 

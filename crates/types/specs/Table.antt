@@ -11,9 +11,9 @@ use Rattle.limits.specs.Limits.{typeCount}
 use Rattle.report.specs.Types.{width}
 use Rattle.scope.specs.Check.{Check, passed, refused, _>>=_, firstFailing}
 use Rattle.scope.specs.Numbers.{zeros, tabulate, every}
-use Rattle.scope.specs.Stages26.{counted}
-use Rattle.scope.specs.Types2 as Types2
-use Rattle.scope.specs.Types2.{typeRecords, tyAt, typeRule, checkTypes}
+use Rattle.scope.specs.Stages.{counted}
+use Rattle.scope.specs.Types as Types
+use Rattle.scope.specs.Types.{typeRecords, tyAt, typeRule, checkTypes}
 use Rattle.types.specs.Records.{nextAt}
 use Rattle.types.specs.declared.TypeAnswer.{TypeAnswer}
 use Rattle.types.specs.declared.TypeAnswer.the-variants.{Records, Refused}
@@ -21,7 +21,7 @@ use Rattle.types.specs.declared.TypeRecord.{TypeRecord}
 use Rattle.types.specs.declared.TypeTable.{TypeTable}
 
 -- a record as a call hands it back
-abbrev pub recordOf : Types2.TypeRecord → TypeRecord
+abbrev pub recordOf : Types.TypeRecord → TypeRecord
 recordOf r = record { tag = r .tag; left = r .left; right = r .right }
 
 -- two records are equal, number by number

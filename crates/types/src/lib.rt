@@ -9,7 +9,7 @@ ghost use Prim.Native.Nat.{ℕ, _+_, _*_, _/_, _≤_, _<_};
 ghost use lib.ListN.{length, getD};
 ghost use Rattle.limits.specs.Limits.{typeCount, typeBytes, typeWidth};
 ghost use Rattle.scope.specs.Numbers.{be16, anyBelow};
-ghost use Rattle.scope.specs.Types2.{typeRecords, typeAt, sameType, partsRule};
+ghost use Rattle.scope.specs.Types.{typeRecords, typeAt, sameType, partsRule};
 ghost use Rattle.types.specs.Table.{recordOf, sameRecord, typeTable};
 ghost use Rattle.types.specs.Records.{recordJudged, partsWidth, unpaddedFrom, nextFrom, recordNext};
 use refusal::Refusal;

@@ -15,7 +15,7 @@ use Rattle.report.specs.Bits.{Bit}
 use Rattle.report.specs.Types.{Ty, sum, prod, width, padL, padR}
 use Rattle.report.specs.Values.{Val, compact, padded, Read, value, short, readValue, Cells, valueAt}
 use Rattle.scope.specs.Numbers.{every}
-use Rattle.scope.specs.Types2.{TypeRecord, typeRecords, typeFrom, tyAt, typeAt, partsRule}
+use Rattle.scope.specs.Types.{TypeRecord, typeRecords, typeFrom, tyAt, typeAt, partsRule}
 use Rattle.types.proofs.Core.{core, core-alike, Matters, productMatters, core-matters, spelled}
 use Rattle.types.proofs.Laws.{parts-below, type-past, type-step, Parts}
 use Rattle.types.proofs.Records.{every-rest, every-both}

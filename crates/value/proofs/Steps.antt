@@ -13,7 +13,7 @@ use borrow.Author.Tests.{ltb-true, leb-true, eqb-true, lt-ltb, le-ltb, eq-eqb, n
 use Rattle.limits.specs.Limits.{typeCount}
 use Rattle.report.specs.Table.{entries}
 use Rattle.scope.specs.Numbers.{tabulate}
-use Rattle.scope.specs.Types2.{TypeRecord}
+use Rattle.scope.specs.Types.{TypeRecord}
 use Rattle.types.proofs.Laws.{every-true}
 use Rattle.types.proofs.Tables.{length-tabulate, tabulate-at, entries-at, entries-past}
 use Rattle.types.specs.Records.{unpaddedMark}

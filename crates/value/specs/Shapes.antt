@@ -9,7 +9,7 @@ use lib.ListN.{getD}
 use Rattle.limits.specs.Limits.{typeCount}
 use Rattle.report.specs.Table.{entries}
 use Rattle.scope.specs.Numbers.{every, tabulate}
-use Rattle.scope.specs.Types2.{TypeRecord, typeRecords, typeAt}
+use Rattle.scope.specs.Types.{TypeRecord, typeRecords, typeAt}
 use Rattle.types.specs.Records.{unpaddedMark}
 use Rattle.value.specs.declared.Step.{Step}
 use Rattle.value.specs.declared.Step.the-variants.{Nothing, Plain, Tag, Both}

@@ -6,7 +6,7 @@ use lib.ListN.{length}
 use borrow.Author.Needs.{needs}
 use Rattle.limits.specs.Limits.{nodeCount, nodeNumbers, cellCount, frameCount}
 use Rattle.scope.specs.Nodes.{nodeRecords}
-use Rattle.scope.specs.Arrows11and12.{arrowRecords}
+use Rattle.scope.specs.Arrows.{arrowRecords}
 use Rattle.types.proofs.Sound.{counted-passed}
 use Rattle.table.specs.Answers.{checkOf}
 use Rattle.table.proofs.Records.{length-records}

@@ -2,7 +2,7 @@
 use mathlib.Core.Path.{sym, ap₂, _∙_}
 use Prim.Native.Nat.{_-_}
 use borrow.Author.Needs.{needs}
-use Rattle.scope.specs.Bounds14.{failRow, noRow}
+use Rattle.scope.specs.Bounds.{failRow, noRow}
 use Rattle.analysis.specs.Held.{held, plain}
 use Rattle.analysis.specs.Rows.{caseBound}
 use Rattle.analysis.proofs.case_bound.Statement.{statement}

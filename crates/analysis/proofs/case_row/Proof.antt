@@ -3,7 +3,7 @@ use mathlib.Core.Path.{ap, _∙_}
 use Prim.Native.Nat.{_+_}
 use borrow.Author.Needs.{needs}
 use Rattle.limits.specs.Limits.{cellCount, frameCount, costLimit, nodeCost}
-use Rattle.scope.specs.Bounds14.{caseRow}
+use Rattle.scope.specs.Bounds.{caseRow}
 use Rattle.analysis.specs.Held.{upTo}
 use Rattle.analysis.proofs.Sums.{bound-eq}
 use Rattle.analysis.proofs.case_row.Statement.{statement}

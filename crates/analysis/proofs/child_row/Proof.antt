@@ -2,7 +2,7 @@
 use mathlib.Core.Path.{ap, _∙_}
 use borrow.Author.Needs.{needs}
 use Rattle.limits.specs.Limits.{cellCount, frameCount}
-use Rattle.scope.specs.Bounds14.{childRow}
+use Rattle.scope.specs.Bounds.{childRow}
 use Rattle.analysis.specs.Held.{upTo}
 use Rattle.analysis.proofs.Sums.{bound-eq, child-price}
 use Rattle.analysis.proofs.child_row.Statement.{statement}

@@ -3,7 +3,7 @@ use mathlib.Core.Path.{ap, ap₂, _∙_}
 use Prim.Native.Nat.{_+_}
 use borrow.Author.Needs.{needs}
 use Rattle.limits.specs.Limits.{cellCount, frameCount, costLimit, nodeCost}
-use Rattle.scope.specs.Bounds14.{compRow}
+use Rattle.scope.specs.Bounds.{compRow}
 use Rattle.analysis.specs.Held.{upTo}
 use Rattle.analysis.proofs.Sums.{bound-eq, price}
 use Rattle.analysis.proofs.comp_row.Statement.{statement}

@@ -3,7 +3,7 @@ use mathlib.Core.Path.{refl, ap, _∙_}
 use Prim.Native.Nat.{_+_}
 use borrow.Author.Needs.{needs}
 use Rattle.limits.specs.Limits.{costLimit, nodeCost}
-use Rattle.scope.specs.Bounds14.{copyRow}
+use Rattle.scope.specs.Bounds.{copyRow}
 use Rattle.analysis.specs.Held.{upTo}
 use Rattle.analysis.proofs.Sums.{bound-eq}
 use Rattle.analysis.proofs.copy_row.Statement.{statement}

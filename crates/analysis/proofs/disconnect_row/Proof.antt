@@ -5,7 +5,7 @@ use native.Mathlib.Omega.{arith}
 use borrow.Author.Needs.{needs}
 use Rattle.limits.specs.Limits.{cellCount, frameCount, costLimit, nodeCost}
 use Rattle.report.specs.Types.{width, wordTy}
-use Rattle.scope.specs.Bounds14.{disconnectRow}
+use Rattle.scope.specs.Bounds.{disconnectRow}
 use Rattle.analysis.specs.Held.{upTo}
 use Rattle.analysis.proofs.Sums.{bound-eq, price}
 use Rattle.analysis.proofs.disconnect_row.Statement.{statement}

@@ -4,7 +4,7 @@ use Prim.Native.Nat.{_-_}
 use borrow.Author.Tests.{le-leb, lt-leb}
 use Rattle.limits.specs.Limits.{cellCount, frameCount, costLimit}
 use Rattle.scope.specs.Check.{require, _>>=_}
-use Rattle.scope.specs.Bounds14.{checkLimits}
+use Rattle.scope.specs.Bounds.{checkLimits}
 use Rattle.analysis.specs.Limits.{limited}
 use Rattle.analysis.proofs.judged.Statement.{statement}
 use Rattle.analysis.proofs.judged.Tie as tie

@@ -3,8 +3,8 @@ use mathlib.Core.Path.{ap, _∙_}
 use Prim.Native.Nat.{_-_}
 use borrow.Author.Needs.{needs}
 use Rattle.scope.specs.Nodes.{kindOf}
-use Rattle.scope.specs.Arrows11and12.{arrowRecords}
-use Rattle.scope.specs.Bounds14.{copyRow, witnessRow}
+use Rattle.scope.specs.Arrows.{arrowRecords}
+use Rattle.scope.specs.Bounds.{copyRow, witnessRow}
 use Rattle.analysis.specs.Held.{held}
 use Rattle.analysis.specs.Rows.{rowOf}
 use Rattle.analysis.proofs.RowKinds.{row-as, row-none}

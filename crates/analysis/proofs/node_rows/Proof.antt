@@ -6,8 +6,8 @@ use lib.ListN.{length, set, replicate}
 use borrow.Author.Needs.{needs}
 use Rattle.limits.specs.Limits.{nodeCount}
 use Rattle.scope.specs.Nodes.{nodeRecords}
-use Rattle.scope.specs.Arrows11and12.{arrowRecords}
-use Rattle.scope.specs.Bounds14.{failRow, noRow}
+use Rattle.scope.specs.Arrows.{arrowRecords}
+use Rattle.scope.specs.Bounds.{failRow, noRow}
 use Rattle.table.specs.Answers.{recordOf}
 use Rattle.analysis.specs.Held.{held}
 use Rattle.analysis.proofs.Tables.{heldAt, bound-past, child-read, row-made}

@@ -2,7 +2,7 @@
 use mathlib.Core.Path.{ap, _∙_}
 use borrow.Author.Needs.{needs}
 use Rattle.limits.specs.Limits.{cellCount, frameCount, nodeCost}
-use Rattle.scope.specs.Bounds14.{pairRow}
+use Rattle.scope.specs.Bounds.{pairRow}
 use Rattle.analysis.specs.Held.{upTo}
 use Rattle.analysis.proofs.Sums.{bound-eq, price}
 use Rattle.analysis.proofs.pair_row.Statement.{statement}

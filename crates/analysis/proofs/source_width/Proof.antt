@@ -3,7 +3,7 @@ use mathlib.Core.Path.{ap, _∙_}
 use Prim.Native.Nat.{_-_}
 use lib.ListN.{getD}
 use borrow.Author.Needs.{needs}
-use Rattle.scope.specs.Arrows11and12.{source, Arrow}
+use Rattle.scope.specs.Arrows.{source, Arrow}
 use Rattle.analysis.specs.Rows.{sourceWidth}
 use Rattle.analysis.proofs.source_width.Statement.{statement}
 use Rattle.analysis.proofs.source_width.Tie as tie

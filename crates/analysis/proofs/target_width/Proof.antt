@@ -3,7 +3,7 @@ use mathlib.Core.Path.{ap, _∙_}
 use Prim.Native.Nat.{_-_}
 use lib.ListN.{getD}
 use borrow.Author.Needs.{needs}
-use Rattle.scope.specs.Arrows11and12.{target, Arrow}
+use Rattle.scope.specs.Arrows.{target, Arrow}
 use Rattle.analysis.specs.Rows.{targetWidth}
 use Rattle.analysis.proofs.target_width.Statement.{statement}
 use Rattle.analysis.proofs.target_width.Tie as tie

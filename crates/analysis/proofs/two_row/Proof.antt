@@ -5,8 +5,8 @@ use native.Mathlib.Omega.{arith}
 use borrow.Author.Needs.{needs}
 use Rattle.report.specs.Types.{width, wordTy}
 use Rattle.scope.specs.Nodes.{nodeRecords, kindOf}
-use Rattle.scope.specs.Arrows11and12.{arrowRecords}
-use Rattle.scope.specs.Bounds14.{compRow, disconnectRow}
+use Rattle.scope.specs.Arrows.{arrowRecords}
+use Rattle.scope.specs.Bounds.{compRow, disconnectRow}
 use Rattle.analysis.specs.Held.{held, plain}
 use Rattle.analysis.specs.Rows.{caseBound, keptWidth, rowOf}
 use Rattle.analysis.proofs.RowKinds.{row-as}

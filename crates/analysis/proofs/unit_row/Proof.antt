@@ -1,7 +1,7 @@
 -- `analysis::unit_row` meets its contract: each number of the row from what the calls promise.
 use mathlib.Core.Path.{refl}
 use borrow.Author.Needs.{needs}
-use Rattle.scope.specs.Bounds14.{unitRow}
+use Rattle.scope.specs.Bounds.{unitRow}
 use Rattle.analysis.proofs.Sums.{bound-eq}
 use Rattle.analysis.proofs.unit_row.Statement.{statement}
 use Rattle.analysis.proofs.unit_row.Tie as tie

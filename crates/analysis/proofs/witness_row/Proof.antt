@@ -3,7 +3,7 @@ use mathlib.Core.Path.{_≡_, refl, ap, _∙_}
 use Prim.Native.Nat.{_+_}
 use borrow.Author.Needs.{needs}
 use Rattle.limits.specs.Limits.{cellCount, costLimit, nodeCost}
-use Rattle.scope.specs.Bounds14.{witnessRow}
+use Rattle.scope.specs.Bounds.{witnessRow}
 use Rattle.analysis.specs.Held.{upTo}
 use Rattle.analysis.proofs.Sums.{bound-eq}
 use Rattle.analysis.proofs.witness_row.Statement.{statement}

@@ -4,7 +4,7 @@ use Prim.Native.Nat.{_/_}
 use lib.ListN.{length}
 use borrow.Author.Needs.{needs}
 use Rattle.limits.specs.Limits.{arrowBytes}
-use Rattle.scope.specs.Arrows11and12.{noArrow, arrowRecord, arrowRecords}
+use Rattle.scope.specs.Arrows.{noArrow, arrowRecord, arrowRecords}
 use Rattle.types.proofs.Tables.{tabulate-at, tabulate-past}
 use Rattle.arrow.proofs.arrow_at.Statement.{statement}
 use Rattle.arrow.proofs.arrow_at.Tie as tie

@@ -1,8 +1,8 @@
 -- `arrow::arrow_fits` meets its contract.
 use mathlib.Core.Path.{sym, _∙_}
 use borrow.Author.Needs.{needs}
-use Rattle.scope.specs.Types2.{typeRecords}
-use Rattle.scope.specs.Arrows11and12.{arrowRecords}
+use Rattle.scope.specs.Types.{typeRecords}
+use Rattle.scope.specs.Arrows.{arrowRecords}
 use Rattle.types.proofs.Records.{length-records as length-types}
 use Rattle.table.specs.Answers.{recordOf}
 use Rattle.arrow.specs.Answers.{arrowOf}

@@ -5,8 +5,8 @@ use mathlib.Core.List.{[], _∷_}
 use lib.Dec.{eqb}
 use borrow.Author.Needs.{needs}
 use Rattle.scope.specs.Numbers.{every}
-use Rattle.scope.specs.Types2.{typeRecords}
-use Rattle.scope.specs.Arrows11and12.{arrowRecords, source, target, isProduct}
+use Rattle.scope.specs.Types.{typeRecords}
+use Rattle.scope.specs.Arrows.{arrowRecords, source, target, isProduct}
 use Rattle.table.specs.Lent.{lentNodes}
 use Rattle.arrow.proofs.KindNumbers.{branch-by}
 use Rattle.arrow.proofs.branch_fits.Statement.{statement}

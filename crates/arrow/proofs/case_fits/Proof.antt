@@ -2,8 +2,8 @@
 use mathlib.Core.Path.{_∙_}
 use mathlib.Core.List.{[]}
 use borrow.Author.Needs.{needs}
-use Rattle.scope.specs.Types2.{typeRecords}
-use Rattle.scope.specs.Arrows11and12.{arrowRecords}
+use Rattle.scope.specs.Types.{typeRecords}
+use Rattle.scope.specs.Arrows.{arrowRecords}
 use Rattle.table.specs.Lent.{lentNodes}
 use Rattle.arrow.proofs.KindNumbers.{case-is}
 use Rattle.arrow.proofs.Tests.{all-four}

@@ -9,7 +9,7 @@ use borrow.Author.Needs.{needs}
 use Rattle.limits.specs.Limits.{nodeCount}
 use Rattle.refusal.specs.declared.Refusal.the-variants.{Hash}
 use Rattle.scope.specs.Nodes.{nodeRecords}
-use Rattle.scope.specs.Hashes13.{rights}
+use Rattle.scope.specs.Hashes.{rights}
 use Rattle.types.proofs.Sound.{counted-passed}
 use Rattle.table.specs.Lent.{lentNodes}
 use Rattle.table.specs.Answers.{checkOf}

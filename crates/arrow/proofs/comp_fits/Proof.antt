@@ -1,7 +1,7 @@
 -- `arrow::comp_fits` meets its contract.
 use mathlib.Core.Path.{ap}
 use borrow.Author.Needs.{needs}
-use Rattle.scope.specs.Arrows11and12.{source, target, goes, kindRule}
+use Rattle.scope.specs.Arrows.{source, target, goes, kindRule}
 use Rattle.arrow.proofs.comp_fits.Statement.{statement}
 use Rattle.arrow.proofs.comp_fits.Tie as tie
 

@@ -1,8 +1,8 @@
 -- `arrow::disconnect_fits` meets its contract.
 use mathlib.Core.Path.{refl, _∙_}
 use borrow.Author.Needs.{needs}
-use Rattle.scope.specs.Arrows11and12.{arrowRecords}
-use Rattle.scope.specs.Types2.{typeRecords}
+use Rattle.scope.specs.Arrows.{arrowRecords}
+use Rattle.scope.specs.Types.{typeRecords}
 use Rattle.arrow.proofs.KindNumbers.{disconnect-is}
 use Rattle.arrow.proofs.Tests.{all-five}
 use Rattle.arrow.proofs.disconnect_fits.Statement.{statement}

@@ -5,7 +5,7 @@ use native.Mathlib.Omega.{arith}
 use lib.ListN.{take, drop}
 use borrow.Author.Needs.{needs}
 use Rattle.limits.specs.Limits.{hashBytes}
-use Rattle.scope.specs.Hashes13.{entry}
+use Rattle.scope.specs.Hashes.{entry}
 use Rattle.arrow.proofs.entry_at.Statement.{statement}
 use Rattle.arrow.proofs.entry_at.Tie as tie
 

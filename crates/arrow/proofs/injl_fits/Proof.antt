@@ -1,7 +1,7 @@
 -- `arrow::injl_fits` meets its contract.
 use mathlib.Core.Path.{ap}
 use borrow.Author.Needs.{needs}
-use Rattle.scope.specs.Arrows11and12.{source, target, kindRule}
+use Rattle.scope.specs.Arrows.{source, target, kindRule}
 use Rattle.arrow.proofs.injl_fits.Statement.{statement}
 use Rattle.arrow.proofs.injl_fits.Tie as tie
 

@@ -4,7 +4,7 @@ use mathlib.Core.Path.{ap, ap₂, _∙_}
 use lib.Dec.{eqb}
 use borrow.Author.Needs.{needs}
 use Rattle.scope.specs.Numbers.{every}
-use Rattle.scope.specs.Arrows11and12.{isSum}
+use Rattle.scope.specs.Arrows.{isSum}
 use Rattle.arrow.proofs.is_sum.Statement.{statement}
 use Rattle.arrow.proofs.is_sum.Tie as tie
 

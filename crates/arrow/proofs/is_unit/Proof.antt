@@ -2,7 +2,7 @@
 use mathlib.Core.Path.{ap}
 use lib.Dec.{eqb}
 use borrow.Author.Needs.{needs}
-use Rattle.scope.specs.Arrows11and12.{isUnit}
+use Rattle.scope.specs.Arrows.{isUnit}
 use Rattle.arrow.proofs.is_unit.Statement.{statement}
 use Rattle.arrow.proofs.is_unit.Tie as tie
 

@@ -5,8 +5,8 @@ use native.Mathlib.Omega.{arith}
 use borrow.Author.Tests.{not-true, not-false}
 use borrow.Author.Needs.{needs}
 use Rattle.scope.specs.Numbers.{every}
-use Rattle.scope.specs.Types2.{typeRecords}
-use Rattle.scope.specs.Arrows11and12.{isUnit, isSum, isWord}
+use Rattle.scope.specs.Types.{typeRecords}
+use Rattle.scope.specs.Arrows.{isUnit, isSum, isWord}
 use Rattle.arrow.proofs.Words.{word-down, word-stops, word-ends}
 use Rattle.arrow.proofs.is_word.Statement.{statement}
 use Rattle.arrow.proofs.is_word.Tie as tie

@@ -1,7 +1,7 @@
 -- `arrow::kind_fits` meets its contract.
 use mathlib.Core.List.{[]}
 use borrow.Author.Needs.{needs}
-use Rattle.scope.specs.Arrows11and12.{arrowRecords}
+use Rattle.scope.specs.Arrows.{arrowRecords}
 use Rattle.table.specs.Lent.{lentNodes}
 use Rattle.arrow.proofs.kind_fits.Statement.{statement}
 use Rattle.arrow.proofs.kind_fits.Tie as tie

@@ -1,7 +1,7 @@
 -- `arrow::left_of` meets its contract.
 use mathlib.Core.Path.{ap, _∙_}
 use borrow.Author.Needs.{needs}
-use Rattle.scope.specs.Arrows11and12.{leftAt}
+use Rattle.scope.specs.Arrows.{leftAt}
 use Rattle.arrow.proofs.left_of.Statement.{statement}
 use Rattle.arrow.proofs.left_of.Tie as tie
 

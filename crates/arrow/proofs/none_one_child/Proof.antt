@@ -6,9 +6,9 @@ use native.Mathlib.Omega.{arith}
 use lib.ListN.{length}
 use borrow.Author.Tests.{not-true, not-false}
 use borrow.Author.Needs.{needs}
-use Rattle.scope.specs.Types2.{TypeRecord}
+use Rattle.scope.specs.Types.{TypeRecord}
 use Rattle.scope.specs.Nodes.{nodeRecords}
-use Rattle.scope.specs.Arrows11and12.{noOneChild, Arrow}
+use Rattle.scope.specs.Arrows.{noOneChild, Arrow}
 use Rattle.table.specs.Lent.{lentNodes}
 use Rattle.table.proofs.Records.{length-records}
 use Rattle.arrow.proofs.Passes.{Passing, pass-start, pass-more, pass-fails, pass-ends}

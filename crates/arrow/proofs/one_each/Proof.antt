@@ -6,7 +6,7 @@ use borrow.Author.Tests.{eq-eqb, ne-eqb}
 use Rattle.refusal.specs.declared.Refusal.the-variants.{Arrow as BadArrow}
 use Rattle.scope.specs.Check.{require}
 use Rattle.scope.specs.Nodes.{nodeRecords}
-use Rattle.scope.specs.Arrows11and12.{arrowRecords}
+use Rattle.scope.specs.Arrows.{arrowRecords}
 use Rattle.table.specs.Answers.{checkOf}
 use Rattle.table.specs.declared.Checked.the-variants.{Refused}
 use Rattle.table.proofs.Records.{length-records}

@@ -1,9 +1,9 @@
 -- `arrow::one_fits` meets its contract.
 use native.Mathlib.Omega.{arith}
 use borrow.Author.Needs.{needs}
-use Rattle.scope.specs.Types2.{typeRecords}
+use Rattle.scope.specs.Types.{typeRecords}
 use Rattle.scope.specs.Nodes.{kindOf, nodeOf}
-use Rattle.scope.specs.Arrows11and12.{arrowRecords}
+use Rattle.scope.specs.Arrows.{arrowRecords}
 use Rattle.arrow.proofs.KindNumbers.{as-kind}
 use Rattle.arrow.proofs.one_fits.Statement.{statement}
 use Rattle.arrow.proofs.one_fits.Tie as tie

@@ -1,9 +1,9 @@
 -- `arrow::other_fits` meets its contract.
 use mathlib.Core.Path.{refl, _∙_}
 use borrow.Author.Needs.{needs}
-use Rattle.scope.specs.Types2.{typeRecords}
+use Rattle.scope.specs.Types.{typeRecords}
 use Rattle.scope.specs.Nodes.{kindOf, nodeOf}
-use Rattle.scope.specs.Arrows11and12.{kindRule}
+use Rattle.scope.specs.Arrows.{kindRule}
 use Rattle.arrow.proofs.KindNumbers.{as-kind, as-hidden}
 use Rattle.arrow.proofs.other_fits.Statement.{statement}
 use Rattle.arrow.proofs.other_fits.Tie as tie

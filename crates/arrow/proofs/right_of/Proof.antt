@@ -1,7 +1,7 @@
 -- `arrow::right_of` meets its contract.
 use mathlib.Core.Path.{ap, _∙_}
 use borrow.Author.Needs.{needs}
-use Rattle.scope.specs.Arrows11and12.{rightAt}
+use Rattle.scope.specs.Arrows.{rightAt}
 use Rattle.arrow.proofs.right_of.Statement.{statement}
 use Rattle.arrow.proofs.right_of.Tie as tie
 

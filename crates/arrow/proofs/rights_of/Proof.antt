@@ -6,7 +6,7 @@ use native.Mathlib.Omega.{arith}
 use lib.ListN.{length, drop}
 use borrow.Author.Needs.{needs}
 use Rattle.scope.specs.Nodes.{nodeRecords}
-use Rattle.scope.specs.Hashes13.{rights}
+use Rattle.scope.specs.Hashes.{rights}
 use Rattle.table.specs.Answers.{recordOf}
 use Rattle.table.proofs.Records.{length-records}
 use Rattle.arrow.proofs.Rights.{found, found-few, found-step, found-end, length-front}

@@ -2,9 +2,9 @@
 use mathlib.Core.List.{[]}
 use native.Mathlib.Omega.{arith}
 use borrow.Author.Needs.{needs}
-use Rattle.scope.specs.Types2.{typeRecords}
+use Rattle.scope.specs.Types.{typeRecords}
 use Rattle.scope.specs.Nodes.{kindOf, nodeOf}
-use Rattle.scope.specs.Arrows11and12.{arrowRecords}
+use Rattle.scope.specs.Arrows.{arrowRecords}
 use Rattle.table.specs.Lent.{lentNodes}
 use Rattle.arrow.proofs.KindNumbers.{as-kind}
 use Rattle.arrow.proofs.two_fits.Statement.{statement}

@@ -3,7 +3,7 @@ use mathlib.Core.Path.{sym}
 use native.Mathlib.Omega.{arith}
 use lib.ListN.{length}
 use Rattle.limits.specs.Limits.{typeCount}
-use Rattle.scope.specs.Types2.{typeRecords}
+use Rattle.scope.specs.Types.{typeRecords}
 use Rattle.types.proofs.Check.{counted-good, counted-none, counted-many}
 use Rattle.types.proofs.Records.{length-records as length-types}
 use Rattle.arrow.proofs.type_count.Statement.{statement}

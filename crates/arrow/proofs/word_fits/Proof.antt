@@ -1,6 +1,6 @@
 -- `arrow::word_fits` meets its contract.
 use borrow.Author.Needs.{needs}
-use Rattle.scope.specs.Arrows11and12.{kindRule}
+use Rattle.scope.specs.Arrows.{kindRule}
 use Rattle.arrow.proofs.word_fits.Statement.{statement}
 use Rattle.arrow.proofs.word_fits.Tie as tie
 

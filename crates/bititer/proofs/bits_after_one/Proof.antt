@@ -8,7 +8,7 @@ use lib.ListN.{drop}
 use Rattle.scope.specs.Numbers.{streamOf}
 use lib.Dec.{lit<}
 use Rattle.scope.specs.Naturals.{moreBits}
-use Rattle.scope.specs.Reading3to5.{got, code}
+use Rattle.scope.specs.Reading.{got, code}
 use Rattle.bititer.specs.Answers.{gotCode}
 use Rattle.bititer.proofs.Streams.{bit-below, bit-got, bit-ended}
 use Rattle.bititer.proofs.Naturals.{bits-done, bits-cut, bits-turn, bits-fit}

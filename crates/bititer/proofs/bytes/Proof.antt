@@ -11,7 +11,7 @@ use lib.ListN.{length, getD, set, drop, length-set}
 use lib.Seq.{paste, paste-zero, paste-suc}
 use Rattle.report.specs.Bits.{bytesOf}
 use Rattle.scope.specs.Numbers.{streamOf}
-use Rattle.scope.specs.Reading3to5.{got}
+use Rattle.scope.specs.Reading.{got}
 use Rattle.bititer.specs.Answers.{stored, placed}
 use Rattle.bititer.proofs.Streams.{length-stream}
 use Rattle.bititer.proofs.Octets.{length-bytes, byte-here, pasted, bytes-ended, bytes-short, bytes-read}

@@ -2,7 +2,7 @@
 use mathlib.Core.Path.{_≡_, ap, sym, _∙_}
 use native.Mathlib.Omega.{arith}
 use Rattle.scope.specs.Numbers.{streamOf}
-use Rattle.scope.specs.Reading3to5.{got, code}
+use Rattle.scope.specs.Reading.{got, code}
 use Rattle.bititer.specs.Answers.{gotCode}
 use Rattle.bititer.proofs.Streams.{bit-below, two-got, two-ended, two-cut}
 use borrow.Author.Needs.{needs}

@@ -4,7 +4,7 @@ use Prim.Native.Nat.{ℕ}
 use lib.ListN.{take, drop}
 use borrow.Author.Needs.{needs}
 use Rattle.limits.specs.Limits.{hashBytes}
-use Rattle.scope.specs.Hashes13.{whole}
+use Rattle.scope.specs.Hashes.{whole}
 use Rattle.branch.proofs.Hashes.{past-table, no-kind, in-store, in-supply}
 use Rattle.branch.proofs.branch_hash.Statement.{statement}
 use Rattle.branch.proofs.branch_hash.Tie as tie

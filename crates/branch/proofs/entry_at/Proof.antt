@@ -1,6 +1,6 @@
 -- `branch::entry_at` meets its contract.
 use borrow.Author.Needs.{needs}
-use Rattle.scope.specs.Hashes13.{entry}
+use Rattle.scope.specs.Hashes.{entry}
 use Rattle.branch.proofs.Hashes.{entry-missing}
 use Rattle.branch.proofs.entry_at.Statement.{statement}
 use Rattle.branch.proofs.entry_at.Tie as tie

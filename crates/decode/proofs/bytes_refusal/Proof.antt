@@ -1,7 +1,7 @@
 -- `decode::bytes_refusal` meets its contract, case by case.
 use mathlib.Core.Path.{sym, ap}
 use borrow.Author.Needs.{needs}
-use Rattle.scope.specs.Reading3to5.{refusalAt}
+use Rattle.scope.specs.Reading.{refusalAt}
 use Rattle.bititer.specs.declared.BytesFault.{BytesFault}
 use Rattle.bititer.specs.Answers.{bytesFault}
 use Rattle.decode.proofs.bytes_refusal.Statement.{statement}

@@ -1,7 +1,7 @@
 -- `decode::child` meets its contract: a distance is at most the index, so the difference is the child.
 use mathlib.Core.Path.{ap, _∙_}
 use borrow.Author.Needs.{needs}
-use Rattle.scope.specs.Reading3to5.{naturalUpTo}
+use Rattle.scope.specs.Reading.{naturalUpTo}
 use Rattle.scope.specs.Numbers.{streamOf}
 use Rattle.bititer.proofs.Naturals.{up-to-got}
 use Rattle.decode.specs.Answers.{numberOf}

@@ -3,7 +3,7 @@ use mathlib.Core.Path.{_≡_, sym, ap, _∙_}
 use Prim.Native.Nat.{_+_}
 use native.Mathlib.Omega.{arith}
 use borrow.Author.Needs.{needs}
-use Rattle.scope.specs.Reading3to5.{got, code}
+use Rattle.scope.specs.Reading.{got, code}
 use Rattle.scope.specs.Numbers.{streamOf}
 use Rattle.bititer.specs.Answers.{gotCode}
 use Rattle.decode.specs.Heads.{atNode, headOf}

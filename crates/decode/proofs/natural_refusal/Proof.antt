@@ -1,7 +1,7 @@
 -- `decode::natural_refusal` meets its contract, case by case.
 use mathlib.Core.Path.{sym, ap}
 use borrow.Author.Needs.{needs}
-use Rattle.scope.specs.Reading3to5.{refusalAt}
+use Rattle.scope.specs.Reading.{refusalAt}
 use Rattle.bititer.specs.declared.NaturalFault.{NaturalFault}
 use Rattle.bititer.specs.Answers.{naturalFault}
 use Rattle.decode.proofs.natural_refusal.Statement.{statement}

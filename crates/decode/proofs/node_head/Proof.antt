@@ -1,7 +1,7 @@
 -- `decode::node_head` meets its contract: the first bits tell a combinator, a jet and a word apart.
 use mathlib.Core.Path.{_≡_, sym, ap, _∙_}
 use borrow.Author.Needs.{needs}
-use Rattle.scope.specs.Reading3to5.{got, code}
+use Rattle.scope.specs.Reading.{got, code}
 use Rattle.scope.specs.Numbers.{streamOf}
 use Rattle.bititer.specs.Answers.{gotCode}
 use Rattle.decode.specs.Heads.{atNode}

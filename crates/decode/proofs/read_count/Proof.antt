@@ -3,7 +3,7 @@ use mathlib.Core.Path.{ap, _∙_}
 use native.Mathlib.Omega.{arith}
 use borrow.Author.Needs.{needs}
 use Rattle.limits.specs.Limits.{nodeCount}
-use Rattle.scope.specs.Reading3to5.{naturalUpTo}
+use Rattle.scope.specs.Reading.{naturalUpTo}
 use Rattle.scope.specs.Numbers.{streamOf}
 use Rattle.decode.specs.Answers.{numberOf}
 use Rattle.decode.proofs.Tables.{count-stops, count-short, count-read}

@@ -6,7 +6,7 @@ use native.Mathlib.Omega.{arith}
 use lib.ListN.{length}
 use borrow.Author.Needs.{needs}
 use Rattle.limits.specs.Limits.{failBytes}
-use Rattle.scope.specs.Reading3to5.{nodesFrom}
+use Rattle.scope.specs.Reading.{nodesFrom}
 use Rattle.scope.specs.Numbers.{streamOf}
 use Rattle.decode.specs.Stores.{more}
 use Rattle.decode.proofs.Tables.{begun-more, ended-more, turn-stops, turn-goes}

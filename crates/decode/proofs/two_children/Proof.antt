@@ -1,7 +1,7 @@
 -- `decode::two_children` meets its contract: the first child is refused, or the second, or both are read.
 use mathlib.Core.Path.{ap, _∙_}
 use borrow.Author.Needs.{needs}
-use Rattle.scope.specs.Reading3to5.{child}
+use Rattle.scope.specs.Reading.{child}
 use Rattle.scope.specs.Numbers.{streamOf}
 use Rattle.decode.specs.declared.HeadRead.{HeadRead}
 use Rattle.decode.specs.declared.NodeHead.{NodeHead}

@@ -3,7 +3,7 @@ use mathlib.Core.Path.{sym, ap, _∙_}
 use native.Mathlib.Omega.{arith}
 use borrow.Author.Needs.{needs}
 use Rattle.limits.specs.Limits.{wordMost}
-use Rattle.scope.specs.Reading3to5.{naturalUpTo}
+use Rattle.scope.specs.Reading.{naturalUpTo}
 use Rattle.scope.specs.Numbers.{streamOf}
 use Rattle.bititer.proofs.Streams.{length-stream, stream-some}
 use Rattle.bititer.proofs.Naturals.{up-to-got}

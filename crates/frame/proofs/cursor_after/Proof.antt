@@ -41,7 +41,7 @@ use denote.Triple.Table.{entered, cited}
 use denote.Triple.Walked.{says, Stays, stay-none, walkOf, goes-none, Walks, ends-at, walked, walk-meets}
 use denote.Exit.{yes}
 use lib.Dec.{T as Holds}
-use Rattle.scope.specs.Machine18and19 as Machine
+use Rattle.scope.specs.Machine as Machine
 use Rattle.layout.specs.Mach.{frame as frameBy}
 use Rattle.frame.specs.Cursor.{frameOf, held}
 use Rattle.frame.specs.declared.Frame.{Frame}

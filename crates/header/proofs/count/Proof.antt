@@ -1,6 +1,6 @@
 -- `header::count` meets its contract.
 use borrow.Author.Needs.{needs}
-use Rattle.scope.specs.Header1 as Header1
+use Rattle.scope.specs.Header as Header
 use Rattle.header.proofs.Rules.{count-past}
 use Rattle.header.proofs.count.Statement.{statement}
 use Rattle.header.proofs.count.Tie as tie
@@ -18,7 +18,7 @@ number-requires : tie.Need-number-requires
 number-requires c κs = search needs
 
 returns-2 : tie.Need-returns-2
-unfolding Header1.count
+unfolding Header.count
 returns-2 c = c .number .ensures
 
 pub count-spec : {M : Type 1} → statement M

@@ -5,7 +5,7 @@ use Prim.Native.Nat.{_-_, _≤_}
 use native.Mathlib.Omega.{arith}
 use borrow.Author.Needs.{needs}
 use Rattle.limits.specs.Limits.{dossierBytes}
-use Rattle.scope.specs.Header1.{number, count, size, start}
+use Rattle.scope.specs.Header.{number, count, size, start}
 use Rattle.header.proofs.Rules.{firstWrong, wrongFrom, version-wrong, version-right, no-types, many-types, next-start, count-wrong, offset-wrong, section-right, total-wrong, end-wrong, total-right}
 use Rattle.header.proofs.first_wrong.Statement.{statement}
 use Rattle.header.proofs.first_wrong.Tie as tie

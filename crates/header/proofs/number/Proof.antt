@@ -2,7 +2,7 @@
 use mathlib.Core.Path.{ap₂}
 use Prim.Native.Nat.{ℕ, _+_, _*_}
 use borrow.Author.Needs.{needs}
-use Rattle.scope.specs.Header1 as Header1
+use Rattle.scope.specs.Header as Header
 use Rattle.header.proofs.Rules.{number-past}
 use Rattle.header.proofs.number.Statement.{statement}
 use Rattle.header.proofs.number.Tie as tie
@@ -29,7 +29,7 @@ add-result : tie.Need-add-result
 add-result c = search needs
 
 returns-2 : tie.Need-returns-2
-unfolding Header1.number
+unfolding Header.number
 returns-2 c = ap₂ (λ (high low : ℕ). high * 65536 + low) (c .before .half-at .ensures .0) (c .half-at2 .ensures .0)
 
 pub number-spec : {M : Type 1} → statement M

@@ -3,7 +3,7 @@ use mathlib.Core.Path.{_≡_, sym, ap, _∙_}
 use Prim.Native.Nat.{ℕ, _+_, _-_, _≤_}
 use native.Mathlib.Omega.{arith}
 use borrow.Author.Needs.{needs}
-use Rattle.scope.specs.Header1 as Header1
+use Rattle.scope.specs.Header as Header
 use Rattle.header.proofs.Rules.{section-none, section-past, section-rest, section-whole}
 use Rattle.header.proofs.section.Statement.{statement}
 use Rattle.header.proofs.section.Tie as tie
@@ -42,7 +42,7 @@ returns-3 : tie.Need-returns-3
 returns-3 c =
     let d = c .before .before .before .before .before .before .before .args .dossier .now in
     let k = c .before .before .before .before .before .before .before .args .k in
-    let z : c .before .before .before .size .result ≡ Header1.size d k = c .before .before .before .size .ensures .0 in
+    let z : c .before .before .before .size .result ≡ Header.size d k = c .before .before .before .size .ensures .0 in
     section-rest d k _ (c .before .before .before .before .start .ensures .0) (omega (arith, z, c .before .if3 .taken))
 
 sub-result-2 : tie.Need-sub-result-2

@@ -3,19 +3,19 @@ use mathlib.Core.Path.{_≡_, refl, sym, ap, _∙_}
 use Prim.Native.Nat.{ℕ, suc, _+_, _*_, _-_, _^_, _≤_, _<_}
 use native.Mathlib.Omega.{arith}
 use borrow.Author.Needs.{needs}
-use Rattle.scope.specs.Header1 as Header1
+use Rattle.scope.specs.Header as Header
 use Rattle.header.proofs.Rules.{next-start}
 use Rattle.header.proofs.start.Statement.{statement}
 use Rattle.header.proofs.start.Tie as tie
 
 abbrev Inv-loop : tie.InvT-loop
-Inv-loop d k place₀ j₀ place j = (place ≡ Header1.start d j) × (place ≤ 2 ^ 40 * (j + 1)) × (j ≤ k)
+Inv-loop d k place₀ j₀ place j = (place ≡ Header.start d j) × (place ≤ 2 ^ 40 * (j + 1)) × (j ≤ k)
 
 abbrev μ-loop : tie.MeasureT-loop
 μ-loop d k place₀ j₀ place j = k - j
 
 loop-holds : tie.Need-loop-holds Inv-loop μ-loop
-unfolding Header1.start
+unfolding Header.start
 loop-holds c = (refl, search needs, search needs)
 
 size-requires : tie.Need-size-requires Inv-loop μ-loop
@@ -42,7 +42,7 @@ returns c =
     let l = c .before .loop in
     let most = c .before .before .before .pre in
     let e : l .j ≡ c .before .before .before .args .k = search needs in
-    (l .inv .0 ∙ ap (Header1.start d) e, search needs)
+    (l .inv .0 ∙ ap (Header.start d) e, search needs)
 
 pub start-spec : {M : Type 1} → statement M
 start-spec =

@@ -6,7 +6,7 @@ use Rattle.lookup.proofs.left_part.Lts as lts
 use Rattle.lookup.proofs.index.Reads as index-reads
 use Rattle.types.proofs.record_at.Reads as record-at-reads
 use mathlib.Core.Path.{_≡_, refl, sym, ap, _∙_}
-use Rattle.scope.specs.Arrows11and12.{leftAt}
+use Rattle.scope.specs.Arrows.{leftAt}
 
 record-at-requires : tie.Need-record-at-requires
 record-at-requires c κs = search needs

@@ -8,7 +8,7 @@ use Rattle.lookup.proofs.padding_of.Reads as padding-of-reads
 use Rattle.types.proofs.record_at.Reads as record-at-reads
 use Rattle.types.proofs.width_at.Reads as width-at-reads
 use mathlib.Core.Path.{_≡_, refl, sym, ap, ap₂, _∙_}
-use Rattle.scope.specs.Arrows11and12.{leftAt, rightAt}
+use Rattle.scope.specs.Arrows.{leftAt, rightAt}
 
 record-at-requires : tie.Need-record-at-requires
 record-at-requires c κs = search needs

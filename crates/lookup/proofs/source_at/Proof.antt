@@ -5,7 +5,7 @@ use Rattle.lookup.proofs.source_at.Reads as reads
 use Rattle.lookup.proofs.source_at.Lts as lts
 use Rattle.arrow.proofs.arrow_at.Reads as arrow-at-reads
 use mathlib.Core.Path.{_≡_, refl, sym, ap, _∙_}
-use Rattle.scope.specs.Arrows11and12.{source}
+use Rattle.scope.specs.Arrows.{source}
 
 arrow-at-requires : tie.Need-arrow-at-requires
 arrow-at-requires c κs = search needs

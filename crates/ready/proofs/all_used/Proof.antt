@@ -3,7 +3,7 @@ use mathlib.Core.Path.{ap, _∙_}
 use native.Mathlib.Omega.{arith}
 use borrow.Author.Needs.{needs}
 use Rattle.scope.specs.Numbers.{streamOf}
-use Rattle.scope.specs.Closing10.{closes}
+use Rattle.scope.specs.Closing.{closes}
 use Rattle.ready.proofs.Ends.{used-short, used-all}
 use Rattle.ready.proofs.all_used.Statement.{statement}
 use Rattle.ready.proofs.all_used.Tie as tie

@@ -2,7 +2,7 @@
 use mathlib.Core.Path.{sym, _∙_}
 use borrow.Author.Tests.{not-true, not-false}
 use borrow.Author.Needs.{needs}
-use Rattle.scope.specs.Types2.{typeRecords, tyAt}
+use Rattle.scope.specs.Types.{typeRecords, tyAt}
 use Rattle.ready.proofs.Verdicts.{input-short, input-left, input-whole}
 use Rattle.ready.proofs.check_input.Statement.{statement}
 use Rattle.ready.proofs.check_input.Tie as tie

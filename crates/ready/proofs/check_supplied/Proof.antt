@@ -5,9 +5,9 @@ use lib.ListN.{length, getD}
 use borrow.Author.Needs.{needs}
 use Rattle.table.proofs.Records.{length-nodes}
 use Rattle.arrow.specs.Answers.{arrowOf}
-use Rattle.scope.specs.Arrows11and12.{noArrow, arrowRecords}
+use Rattle.scope.specs.Arrows.{noArrow, arrowRecords}
 use Rattle.scope.specs.Nodes.{nodeRecords, nodesOf}
-use Rattle.scope.specs.Types2.{typeRecords}
+use Rattle.scope.specs.Types.{typeRecords}
 use Rattle.ready.specs.Answers.{unreadWith}
 use Rattle.ready.proofs.Supplied.{read-refused, input-refused, stores-refused, all-passed}
 use Rattle.ready.proofs.Ends.{width-shown}

@@ -7,9 +7,9 @@ use lib.ListN.{length, set, length-set, length-replicate}
 use borrow.Author.Tests.{not-true, not-false}
 use borrow.Author.Needs.{needs}
 use Rattle.table.proofs.Records.{length-records, length-nodes}
-use Rattle.scope.specs.Arrows11and12.{arrowRecords}
+use Rattle.scope.specs.Arrows.{arrowRecords}
 use Rattle.scope.specs.Nodes.{nodeRecords, nodesOf}
-use Rattle.scope.specs.Types2.{typeRecords}
+use Rattle.scope.specs.Types.{typeRecords}
 use Rattle.limits.specs.Limits.{nodeCount, nodeNumbers}
 use Rattle.ready.proofs.Walks.{Come, come-start, come-on, come-short, come-unused, come-used, come-inside}
 use Rattle.ready.proofs.check_witness.Statement.{statement}

@@ -4,9 +4,9 @@ use lib.ListN.{take}
 use borrow.Author.Tests.{not-true, not-false}
 use borrow.Author.Needs.{needs}
 use Rattle.arrow.specs.Answers.{arrowOf}
-use Rattle.scope.specs.Arrows11and12.{arrowRecords}
+use Rattle.scope.specs.Arrows.{arrowRecords}
 use Rattle.scope.specs.Nodes.{nodeRecords, nodesOf}
-use Rattle.scope.specs.Types2.{typeRecords}
+use Rattle.scope.specs.Types.{typeRecords}
 use Rattle.scope.specs.Numbers.{streamOf}
 use Rattle.ready.proofs.Ends.{ends-here, ends-there}
 use Rattle.ready.proofs.node_end.Statement.{statement}

@@ -3,7 +3,7 @@ use mathlib.Core.Path.{sym, _∙_}
 use native.Mathlib.Omega.{arith}
 use lib.ListN.{drop}
 use borrow.Author.Needs.{needs}
-use Rattle.scope.specs.Types2.{typeRecords, tyAt}
+use Rattle.scope.specs.Types.{typeRecords, tyAt}
 use Rattle.scope.specs.Numbers.{streamOf}
 use Rattle.ready.proofs.Ends.{skip-ends}
 use Rattle.ready.proofs.FirstBits.{ends-nowhere, ends-past, ends-within}

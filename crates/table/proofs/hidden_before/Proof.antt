@@ -1,7 +1,7 @@
 -- `table::hidden_before` meets its contract. The loop's invariant: a node below i hides the hash exactly if one below j does.
 use Rattle.table.proofs.Hashes.{one-below, none-here, none-left}
 use Rattle.table.specs.Lent.{lentNodes}
-use Rattle.scope.specs.Walk6to9.{hides}
+use Rattle.scope.specs.Walk.{hides}
 use Rattle.scope.specs.Numbers.{anyBelow}
 use native.Mathlib.Omega.{arith}
 use Prim.Native.Nat.{ℕ, _≤_}

@@ -2,7 +2,7 @@
 use Rattle.table.proofs.Hashes.{hides-kind}
 use Rattle.table.specs.Lent.{hiddenKind, hashIs, nodeIs}
 use Rattle.table.specs.Answers.{recordOf}
-use Rattle.scope.specs.Stages26.{noRecord}
+use Rattle.scope.specs.Stages.{noRecord}
 use Rattle.scope.specs.Nodes.{NodeRecord, nodeRecords}
 use Rattle.scope.specs.Numbers.{same}
 use lib.ListN.{getD}

@@ -1,7 +1,7 @@
 -- `table::not_repeated` meets its contract: the hash is compared with those of the hidden nodes before.
 use Rattle.table.specs.Walking.{repeatRule}
 use Rattle.table.specs.Lent.{lentNodes}
-use Rattle.scope.specs.Walk6to9.{hides}
+use Rattle.scope.specs.Walk.{hides}
 use Rattle.scope.specs.Numbers.{anyBelow}
 use Rattle.scope.specs.Check.{require}
 use Prim.Native.Nat.{ℕ}

@@ -1,6 +1,6 @@
 -- `table::other_holds` meets its contract: each kind's rule.
 use Rattle.table.proofs.Groups.{rule-unknown, above-kinds}
-use Rattle.scope.specs.Stages26.{numbersRule}
+use Rattle.scope.specs.Stages.{numbersRule}
 use Rattle.scope.specs.Nodes.{kindOf}
 use Rattle.scope.specs.Numbers.{every}
 use native.Mathlib.Omega.{arith}

@@ -11,7 +11,7 @@ use borrow.Author.Tests.{ltb-true, ltb-false}
 use Rattle.limits.specs.Limits.{typeCount, typeBytes}
 use Rattle.refusal.specs.declared.Refusal.the-variants.{TypeRecord}
 use Rattle.scope.specs.Check.{firstFailing}
-use Rattle.scope.specs.Types2.{typeRecords, typeAt, typeRule}
+use Rattle.scope.specs.Types.{typeRecords, typeAt, typeRule}
 use Rattle.types.specs.Records.{recordJudged, recordNext, nextAt}
 use Rattle.types.specs.Table.{arrayOf}
 use Rattle.types.specs.declared.TypeAnswer.{TypeAnswer}

@@ -10,7 +10,7 @@ use borrow.Author.Needs.{needs}
 use borrow.Author.Tests.{le-leb, lt-leb, not-true, not-false}
 use Rattle.limits.specs.Limits.{typeWidth}
 use Rattle.scope.specs.Numbers.{anyBelow}
-use Rattle.scope.specs.Types2.{typeRecords, typeAt, sameType, partsRule}
+use Rattle.scope.specs.Types.{typeRecords, typeAt, sameType, partsRule}
 use Rattle.types.specs.Records.{partsWidth, verdict}
 use Rattle.types.specs.declared.Judged.the-variants.{Width}
 use Rattle.types.specs.declared.TypeRecord.{TypeRecord}

@@ -3,7 +3,7 @@ use mathlib.Core.Path.{_≡_, ap, _∙_}
 use Prim.Native.Nat.{ℕ}
 use lib.ListN.{getD}
 use borrow.Author.Needs.{needs}
-use Rattle.scope.specs.Types2.{typeRecords, typeAt}
+use Rattle.scope.specs.Types.{typeRecords, typeAt}
 use Rattle.types.specs.declared.TypeRecord.{TypeRecord}
 use Rattle.types.proofs.Records.{next-of}
 use Rattle.types.proofs.next_record.Statement.{statement}

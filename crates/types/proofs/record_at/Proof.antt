@@ -6,7 +6,7 @@ use lib.ListN.{getD}
 use borrow.Author.Needs.{needs}
 use Rattle.limits.specs.Limits.{typeBytes}
 use Rattle.scope.specs.Numbers.{be16}
-use Rattle.scope.specs.Types2.{typeRecord}
+use Rattle.scope.specs.Types.{typeRecord}
 use Rattle.types.specs.Table.{recordOf}
 use Rattle.types.specs.declared.TypeRecord.{TypeRecord}
 use Rattle.types.proofs.Records.{record-in, record-past}

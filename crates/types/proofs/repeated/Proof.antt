@@ -4,7 +4,7 @@ use Prim.Native.Nat.{_-_, _≤_, ℕ, _+_}
 use native.Mathlib.Omega.{arith}
 use borrow.Author.Needs.{needs}
 use Rattle.scope.specs.Numbers.{anyBelow}
-use Rattle.scope.specs.Types2.{typeRecords, typeAt, sameType}
+use Rattle.scope.specs.Types.{typeRecords, typeAt, sameType}
 use Rattle.types.specs.Table.{recordOf, sameRecord}
 use Rattle.types.proofs.Records.{any-none, any-here, any-below}
 use Rattle.types.proofs.repeated.Statement.{statement}

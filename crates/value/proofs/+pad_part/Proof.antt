@@ -11,7 +11,7 @@ use borrow.Fn.PlainCycle.{Measures, is, falls, and}
 use Rattle.limits.specs.Limits.{cellCount}
 use Rattle.report.specs.Bits.{bitsOf}
 use Rattle.scope.specs.Numbers.{streamOf}
-use Rattle.scope.specs.Reading3to5.{got, code}
+use Rattle.scope.specs.Reading.{got, code}
 use Rattle.bititer.proofs.Streams.{bit-got, bit-ended, bit-below}
 use Rattle.bititer.proofs.bit.Reads as bit-reads
 use Rattle.bititer.specs.Answers.{gotCode}

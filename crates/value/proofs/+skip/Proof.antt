@@ -9,7 +9,7 @@ use borrow.Author.Needs.{needs}
 use borrow.Fn.Kinds.{In}
 use borrow.Fn.PlainCycle.{Measures, is, falls, and}
 use Rattle.scope.specs.Numbers.{streamOf}
-use Rattle.scope.specs.Reading3to5.{got, code}
+use Rattle.scope.specs.Reading.{got, code}
 use Rattle.bititer.proofs.Streams.{bit-got, bit-ended}
 use Rattle.bititer.proofs.bit.Reads as bit-reads
 use Rattle.bititer.specs.Answers.{gotCode}

@@ -5,7 +5,7 @@ use native.Mathlib.Omega.{arith}
 use lib.ListN.{getD}
 use borrow.Author.Needs.{needs}
 use borrow.Author.Tests.{not-true, not-false}
-use Rattle.scope.specs.Types2.{typeRecords, typeAt}
+use Rattle.scope.specs.Types.{typeRecords, typeAt}
 use Rattle.types.specs.Table.{recordOf}
 use Rattle.types.specs.declared.TypeRecord.{TypeRecord}
 use Rattle.value.specs.Shapes.{recordFor, falls, stepBy}

@@ -22,7 +22,7 @@ use mathlib.Core.Path.{_≡_, refl, sym, ap, _∙_, subst}
 use mathlib.Core.List.{List, []}
 use Rattle.report.specs.Bits.{bitsOf}
 use Rattle.scope.specs.Nodes.{nodeRecords, nodesOf}
-use Rattle.scope.specs.Hashes13.{branchHash}
+use Rattle.scope.specs.Hashes.{branchHash}
 use Rattle.scope.specs.Program.{termAt}
 use Rattle.layout.specs.Mach.{Mach}
 use Rattle.layout.specs.Exec.{runTerm}

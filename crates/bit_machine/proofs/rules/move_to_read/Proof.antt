@@ -1,4 +1,4 @@
-use Rattle.scope.specs.Machine18and19.{reset}
+use Rattle.scope.specs.Machine.{reset}
 use Rattle.layout.specs.Rules.{moved}
 use Rattle.layout.specs.Mach.{length-recordsOf}
 use Rattle.bit_machine.proofs.Frames.{stored}

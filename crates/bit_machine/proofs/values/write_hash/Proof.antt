@@ -13,7 +13,7 @@ use Prim.Native.Nat.{ℕ}
 use lib.ListN.{length}
 use Rattle.layout.specs.Safe.{length-bitsOf}
 use Rattle.layout.specs.Rules.{bitsWritten}
-use Rattle.scope.specs.Hashes13.{branchHash}
+use Rattle.scope.specs.Hashes.{branchHash}
 use Rattle.bit_machine.proofs.Written.{hash-short, hash-count, hash-bits, written-as}
 
 wide-requires : tie.Need-wide-requires

@@ -9,7 +9,7 @@ use Rattle.report.specs.Types.{Ty}
 use Rattle.report.specs.Values.{Val, Read, value, short, readValue}
 use Rattle.scope.specs.Check.{Check, passed, refused, _>>=_, require}
 use Rattle.scope.specs.Numbers.{streamOf, every}
-use Rattle.scope.specs.Closing10.{closes}
+use Rattle.scope.specs.Closing.{closes}
 
 -- a value of the type from the first `count` bits of the bytes
 unfoldable pub checkInput : Ty → (bytes : List ℕ) → (count : ℕ) → Check Val

@@ -10,12 +10,12 @@ use Rattle.refusal.specs.declared.Refusal.the-variants.{Natural, NodeRecord as 
 use Rattle.refusal.specs.declared.Answer.the-variants.{Refused}
 use Rattle.scope.specs.Check.{Check, passed, refused, _>>=_, require, each}
 use Rattle.scope.specs.Numbers.{every, streamOf}
-use Rattle.scope.specs.Types2.{TypeRecord, typeRecords, checkTypes}
+use Rattle.scope.specs.Types.{TypeRecord, typeRecords, checkTypes}
 use Rattle.scope.specs.Nodes.{Kind, kComp, kCase, kPair, kDisconnect, kInjl, kInjr, kTake, kDrop, kIden, kUnit, kFail, kDisconnect1, kWitness, kHidden, kWord, kUnknown, kindOf, NodeRecord, nodeRecords, nodesOf}
-use Rattle.scope.specs.Walk6to9.{checkWalk}
-use Rattle.scope.specs.Arrows11and12.{arrowRecords, checkArrows}
-use Rattle.scope.specs.Hashes13.{checkHashes}
-use Rattle.scope.specs.Bounds14.{checkBounds}
+use Rattle.scope.specs.Walk.{checkWalk}
+use Rattle.scope.specs.Arrows.{arrowRecords, checkArrows}
+use Rattle.scope.specs.Hashes.{checkHashes}
+use Rattle.scope.specs.Bounds.{checkBounds}
 use Rattle.scope.specs.Run.{Tables, programOf, checkTables, Left, leftWith, runTables}
 
 -- a table has a record, and not too many

@@ -11,8 +11,8 @@ use Rattle.report.specs.Bits.{Bit}
 use Rattle.scope.specs.Check.{Check, passed, refused, _>>=_, require}
 use Rattle.scope.specs.Numbers.{zeros, filled, streamOf, every, allZero}
 use Rattle.scope.specs.Nodes.{nodeNumbersOf, nodesOf}
-use Rattle.scope.specs.Reading3to5.{Table, readNodes}
-use Rattle.scope.specs.Walk6to9.{checkWalk}
+use Rattle.scope.specs.Reading.{Table, readNodes}
+use Rattle.scope.specs.Walk.{checkWalk}
 
 -- the bits end at the position, but for fewer than eight zeros
 unfoldable pub closes : List Bit → (at : ℕ) → Bool

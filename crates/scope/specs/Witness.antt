@@ -12,10 +12,10 @@ use Rattle.report.specs.Values.{Val, ⟨⟩, Read, value, short, readValue}
 use Rattle.report.specs.Nodes.{Node}
 use Rattle.scope.specs.Check.{Check, passed, refused, _>>=_, require}
 use Rattle.scope.specs.Numbers.{streamOf, every}
-use Rattle.scope.specs.Types2.{TypeRecord, tyAt}
+use Rattle.scope.specs.Types.{TypeRecord, tyAt}
 use Rattle.scope.specs.Nodes.{onWitness}
-use Rattle.scope.specs.Closing10.{closes}
-use Rattle.scope.specs.Arrows11and12.{Arrow, target}
+use Rattle.scope.specs.Closing.{closes}
+use Rattle.scope.specs.Arrows.{Arrow, target}
 
 -- a value for each node so far, and the bits that are left
 pub record Values : Type 0 where

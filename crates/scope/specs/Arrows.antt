@@ -10,9 +10,9 @@ use Rattle.refusal.specs.declared.Refusal.the-variants.{OneChildDisconnect, Arr
 use Rattle.report.specs.Nodes.{Node, comp, case, pair, disconnect, injl, injr, take, drop, disconnect1, iden, unit, witness, fail, hidden, word}
 use Rattle.scope.specs.Check.{Check, passed, refused, _>>=_, require, each}
 use Rattle.scope.specs.Numbers.{be16, tabulate, every}
-use Rattle.scope.specs.Types2.{TypeRecord, typeAt}
+use Rattle.scope.specs.Types.{TypeRecord, typeAt}
 use Rattle.scope.specs.Nodes.{nodeAt, onOneChild}
-use Rattle.scope.specs.Walk6to9.{hiddenAt}
+use Rattle.scope.specs.Walk.{hiddenAt}
 
 -- source and target as indices of the type table
 pub record Arrow : Type 0 where
