@@ -1,5 +1,6 @@
 /* Runs a dossier through Drevaloci from C: the file that is named, or the 81-byte dossier of the
- * requirements. Prints `value COUNT BITS` or `refused NO PLACE`. */
+ * requirements. Prints `value COUNT BITS` or `refused NO PLACE`; exit status 0 for a value, 1 for a
+ * refusal, 2 where nothing was run. */
 #include "../drevaloci.h"
 
 #include <stdio.h>
@@ -45,6 +46,9 @@ int main(int argc, char **argv) {
         return 2;
     }
     size_t len = fread(dossier, 1, sizeof dossier, file);
+    int failed = ferror(file);
+    if (failed)
+        perror(argv[1]);
     fclose(file);
-    return print_answer(dossier, len);
+    return failed ? 2 : print_answer(dossier, len);
 }

@@ -1,6 +1,9 @@
 //! Runs a dossier through Drevaloci from Rust, step by step: decodes the program, asks what a run of
 //! it needs, lends stores of just that size, and runs it. Without a file it takes the 81-byte dossier
-//! of the requirements. Prints `value COUNT BITS` or `refused NO PLACE`, and what was lent.
+//! of the requirements. Prints `value COUNT BITS` or `refused NO PLACE`, and what was lent; exit status
+//! 0 for a value, 1 for a refusal, 2 where nothing was run.
+
+use std::process::ExitCode;
 
 use drevaloci::{Answer, Bounds, Decoded, Refusal, Stores, Tables};
 
@@ -46,37 +49,51 @@ fn needs(dossier: &[u8]) -> Result<(u32, u32), Refusal> {
     }
 }
 
-fn main() {
-    let dossier = match std::env::args().nth(1) {
-        Some(file) => std::fs::read(file).expect("a file that can be read"),
-        None => known(),
+fn main() -> ExitCode {
+    let Some(file) = std::env::args().nth(1) else {
+        return run(&known());
     };
+    match std::fs::read(&file) {
+        Ok(dossier) => run(&dossier),
+        Err(why) => {
+            eprintln!("{file}: {why}");
+            ExitCode::from(2)
+        }
+    }
+}
+
+/// Runs a dossier in stores of just the size that it needs, and prints its answer.
+fn run(dossier: &[u8]) -> ExitCode {
     let mut nodes = vec![0; drevaloci::NODE_NUMBERS];
     let mut hashes = vec![0; drevaloci::HASH_BYTES];
     let mut answer = vec![0; drevaloci::ANSWER_BYTES];
     // A first call without cells and frames judges the whole dossier: 17 means that only they lack.
     let none = Stores { cells: &mut [], frames: &mut [], answer: &mut answer };
-    let first = drevaloci::run(&dossier, &mut nodes, &mut hashes, none);
+    let first = drevaloci::run(dossier, &mut nodes, &mut hashes, none);
     if !matches!(first, Answer::Refused(Refusal::StoreShort(_))) {
         return print(first, &answer);
     }
-    let (cells, frames) = needs(&dossier).expect("a program that was just accepted");
+    let (cells, frames) = needs(dossier).expect("a program that was just accepted");
     let mut cells = vec![0; (cells as usize).div_ceil(8)];
     let mut frames = vec![0; 3 * frames as usize];
     println!("lent: {} bytes of cells, {} frame records", cells.len(), frames.len() / 3);
     let stores = Stores { cells: &mut cells, frames: &mut frames, answer: &mut answer };
-    let second = drevaloci::run(&dossier, &mut nodes, &mut hashes, stores);
-    print(second, &answer);
+    let second = drevaloci::run(dossier, &mut nodes, &mut hashes, stores);
+    print(second, &answer)
 }
 
-/// Prints an answer, with the bits that stand in the answer store.
-fn print(answer: Answer, bytes: &[u8]) {
+/// Prints an answer, with the bits that stand in the answer store; its exit status.
+fn print(answer: Answer, bytes: &[u8]) -> ExitCode {
     match answer {
-        Answer::Refused(refusal) => println!("{refusal}"),
+        Answer::Refused(refusal) => {
+            println!("{refusal}");
+            ExitCode::from(1)
+        }
         Answer::Value(count) => {
             let bit = |i: usize| if bytes[i / 8] >> (7 - i % 8) & 1 == 1 { '1' } else { '0' };
             let bits: String = (0..count as usize).map(bit).collect();
             println!("{}", format!("value {count} {bits}").trim_end());
+            ExitCode::SUCCESS
         }
     }
 }
