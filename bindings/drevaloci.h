@@ -21,19 +21,15 @@
 #include <stddef.h>
 #include <stdint.h>
 
+/* Sizes of records, and of stores that are enough for every dossier. */
+#include "drevaloci_limits.h"
+
 #ifdef __cplusplus
 extern "C" {
 #endif
 
 /* Stack that is enough for any call. */
 #define DREVALOCI_STACK_BYTES (4u << 20)
-
-/* Store sizes, in elements, that are enough for every dossier. */
-#define DREVALOCI_NODE_NUMBERS (4 * 2048)
-#define DREVALOCI_HASH_BYTES 32768
-#define DREVALOCI_CELL_BYTES (262144 / 8)
-#define DREVALOCI_FRAME_NUMBERS (3 * 1024)
-#define DREVALOCI_ANSWER_BYTES (32768 / 8)
 
 /* The whole job. 0: the output's bits stand in answer from the top bit of its first byte, *place is their count.
  * Else the refusal, at *place. What each end leaves in the five stores is in the requirements, "When a run says no". */

@@ -4,13 +4,13 @@
 #   pack_cases.py original ORIGINAL CRATES  bounds.tsv of the folder vectors/original for crate replay, outputs.tsv for crate stores_test
 import sys
 
+import limits
+from limits import LARGEST
 from parts import write_parts
 
-# The most of each store that a run may ask: node numbers, hash bytes, cell bytes, frame numbers, answer bytes.
-LARGEST = [8192, 32768, 32768, 3072, 4096]
 NOT_TOLD = 255
 NO_ANSWER, NO_BOUNDS = [NOT_TOLD, 0], [NOT_TOLD, 0, 0, 0]
-LIMITS = (262144, 1024, 50000000)
+LIMITS = (limits.CELL_COUNT, limits.FRAME_COUNT, limits.COST_LIMIT)
 
 
 def rows(path):

@@ -14,7 +14,7 @@ static const uint8_t known[81] = {
     0, 0, 0, 0,  0, 0, 0, 2,                                         /* 1 to 1, 1 to 1+(1+1) */
 };
 
-static uint8_t dossier[32769];
+static uint8_t dossier[DREVALOCI_DOSSIER_BYTES + 1];
 static uint32_t nodes[DREVALOCI_NODE_NUMBERS];
 static uint8_t hashes[DREVALOCI_HASH_BYTES];
 static uint8_t cells[DREVALOCI_CELL_BYTES];

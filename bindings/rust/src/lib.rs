@@ -6,6 +6,7 @@
 //! A call needs up to `STACK_BYTES` of stack.
 
 mod calls;
+mod limits;
 mod refusal;
 pub mod sys;
 
@@ -13,17 +14,10 @@ pub use calls::{
     arrows, bounds, decode, hashes, natural, run, run_tables, walk, Answer, Bits, Bounds, Checked, Decoded, Natural,
     Stores, Tables,
 };
+pub use limits::{
+    ANSWER_BYTES, CELL_BYTES, DOSSIER_BYTES, FRAME_NUMBERS, FRAME_RECORD, HASH_BYTES, NODE_NUMBERS, NODE_RECORD,
+};
 pub use refusal::Refusal;
 
 /// Stack that is enough for any call.
 pub const STACK_BYTES: usize = 4 << 20;
-/// Numbers of a node store that is enough for every dossier.
-pub const NODE_NUMBERS: usize = 4 * 2048;
-/// Bytes of a hash store that is enough for every dossier.
-pub const HASH_BYTES: usize = 32_768;
-/// Bytes of a cell store that is enough for every dossier.
-pub const CELL_BYTES: usize = 262_144 / 8;
-/// Numbers of a frame store that is enough for every dossier.
-pub const FRAME_NUMBERS: usize = 3 * 1024;
-/// Bytes of an answer store that is enough for every dossier.
-pub const ANSWER_BYTES: usize = 32_768 / 8;
