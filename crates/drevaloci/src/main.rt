@@ -1,6 +1,7 @@
 // Reads a dossier from standard input and prints one line: `value COUNT BITS` (no BITS and no last space for a count of 0), or `refused NO PLACE`.
-// One byte more than a dossier may have is read, so that a longer input is refused as such.
-// The stores have the largest size that any dossier needs.
+// One byte more than a dossier may have is read, so that a longer input is refused as such. Where a read fails there is no line, and
+// standard error says so. The stores have the largest size that any dossier needs.
+use libc::STDERR_FILENO;
 use libc::STDIN_FILENO;
 use libc::STDOUT_FILENO;
 use refusal::Answer;
@@ -76,8 +77,44 @@ fn answer(dossier: &[u8]) {
     }
 }
 
+// How many bytes were read, and whether a read failed.
+struct Input {
+    count: usize,
+    failed: bool,
+}
+
+// Reads standard input until the buffer is full, the input ends or a read fails.
+fn read_input(buf: &mut [u8]) -> Input
+    ensures { λ r. ⌜ r .count ≤ length (now (buf .exit)) ⌝ }
+{
+    let mut count: usize = 0;
+    while count < buf.len() {
+        let got = libc::read(STDIN_FILENO, &mut buf[count..]);
+        if got < 0 {
+            return Input {
+                count,
+                failed: true,
+            };
+        }
+        let more = io::count(got, &buf[count..]);
+        if more == 0 {
+            break;
+        }
+        count += more;
+    }
+    Input {
+        count,
+        failed: false,
+    }
+}
+
 fn main() {
     let mut input = [0u8; limits::DOSSIER_BYTES + 1];
-    let n = io::read_full(STDIN_FILENO, &mut input);
-    answer(&input[..n]);
+    let got = read_input(&mut input);
+    if got.failed {
+        io::write_all(STDERR_FILENO, b"drevaloci: standard input cannot be read\n");
+        return;
+    }
+    let count = got.count;
+    answer(&input[..count]);
 }
