@@ -59,11 +59,13 @@ fn dossiers() -> Vec<(&'static str, Dossier)> {
     let one = Final::unit();
     let nested = families::fixed(families::nested_comp(1_022), &one, &one);
     let deep = families::thrown_witness(3, &families::deep_type(511));
+    let both = families::alternating(1_021, &families::deep_padded_type(1_018));
     vec![
         ("unit", families::fixed(vec![Row::Unit], &one, &one).dossier(&mut rng)),
         ("1,022 nested comps", nested.dossier(&mut rng)),
         ("1,022 comps over 1,023 takes", deepest()),
         ("a witness whose type is 1,021 records deep", deep.dossier(&mut rng)),
+        ("1,021 comps and pairs in turn over a witness whose type is 1,020 records deep", both.dossier(&mut rng)),
     ]
 }
 

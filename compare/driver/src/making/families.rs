@@ -77,6 +77,37 @@ pub fn deep_type(bits: usize) -> Arc<Final> {
     ty
 }
 
+/// A type with padding in its last part, so many products deep: bit, (bit, .. (1+(1+1))).
+pub fn deep_padded_type(depth: usize) -> Arc<Final> {
+    let mut ty = types::sum(&Final::unit(), &types::word(0));
+    for _ in 0..depth {
+        ty = types::product(&types::word(0), &ty);
+    }
+    ty
+}
+
+/// A witness thrown away at the bottom of comps and pairs in turn, k of each.
+pub fn alternating(k: usize, ty: &Arc<Final>) -> Made {
+    let one = Final::unit();
+    let two = types::product(&one, &one);
+    let arrow = |source: &Arc<Final>, target: &Arc<Final>| FinalArrow {
+        source: Arc::clone(source),
+        target: Arc::clone(target),
+    };
+    let mut made = Made {
+        rows: vec![Row::Witness, Row::Unit, Row::Comp(0, 1), Row::Unit],
+        arrows: vec![arrow(&one, ty), arrow(ty, &one), arrow(&one, &one), arrow(&one, &one)],
+    };
+    let (mut last, beside) = (2, 3);
+    let mut dropped = None;
+    for _ in 0..k {
+        let pair = made.add(Row::Pair(last, beside), arrow(&one, &two));
+        let unit = *dropped.get_or_insert_with(|| made.add(Row::Unit, arrow(&two, &one)));
+        last = made.add(Row::Comp(pair, unit), arrow(&one, &one));
+    }
+    made
+}
+
 /// Boolean gates: the bodies that a circuit is made of.
 struct Gates {
     rows: Vec<Row>,

@@ -30,6 +30,13 @@ pub fn any_value(rng: &mut Rng, ty: &Arc<Final>) -> Value {
 }
 
 impl Made {
+    /// Adds a node with its arrow; its number.
+    pub fn add(&mut self, row: Row, arrow: FinalArrow) -> usize {
+        self.rows.push(row);
+        self.arrows.push(arrow);
+        self.rows.len() - 1
+    }
+
     /// Compact bits of any values for the witness nodes, in row order.
     pub fn any_witness(&self, rng: &mut Rng) -> Vec<bool> {
         let mut bits = vec![];
