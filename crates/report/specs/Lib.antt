@@ -7,5 +7,6 @@ pub mod Nodes
 pub mod Canonical
 pub mod Terms
 pub mod Typing
+pub mod Rules
 pub mod Meaning
 pub mod Pins
