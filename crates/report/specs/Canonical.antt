@@ -37,15 +37,15 @@ Walk = List ℕ → List ℕ
 
 -- one walk after the other
 unfoldable pub walkEach : List Walk → List ℕ → Walk
-walkEach walks [] nodes = nodes
-walkEach walks (j ∷ js) nodes = walkEach walks js ((getD walks j (λ d. d)) nodes)
+walkEach walks [] done = done
+walkEach walks (j ∷ js) done = walkEach walks js ((getD walks j (λ d. d)) done)
 
 -- the walk from a node, of the walks from the nodes before it
 unfoldable pub walkMake : List Walk → Node → Walk
 unfolding walkEach children isDone
-walkMake walks n nodes = elim (isDone (length walks) nodes) [
-  | true ↦ nodes
-  | false ↦ walkEach walks (children n) nodes ++ length walks ∷ []
+walkMake walks n done = elim (isDone (length walks) done) [
+  | true ↦ done
+  | false ↦ walkEach walks (children n) done ++ length walks ∷ []
 ]
 
 -- the nodes in the order in which a walk from the last node does them

@@ -1,5 +1,7 @@
 -- The left-first walk from the last node, each node once, when its children are done. The k-th done, from 0, must be node k (6).
 -- Hidden children are allowed only under case (7), one at most (8); no hidden hash twice (9); the last node is not hidden (7).
+-- `A9 40 20` is unit, iden, comp(0, 1): from node 2 the nodes done grow from [] to [0], [0, 1] and [0, 1, 2].
+-- `A9 40 10` is unit, iden, comp(1, 0): its left child, node 1, comes while nothing is done, so it is 6 at 0.
 use mathlib.Core.Bool.{Bool, true, false, not}
 use mathlib.Core.List.{List, [], _∷_, _++_}
 use Prim.Native.Nat.{ℕ, zero, suc, _-_}
@@ -57,21 +59,21 @@ module _ (nodes : List Node) where
 
   unfoldable pub walkEach : List Walk → List ℕ → Walk
   unfolding _>>=_
-  walkEach walks [] nodes = passed nodes
-  walkEach walks (j ∷ js) nodes = (getD walks j (λ d. passed d)) nodes >>= λ nodes. walkEach walks js nodes
+  walkEach walks [] done = passed done
+  walkEach walks (j ∷ js) done = (getD walks j (λ d. passed d)) done >>= λ done. walkEach walks js done
 
   -- the walk from a node, of the walks from the nodes before it
   unfoldable pub walkMake : List Walk → Node → Walk
   unfolding _>>=_ require isDone children walkEach allowed
-  walkMake walks n nodes =
+  walkMake walks n done =
       let i = length walks in
-      elim (isDone i nodes) [
-        | true ↦ passed nodes
+      elim (isDone i done) [
+        | true ↦ passed done
         | false ↦ (do
-          nodes ← walkEach walks (children n) nodes
-          next ← require (eqb i (length nodes)) (CanonicalOrder (length nodes))
+          done ← walkEach walks (children n) done
+          next ← require (eqb i (length done)) (CanonicalOrder (length done))
           fine ← allowed i n
-          passed (nodes ++ i ∷ []))
+          passed (done ++ i ∷ []))
       ]
 
   -- the walk from node i
