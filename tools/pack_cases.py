@@ -88,7 +88,7 @@ def with_stores(row):
     node_records, hash_bytes, cell_bytes, frame_records, answer_bytes, fill = map(int, sizes.split())
     said, output = answer(line)
     stores = [number_list(nodes), from_hex(hashes), from_hex(cells), number_list(frames), from_hex(left)]
-    lent_sizes = [4 * node_records, hash_bytes, cell_bytes, 3 * frame_records, answer_bytes]
+    lent_sizes = [limits.NODE_NUMBERS * node_records, hash_bytes, cell_bytes, limits.FRAME_NUMBERS * frame_records, answer_bytes]
     return [lent(name, said, fill, lent_sizes, output, from_hex(dossier), stores)]
 
 
