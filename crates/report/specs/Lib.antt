@@ -8,4 +8,8 @@ pub mod Canonical
 pub mod Terms
 pub mod Typing
 pub mod Meaning
-pub mod Pins
+pub mod Lines
+pub mod CodeRows
+pub mod ValueRows
+pub mod MeaningRows
+pub mod TypingRows

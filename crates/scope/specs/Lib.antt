@@ -22,3 +22,14 @@ pub mod Dossiers
 pub mod Known
 pub mod BoundsTable
 pub mod StageRows
+pub mod NumberRows
+pub mod HeaderRows
+pub mod TypeRows
+pub mod NodeRows
+pub mod ReadingRows
+pub mod WalkRows
+pub mod ArrowRows
+pub mod HashRows
+pub mod ProgramRows
+pub mod ReadyRows
+pub mod MachineRows
