@@ -2,24 +2,11 @@
 use mathlib.Core.Path.{_≡_, refl}
 use mathlib.Core.List.{List, [], _∷_}
 use Prim.Native.Nat.{ℕ}
-use Rattle.report.specs.Lines.{Line, _is_, Hold}
+use Rattle.report.specs.Lines.{Line, _is_, Hold, b1, b2, o, i}
 use Rattle.report.specs.Types.{Ty, one, sum, prod}
 use Rattle.report.specs.Values.{Val, ⟨⟩, inl, inr, _&_}
 use Rattle.report.specs.Terms.{Term, iden, comp, unit, injl, injr, case, pair, take, drop, assertl, assertr, fail, witness, word, disconnect, bad}
 use Rattle.report.specs.Meaning.{Out, done, failed, pruned, stuck, Means, eval, visits}
-
--- one bit and two; a bit's two values
-abbrev b1 : Ty
-b1 = sum one one
-
-abbrev b2 : Ty
-b2 = prod b1 b1
-
-abbrev o : Val
-o = inl ⟨⟩
-
-abbrev i : Val
-i = inr ⟨⟩
 
 -- the two branches of a case told apart by the tag of what they answer
 abbrev left : Term

@@ -1,19 +1,10 @@
 -- A derivation for each typing rule, at types that are all different.
 use mathlib.Core.Path.{_≡_, refl}
+use Rattle.report.specs.Lines.{b1, b2, b3}
 use Rattle.report.specs.Types.{Ty, one, sum, prod, wordTy}
 use Rattle.report.specs.Values.{Val, ⟨⟩, inl, inr, _&_, HasTy, isUnit, isLeft, isRight, isPair}
 use Rattle.report.specs.Terms.{iden, comp, unit, injl, injr, case, pair, take, drop, assertl, assertr, fail, witness, word, disconnect}
 use Rattle.report.specs.Typing.{Typed, Iden, Comp, Unit·, Injl, Injr, Case, Pair, Take, Drop, Assertl, Assertr, Fail, Witness, Word, Disconnect}
-
--- one bit, two and three
-abbrev b1 : Ty
-b1 = sum one one
-
-abbrev b2 : Ty
-b2 = prod b1 b1
-
-abbrev b3 : Ty
-b3 = prod b1 b2
 
 -- two bits as a value
 abbrev two : Val

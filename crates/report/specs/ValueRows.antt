@@ -4,27 +4,10 @@ use mathlib.Core.Path.{_≡_, refl}
 use mathlib.Core.List.{List, [], _∷_}
 use Prim.Native.Nat.{ℕ}
 use lib.ListN.{getD}
-use Rattle.report.specs.Lines.{Line, _is_, Hold}
+use Rattle.report.specs.Lines.{Line, _is_, Hold, b1, b2, b3, o, i}
 use Rattle.report.specs.Bits.{Bit}
 use Rattle.report.specs.Types.{Ty, one, sum, prod, width, padL, padR, wordTy, leftOf, rightOf}
 use Rattle.report.specs.Values.{Val, ⟨⟩, inl, inr, _&_, HasTy, isUnit, isLeft, isRight, isPair, compact, padded, Read, value, short, readValue, Cells, valueAt}
-
--- one bit, two bits and three
-abbrev b1 : Ty
-b1 = sum one one
-
-abbrev b2 : Ty
-b2 = prod b1 b1
-
-abbrev b3 : Ty
-b3 = prod b1 b2
-
--- a bit's two values
-abbrev o : Val
-o = inl ⟨⟩
-
-abbrev i : Val
-i = inr ⟨⟩
 
 widths : Hold (
     width one is 0

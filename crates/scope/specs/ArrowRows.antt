@@ -10,9 +10,7 @@ use Rattle.report.specs.Nodes.{Node, comp, case, pair, disconnect, injl, injr, 
 use Rattle.scope.specs.Check.{Check, passed, refused}
 use Rattle.scope.specs.Types.{TypeRecord}
 use Rattle.scope.specs.Arrows.{Arrow, arrowRecords, noArrow, source, target, isUnit, isSum, isProduct, leftAt, rightAt, isWord, kindRule, arrowRule, checkArrows}
-
-abbrev ty : (tag left right : ℕ) → TypeRecord
-ty t l r = record { tag = t; left = l; right = r }
+use Rattle.scope.specs.Shorthand.{ty, to}
 
 -- the types of the rows, by their indices; 13 is the word of 256 bits
 abbrev types : List TypeRecord
@@ -86,9 +84,6 @@ type-tests : Hold (
     ∷ [])
 unfolding Hold isUnit isSum isProduct isWord
 type-tests = refl
-
-abbrev to : (from to : ℕ) → Arrow
-to a b = record { source = a; target = b }
 
 -- two bytes a type, four an arrow; odd bytes at the end are of none; past the table an arrow is from 0 to 0
 arrows : Hold (

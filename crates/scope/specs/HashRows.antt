@@ -40,6 +40,7 @@ branch-hashes : Hold (
     ∷ branchHash nodes (hash 7 ++ hash 8 ++ hash 9) 7 is hash 4
     ∷ branchHash nodes (hash 7 ++ hash 8 ++ hash 9) 8 is []
     ∷ branchHash nodes (hash 7 ++ hash 8 ++ hash 9) 9 is []
+    ∷ branchHash nodes (hash 7 ++ hash 8 ++ hash 9) 99 is []
     ∷ [])
 unfolding Hold branchHash
 branch-hashes = refl

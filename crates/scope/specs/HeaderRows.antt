@@ -18,14 +18,14 @@ bytesOf32 [] = []
 bytesOf32 (n ∷ ns) = n / 16777216 % 256 ∷ n / 65536 % 256 ∷ n / 256 % 256 ∷ n % 256 ∷ bytesOf32 ns
 
 -- the header's numbers
-abbrev header : List ℕ
+abbrev pub header : List ℕ
 header = 1 ∷ 2 ∷ 56 ∷ 3 ∷ 66 ∷ 1 ∷ 69 ∷ 9 ∷ 73 ∷ 3 ∷ 75 ∷ 1 ∷ 76 ∷ 108 ∷ []
 
 -- the dossier with another header; its other bytes are 100, 101, ..
-abbrev headed : List ℕ → List ℕ
+abbrev pub headed : List ℕ → List ℕ
 headed numbers = bytesOf32 numbers ++ tabulate 52 (λ k. 100 + k)
 
-abbrev dossier : List ℕ
+abbrev pub dossier : List ℕ
 dossier = headed header
 
 -- the dossier with number j replaced

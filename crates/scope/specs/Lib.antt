@@ -22,6 +22,7 @@ pub mod Dossiers
 pub mod Known
 pub mod BoundsTable
 pub mod StageRows
+pub mod Shorthand
 pub mod NumberRows
 pub mod HeaderRows
 pub mod TypeRows
@@ -33,3 +34,7 @@ pub mod HashRows
 pub mod ProgramRows
 pub mod ReadyRows
 pub mod MachineRows
+pub mod RunRows
+pub mod Assembled
+pub mod OrderRows
+pub mod EndRows

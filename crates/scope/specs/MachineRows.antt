@@ -3,7 +3,7 @@ use mathlib.Core.Path.{_≡_, refl}
 use mathlib.Core.List.{List, [], _∷_, _++_}
 use Prim.Native.Nat.{ℕ, zero, suc, _+_}
 use lib.ListN.{getD}
-use Rattle.report.specs.Lines.{Line, _is_, Hold}
+use Rattle.report.specs.Lines.{Line, _is_, Hold, b1, b2, b3, o, i}
 use Rattle.report.specs.Bits.{Bit}
 use Rattle.report.specs.Types.{Ty, one, sum, prod, wordTy}
 use Rattle.report.specs.Values.{Val, ⟨⟩, inl, inr, _&_, Cells}
@@ -15,7 +15,7 @@ use Rattle.scope.specs.Machine.{Frame, State, state, Step, putBits, copy
 abbrev frame : (cursor start len : ℕ) → Frame
 frame c s l = record { cursor = c; start = s; len = l }
 
--- cells that begin with these bits, and hold the last one ever after
+-- cells that begin with these bits, and hold one and the same after them
 abbrev cells : List Bit → (rest : Bit) → Cells
 cells bits rest p = getD bits p rest
 
@@ -128,22 +128,6 @@ peeks : Hold (
     ∷ [])
 unfolding Hold bitShown peek state
 peeks = refl
-
--- one bit and three
-abbrev b1 : Ty
-b1 = sum one one
-
-abbrev b2 : Ty
-b2 = prod b1 b1
-
-abbrev b3 : Ty
-b3 = prod b1 b2
-
-abbrev o : Val
-o = inl ⟨⟩
-
-abbrev i : Val
-i = inr ⟨⟩
 
 -- a read frame of cells 0 to 6, its cursor at the second, which begins with this tag; a write frame of cells 7 to 12, its cursor at the second; old bits
 abbrev on : (tag old : Bit) → State

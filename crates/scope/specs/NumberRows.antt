@@ -4,7 +4,6 @@ use mathlib.Core.Bool.{Bool, true, false}
 use mathlib.Core.List.{List, [], _∷_}
 use Prim.Native.Nat.{ℕ, _+_, _*_}
 use lib.Dec.{ltb, eqb}
-use lib.ListN.{length, replicate}
 use Rattle.limits.specs.Limits.{dossierBytes}
 use Rattle.refusal.specs.declared.Refusal.the-variants.{Header, TypeRecord, Jet}
 use Rattle.report.specs.Lines.{Line, _is_, Hold}
@@ -51,8 +50,8 @@ lists : Hold (
     ∷ tabulateFrom 2 3 (λ i. i * 10) is (20 ∷ 30 ∷ 40 ∷ [])
     ∷ tabulate 3 (λ i. i * 10) is (0 ∷ 10 ∷ 20 ∷ [])
     ∷ streamOf (128 ∷ 1 ∷ []) is bitsOf (128 ∷ 1 ∷ [])
-    -- at the dossier's limit a slice is read, and one byte above it none of it
-    ∷ (length (streamOf (zeros dossierBytes)) ∷ length (streamOf (zeros (dossierBytes + 1))) ∷ []) is (8 * dossierBytes ∷ 0 ∷ [])
+    -- of a slice above the dossier's limit nothing is read
+    ∷ streamOf (zeros (dossierBytes + 1)) is []
     ∷ [])
 unfolding Hold filled tabulateFrom tabulate streamOf
 lists = refl

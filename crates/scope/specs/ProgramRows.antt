@@ -3,7 +3,7 @@ use mathlib.Core.Path.{_≡_, refl}
 use mathlib.Core.List.{List, [], _∷_}
 use Prim.Native.Nat.{ℕ}
 use lib.ListN.{getD}
-use Rattle.report.specs.Lines.{Line, _is_, Hold}
+use Rattle.report.specs.Lines.{Line, _is_, Hold, b1, b2, o, i}
 use Rattle.report.specs.Types.{Ty, one, sum, prod}
 use Rattle.report.specs.Values.{Val, ⟨⟩, inl, inr, _&_}
 use Rattle.report.specs.Nodes.{Node}
@@ -13,19 +13,7 @@ use Rattle.scope.specs.Types.{TypeRecord}
 use Rattle.scope.specs.Arrows.{Arrow}
 use Rattle.scope.specs.Program.{Program, valueFrom, sourceTy, targetTy, termOf, termAt, last, whole, wholeSource, wholeTarget}
 use Rattle.scope.specs.Bounds.{wholeCells, wholeFrames, wholeCost}
-
--- one bit and two; the two values of a bit
-abbrev b1 : Ty
-b1 = sum one one
-
-abbrev b2 : Ty
-b2 = prod b1 b1
-
-abbrev o : Val
-o = inl ⟨⟩
-
-abbrev i : Val
-i = inr ⟨⟩
+use Rattle.scope.specs.Shorthand.{ty, to}
 
 values-from : Hold (
     valueFrom b2 (1 ∷ 0 ∷ 1 ∷ []) is (i & o)
@@ -33,12 +21,6 @@ values-from : Hold (
     ∷ [])
 unfolding Hold valueFrom
 values-from = refl
-
-abbrev ty : (tag left right : ℕ) → TypeRecord
-ty t l r = record { tag = t; left = l; right = r }
-
-abbrev to : (from to : ℕ) → Arrow
-to a b = record { source = a; target = b }
 
 -- unit, b1, b2, b1 + b2, (b1 + b2) × b2, b2 × (b1 + b2)
 abbrev types : List TypeRecord

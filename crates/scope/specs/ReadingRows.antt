@@ -14,6 +14,7 @@ use Rattle.scope.specs.Numbers.{tabulate}
 use Rattle.scope.specs.Naturals.{Natural, natural, ended, tooLong, readNatural}
 use Rattle.scope.specs.Nodes.{NodeRecord}
 use Rattle.scope.specs.Reading.{Fault, streamEnded, lengthTooLong, overBound, aJet, hashesShort, Got, got, fault, Item, next, code, naturalUpTo, child, octets, node, nodeIn, Table, nodesFrom, readNodes}
+use Rattle.scope.specs.Shorthand.{row, table}
 
 naturals : Hold (
     readNatural (0 ∷ 1 ∷ []) is natural 1 (1 ∷ [])
@@ -60,10 +61,6 @@ whole-bytes : Hold (
     ∷ [])
 unfolding Hold next octets bitsOf
 whole-bytes = refl
-
--- a record whose third number is unused, with what it puts into the hash store
-abbrev row : (kind first second : ℕ) → NodeRecord
-row k a b = record { kind = k; first = a; second = b; third = 0 }
 
 abbrev item : (kind first second : ℕ) → (stored : List ℕ) → Item
 item k a b bytes = record { node = row k a b; stored = bytes }
@@ -126,9 +123,6 @@ nodes-read : Hold (
     ∷ [])
 unfolding Hold node nodeIn tabulate bitsOf codeBy log2By lowBits
 nodes-read = refl
-
-abbrev table : List NodeRecord → (hashes : List ℕ) → (end : ℕ) → Table
-table rows bytes at = record { records = rows; hashes = bytes; end = at }
 
 -- a hidden node, a fail node, a hidden node and their comps; byte positions in the order of the nodes
 abbrev stored : List Bit

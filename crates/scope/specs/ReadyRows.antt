@@ -3,7 +3,7 @@ use mathlib.Core.Path.{_≡_, refl}
 use mathlib.Core.List.{List, [], _∷_}
 use Prim.Native.Nat.{ℕ}
 use Rattle.refusal.specs.declared.Refusal.the-variants.{Witness, Input, StoreShort}
-use Rattle.report.specs.Lines.{Line, _is_, Hold}
+use Rattle.report.specs.Lines.{Line, _is_, Hold, o, i}
 use Rattle.report.specs.Types.{Ty, one, sum, prod}
 use Rattle.report.specs.Values.{Val, ⟨⟩, inl, inr, _&_}
 use Rattle.report.specs.Nodes.{Node, iden, unit, witness}
@@ -15,18 +15,7 @@ use Rattle.scope.specs.Program.{Program}
 use Rattle.scope.specs.Witness.{checkWitness}
 use Rattle.scope.specs.Input.{checkInput}
 use Rattle.scope.specs.Stores.{checkStores}
-
-abbrev ty : (tag left right : ℕ) → TypeRecord
-ty t l r = record { tag = t; left = l; right = r }
-
-abbrev to : (from to : ℕ) → Arrow
-to a b = record { source = a; target = b }
-
-abbrev o : Val
-o = inl ⟨⟩
-
-abbrev i : Val
-i = inr ⟨⟩
+use Rattle.scope.specs.Shorthand.{ty, to}
 
 -- unit, a bit, two bits, 1 + 2; words of 4 and 8 bits, and 1 + 8 of width 9
 abbrev types : List TypeRecord
@@ -47,6 +36,8 @@ witness-bits : Hold (
     ∷ witnessed (0b10100000 ∷ []) 4 is refused (Witness 3)
     ∷ witnessed (0b10110000 ∷ []) 3 is refused (Witness 3)
     ∷ witnessed (0b10100000 ∷ 0 ∷ []) 3 is refused (Witness 3)
+    -- a witness to unit in the middle takes no bit
+    ∷ checkWitness types (witness ∷ witness ∷ witness ∷ []) (to 0 1 ∷ to 0 0 ∷ to 0 1 ∷ []) (255 ∷ []) 1 is refused (Witness 2)
     -- short before leftover bits
     ∷ witnessed (0b10110000 ∷ []) 2 is refused (Witness 2)
     ∷ [])

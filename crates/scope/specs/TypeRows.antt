@@ -4,24 +4,16 @@ use mathlib.Core.Bool.{Bool, true, false}
 use mathlib.Core.List.{List, [], _∷_, _++_}
 use Prim.Native.Nat.{ℕ, suc, _+_}
 use Rattle.refusal.specs.declared.Refusal.the-variants.{TypeRecord as BadTypeRecord}
-use Rattle.report.specs.Lines.{Line, _is_, Hold}
+use Rattle.report.specs.Lines.{Line, _is_, Hold, b1, b2}
 use Rattle.report.specs.Types.{Ty, one, sum, prod, width, wordTy}
 use Rattle.scope.specs.Check.{Check, passed, refused}
 use Rattle.scope.specs.Numbers.{tabulate}
 use Rattle.scope.specs.Types.{TypeRecord, typeRecord, typeRecords, typeFrom, typeMake, tyAt, typeAt, sameType, typeRule, checkTypes}
-
-abbrev ty : (tag left right : ℕ) → TypeRecord
-ty t l r = record { tag = t; left = l; right = r }
+use Rattle.scope.specs.Shorthand.{ty}
 
 -- unit, a bit, two bits, and the sum and the product of the two
 abbrev table : List TypeRecord
 table = ty 0 0 0 ∷ ty 1 0 0 ∷ ty 2 1 1 ∷ ty 1 1 2 ∷ ty 2 1 2 ∷ []
-
-abbrev b1 : Ty
-b1 = sum one one
-
-abbrev b2 : Ty
-b2 = prod b1 b1
 
 -- five bytes a record; odd bytes at the end are of none
 records : Hold (

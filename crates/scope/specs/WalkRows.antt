@@ -15,6 +15,7 @@ use Rattle.scope.specs.Nodes.{NodeRecord}
 use Rattle.scope.specs.Reading.{Table}
 use Rattle.scope.specs.Walk.{allowed, walkFrom, checkWalk}
 use Rattle.scope.specs.Closing.{closes, decode, nodesLeft, hashesLeft}
+use Rattle.scope.specs.Shorthand.{row, table}
 
 abbrev h : Node
 h = hidden (1 ∷ 2 ∷ [])
@@ -121,12 +122,6 @@ closings : Hold (
     ∷ [])
 unfolding Hold closes
 closings = refl
-
-abbrev row : (kind first second : ℕ) → NodeRecord
-row k a b = record { kind = k; first = a; second = b; third = 0 }
-
-abbrev table : List NodeRecord → (hashes : List ℕ) → (end : ℕ) → Table
-table rows bytes at = record { records = rows; hashes = bytes; end = at }
 
 -- reading, then the walk, then the closing: each pair of neighbours with both wrong
 decoded : Hold (
