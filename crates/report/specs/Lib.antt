@@ -9,4 +9,8 @@ pub mod Terms
 pub mod Typing
 pub mod Rules
 pub mod Meaning
-pub mod Pins
+pub mod Lines
+pub mod CodeRows
+pub mod ValueRows
+pub mod MeaningRows
+pub mod TypingRows

@@ -3,19 +3,20 @@
 use mathlib.Core.Path.{_≡_, refl}
 use mathlib.Core.Bool.{Bool, true, false}
 use mathlib.Core.List.{List, [], _∷_}
-use Prim.Native.Nat.{ℕ}
+use Prim.Native.Nat.{ℕ, _+_}
 use lib.Dec.{eqb}
-use Rattle.refusal.specs.Numbers.{numberOf, placeOf}
+use Rattle.limits.specs.Limits.{cellCount, frameCount, costLimit}
+use Rattle.refusal.specs.declared.Refusal.the-variants.{OverLimit}
+use Rattle.report.specs.Lines.{_is_, Hold}
 use Rattle.report.specs.Types.{Ty, one, sum, prod, wordTy}
 use Rattle.report.specs.Values.{Val, ⟨⟩}
-use Rattle.report.specs.Terms.{Term, iden, comp, unit, injl, injr, case, pair, take, drop, assertl, assertr, fail, witness, word, disconnect}
+use Rattle.report.specs.Terms.{Term, iden, comp, unit, injl, injr, case, pair, take, drop, assertl, assertr, fail, witness, word, disconnect, bad}
 use Rattle.scope.specs.Check.{Check, passed, refused}
-use Rattle.scope.specs.Numbers.{same}
 use Rattle.scope.specs.Bounds.{Bound, bounds, checkLimits}
 
 -- a cell of the table, at a term
 pub data Line : Type 0 where
-  cells frames cost : Term → (is : ℕ) → Line
+  cells frames cost : Term → (number : ℕ) → Line
 
 unfoldable pub isSo : Line → Bool
 unfolding bounds
@@ -50,6 +51,7 @@ table : List Line
 unfolding wordTy
 table =
     cells unit 0 ∷ frames unit 0 ∷ cost unit 100
+    ∷ cells bad 0 ∷ frames bad 0 ∷ cost bad 0
     ∷ cells (iden b4) 0 ∷ frames (iden b4) 0 ∷ cost (iden b4) 104
     ∷ cells (word b8 ⟨⟩) 0 ∷ frames (word b8 ⟨⟩) 0 ∷ cost (word b8 ⟨⟩) 108
     ∷ cells (injl b1 b4 left) 4 ∷ frames (injl b1 b4 left) 1 ∷ cost (injl b1 b4 left) 404
@@ -74,23 +76,12 @@ table-holds : allSo table ≡ true
 unfolding table allSo
 table-holds = refl
 
--- a check as numbers: nothing where it passes
-unfoldable pub told : Check (Unit {0}) → List ℕ
-told (passed x) = []
-told (refused r) = numberOf r ∷ placeOf r ∷ []
-
-at-the-limits : told (checkLimits 262144 1024 50000000) ≡ []
-unfolding told checkLimits
-at-the-limits = refl
-
-cells-over : told (checkLimits 262145 1025 50000001) ≡ 14 ∷ 0 ∷ []
-unfolding told checkLimits
-cells-over = refl
-
-frames-over : told (checkLimits 262144 1025 50000001) ≡ 14 ∷ 1 ∷ []
-unfolding told checkLimits
-frames-over = refl
-
-cost-over : told (checkLimits 262144 1024 50000001) ≡ 14 ∷ 2 ∷ []
-unfolding told checkLimits
-cost-over = refl
+-- at the limits a program passes; above one of them it is refused at the first
+limits-kept : Hold (
+    checkLimits cellCount frameCount costLimit is passed tt
+    ∷ checkLimits (cellCount + 1) (frameCount + 1) (costLimit + 1) is refused (OverLimit 0)
+    ∷ checkLimits cellCount (frameCount + 1) (costLimit + 1) is refused (OverLimit 1)
+    ∷ checkLimits cellCount frameCount (costLimit + 1) is refused (OverLimit 2)
+    ∷ [])
+unfolding Hold checkLimits
+limits-kept = refl

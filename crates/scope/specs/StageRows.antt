@@ -1,154 +1,165 @@
--- Stages over lent tables, computed: each clause of 26, what goes before and after it, and the checks made again.
--- And the two parts that a call hands back: an opened section and the hash of a branch.
+-- Stages over lent tables, computed: each number of a record of each kind (26), what comes before and after it, and the checks made again.
 use mathlib.Core.Path.{_≡_, refl}
 use mathlib.Core.Bool.{Bool, true, false}
 use mathlib.Core.List.{List, [], _∷_, _++_}
-use Prim.Native.Nat.{ℕ, _+_, _*_, _^_}
-use lib.Dec.{eqb}
+use Prim.Native.Nat.{ℕ, zero, suc, _+_, _*_, _^_}
 use lib.ListN.{replicate}
-use Rattle.limits.specs.Limits.{nodeCount, typeCount, dossierBytes}
-use Rattle.scope.specs.Check.{Check}
-use Rattle.scope.specs.Numbers.{zeros, every, same, tabulate}
-use Rattle.scope.specs.Header.{opened}
-use Rattle.scope.specs.Nodes.{nodeRecords, nodesOf}
-use Rattle.scope.specs.Hashes.{countPlace, branchHash}
+use Rattle.limits.specs.Limits.{nodeCount, typeCount, dossierBytes, wordMost, hashBytes, failBytes, nodeNumbers, typeBytes}
+use Rattle.refusal.specs.declared.Answer.{Answer}
+use Rattle.refusal.specs.declared.Answer.the-variants.{Value, Refused}
+use Rattle.refusal.specs.declared.Refusal.the-variants.{Header, TypeRecord as BadTypeRecord, Natural as BadNatural, CanonicalOrder, HiddenElsewhere, OneChildDisconnect, Arrow as BadArrow, Hash, OverLimit, Witness, Input, StoreShort, NodeRecord as BadNodeRecord}
+use Rattle.report.specs.Lines.{Line, _is_, Hold}
+use Rattle.scope.specs.Check.{Check, passed, refused}
+use Rattle.scope.specs.Numbers.{zeros, tabulate}
+use Rattle.scope.specs.Nodes.{Kind, kComp, kCase, kPair, kDisconnect, kInjl, kInjr, kTake, kDrop, kIden, kUnit, kFail, kDisconnect1, kWitness, kHidden, kWord, kUnknown}
 use Rattle.scope.specs.Run.{Left}
-use Rattle.scope.specs.Stages.{counted, walkStage, arrowStage, hashStage, boundsStage, runStage}
-use Rattle.scope.specs.Rows.{digits, bytes, said}
-use Rattle.scope.specs.BoundsTable.{told}
+use Rattle.scope.specs.Stages.{counted, numbersRule, recordRule, checkRecords, walkStage, arrowStage, hashStage, boundsStage, runStage}
+use Rattle.scope.specs.Shorthand.{row}
 
--- a stage that is lent these tables refuses so, or passes (the empty list)
-pub data Stage : Type 0 where
-  count : (records most : ℕ) → (says : List ℕ) → Stage
-  walk : (program hashes nodes : List ℕ) → (says : List ℕ) → Stage
-  arrow : (types nodes arrows program hashes : List ℕ) → (says : List ℕ) → Stage
-  hash : (types nodes arrows program hashes given : List ℕ) → (says : List ℕ) → Stage
-  bound : (types nodes arrows program hashes : List ℕ) → (says : List ℕ) → Stage
-  -- the unit program with so many witness and input bits counted beside their bytes
-  run : (witness : List ℕ) (witnessBits : ℕ) (input : List ℕ) (inputBits : ℕ) → (says : List ℕ) → Stage
+-- record 3 of a kind with these numbers, beside 8 bits of program and 70 bytes of hashes
+abbrev rule : Kind → (a b c : ℕ) → Bool
+rule k a b c = numbersRule 8 70 3 k a b c
 
-abbrev unitType : List ℕ
-unitType = 0 ∷ 0 ∷ 0 ∷ 0 ∷ 0 ∷ []
+-- two children up to node 2: with each number at its best, and then each too large
+abbrev two : Kind → List Bool
+two k = rule k 2 2 0 ∷ rule k 3 2 0 ∷ rule k 2 3 0 ∷ rule k 2 2 1 ∷ []
+
+-- one child; none
+abbrev one : Kind → List Bool
+one k = rule k 2 0 0 ∷ rule k 3 0 0 ∷ rule k 2 1 0 ∷ rule k 2 0 1 ∷ []
+
+abbrev none : Kind → List Bool
+none k = rule k 0 0 0 ∷ rule k 1 0 0 ∷ rule k 0 1 0 ∷ rule k 0 0 1 ∷ []
+
+-- bytes in the hash store up to its end, of this many
+abbrev held : Kind → ℕ → List Bool
+held k at = rule k at 0 0 ∷ rule k (at + 1) 0 0 ∷ rule k at 1 0 ∷ rule k at 0 1 ∷ []
+
+abbrev firstOnly : List Bool
+firstOnly = true ∷ false ∷ false ∷ false ∷ []
+
+numbers-of-kinds : Hold (
+    two kComp is firstOnly
+    ∷ two kCase is firstOnly
+    ∷ two kPair is firstOnly
+    ∷ two kDisconnect is firstOnly
+    ∷ one kInjl is firstOnly
+    ∷ one kInjr is firstOnly
+    ∷ one kTake is firstOnly
+    ∷ one kDrop is firstOnly
+    ∷ one kDisconnect1 is firstOnly
+    ∷ none kIden is firstOnly
+    ∷ none kUnit is firstOnly
+    ∷ none kWitness is firstOnly
+    ∷ held kFail 6 is firstOnly
+    ∷ held kHidden 38 is firstOnly
+    -- a word's bits end where the program's end, or one further; its third number
+    ∷ (rule kWord 1 7 0 ∷ rule kWord 1 8 0 ∷ rule kWord 4 0 0 ∷ rule kWord 4 1 0 ∷ rule kWord 1 0 1 ∷ []) is (true ∷ false ∷ true ∷ false ∷ false ∷ [])
+    -- its n is 1 to 32, where there are bits enough
+    ∷ (rule kWord 0 0 0 ∷ numbersRule (2 ^ 40) 0 3 kWord wordMost 0 0 ∷ numbersRule (2 ^ 40) 0 3 kWord (wordMost + 1) 0 0 ∷ []) is (false ∷ true ∷ false ∷ [])
+    ∷ none kUnknown is replicate 4 false
+    -- a record by its place in the table, and none past its end
+    ∷ (recordRule 8 0 (row 9 0 0 ∷ row 4 0 0 ∷ row 4 2 0 ∷ []) 1 ∷ recordRule 8 0 (row 9 0 0 ∷ row 4 0 0 ∷ row 4 2 0 ∷ []) 2 ∷ recordRule 8 0 [] 0 ∷ [])
+    is (true ∷ false ∷ false ∷ [])
+    ∷ [])
+unfolding Hold numbersRule recordRule
+numbers-of-kinds = refl
 
 abbrev unitNode : List ℕ
 unitNode = 9 ∷ 0 ∷ 0 ∷ 0 ∷ []
 
-unfoldable pub isSo : Stage → Bool
-unfolding told said same counted walkStage arrowStage hashStage boundsStage runStage
-isSo (count n most says) = same (told (counted n most)) says
-isSo (walk program hashes nodes says) = same (told (walkStage program hashes nodes)) says
-isSo (arrow types nodes arrows program hashes says) = same (told (arrowStage types nodes arrows program hashes)) says
-isSo (hash types nodes arrows program hashes given says) = same (told (hashStage types nodes arrows program hashes given)) says
-isSo (bound types nodes arrows program hashes says) = same (told (boundsStage types nodes arrows program hashes)) says
-isSo (run witness witnessBits input inputBits says) =
-    same (said ((runStage unitType unitNode (zeros 4) (36 ∷ []) [] [] witness witnessBits input inputBits [] (zeros 6) []) .says)) says
+-- a record of no kind
+abbrev badNode : List ℕ
+badNode = 15 ∷ 0 ∷ 0 ∷ 0 ∷ []
 
-unfoldable pub allSo : List Stage → Bool
-unfolding isSo
-allSo [] = true
-allSo (s ∷ ss) = elim (isSo s) [ true ↦ allSo ss | false ↦ false ]
+-- comp of a hidden node and a unit
+abbrev hiddenComp : List ℕ
+hiddenComp = 13 ∷ 0 ∷ 0 ∷ 0 ∷ 9 ∷ 0 ∷ 0 ∷ 0 ∷ 0 ∷ 0 ∷ 1 ∷ 0 ∷ []
 
--- 26, each clause: the places are the first such record
-records : List Stage
-records =
-    -- a kind above 14
-    walk (0 ∷ []) [] (15 ∷ 0 ∷ 0 ∷ 0 ∷ []) (26 ∷ 0 ∷ [])
-    -- a child that is not below its parent, first or second
-    ∷ walk (0 ∷ []) [] (unitNode ++ 0 ∷ 1 ∷ 0 ∷ 0 ∷ []) (26 ∷ 1 ∷ [])
-    ∷ walk (0 ∷ []) [] (unitNode ++ 2 ∷ 0 ∷ 1 ∷ 0 ∷ []) (26 ∷ 1 ∷ [])
-    ∷ walk (0 ∷ []) [] (4 ∷ 0 ∷ 0 ∷ 0 ∷ []) (26 ∷ 0 ∷ [])
-    -- a word's n that is 0 or 33, its bits past the program's, and far past them
-    ∷ walk (0 ∷ []) [] (14 ∷ 0 ∷ 0 ∷ 0 ∷ []) (26 ∷ 0 ∷ [])
-    ∷ walk (0 ∷ []) [] (14 ∷ 33 ∷ 0 ∷ 0 ∷ []) (26 ∷ 0 ∷ [])
-    ∷ walk (0 ∷ []) [] (14 ∷ 1 ∷ 7 ∷ 0 ∷ []) []
-    ∷ walk (0 ∷ []) [] (14 ∷ 1 ∷ 8 ∷ 0 ∷ []) (26 ∷ 0 ∷ [])
-    ∷ walk (0 ∷ []) [] (14 ∷ 32 ∷ 4294967295 ∷ 0 ∷ []) (26 ∷ 0 ∷ [])
-    -- the bytes of hidden and fail past the hash store
-    ∷ walk (0 ∷ []) (zeros 64) (10 ∷ 0 ∷ 0 ∷ 0 ∷ []) []
-    ∷ walk (0 ∷ []) (zeros 63) (10 ∷ 0 ∷ 0 ∷ 0 ∷ []) (26 ∷ 0 ∷ [])
-    ∷ walk (0 ∷ []) (zeros 32) (13 ∷ 1 ∷ 0 ∷ 0 ∷ []) (26 ∷ 0 ∷ [])
-    ∷ walk (0 ∷ []) (zeros 32) (13 ∷ 4294967295 ∷ 0 ∷ 0 ∷ []) (26 ∷ 0 ∷ [])
-    -- an unused number that is not 0
-    ∷ walk (0 ∷ []) [] (9 ∷ 1 ∷ 0 ∷ 0 ∷ []) (26 ∷ 0 ∷ [])
-    ∷ walk (0 ∷ []) [] (8 ∷ 0 ∷ 1 ∷ 0 ∷ []) (26 ∷ 0 ∷ [])
-    ∷ walk (0 ∷ []) [] (unitNode ++ 6 ∷ 0 ∷ 0 ∷ 1 ∷ []) (26 ∷ 1 ∷ [])
-    ∷ []
+abbrev unitType : List ℕ
+unitType = 0 ∷ 0 ∷ 0 ∷ 0 ∷ 0 ∷ []
 
-records-hold : allSo records ≡ true
-unfolding records allSo
-records-hold = refl
+abbrev tooLong : List ℕ
+tooLong = zeros (dossierBytes + 1)
 
--- what goes before and after 26, and what is tested again
-again : List Stage
-again =
-    -- no record or too many is 4, nodes before types
-    count 0 nodeCount (4 ∷ 0 ∷ [])
-    ∷ count nodeCount nodeCount []
-    ∷ count (nodeCount + 1) nodeCount (4 ∷ 0 ∷ [])
-    ∷ arrow [] (15 ∷ 0 ∷ 0 ∷ 0 ∷ []) [] [] [] (4 ∷ 0 ∷ [])
-    -- a program over the dossier's limit comes after 26
-    ∷ walk (zeros (dossierBytes + 1)) [] (15 ∷ 0 ∷ 0 ∷ 0 ∷ []) (26 ∷ 0 ∷ [])
-    ∷ walk (zeros (dossierBytes + 1)) [] unitNode (1 ∷ 0 ∷ [])
-    -- three numbers are no record
-    ∷ walk [] [] (9 ∷ 0 ∷ 0 ∷ []) (4 ∷ 0 ∷ [])
-    -- comp of hidden and unit: the walk is made again
-    ∷ walk [] (zeros 32) (13 ∷ 0 ∷ 0 ∷ 0 ∷ 9 ∷ 0 ∷ 0 ∷ 0 ∷ 0 ∷ 0 ∷ 1 ∷ 0 ∷ []) (7 ∷ 2 ∷ [])
-    ∷ arrow unitType (13 ∷ 0 ∷ 0 ∷ 0 ∷ 9 ∷ 0 ∷ 0 ∷ 0 ∷ 0 ∷ 0 ∷ 1 ∷ 0 ∷ []) (zeros 12) [] (zeros 32) (7 ∷ 2 ∷ [])
-    -- the type table, then the walk, then 11 and 12, 13, 14
-    ∷ arrow (unitType ++ unitType) (unitNode ++ unitNode) [] [] [] (2 ∷ 1 ∷ [])
-    ∷ arrow unitType (unitNode ++ unitNode) [] [] [] (6 ∷ 0 ∷ [])
-    ∷ arrow unitType (unitNode ++ 11 ∷ 0 ∷ 0 ∷ 0 ∷ []) [] [] [] (11 ∷ 1 ∷ [])
-    ∷ arrow unitType unitNode [] [] [] (12 ∷ 1 ∷ [])
-    ∷ arrow unitType unitNode (0 ∷ 0 ∷ 0 ∷ 1 ∷ []) [] [] (12 ∷ 0 ∷ [])
-    ∷ arrow unitType unitNode (zeros 5) [] [] []
-    ∷ hash unitType unitNode (zeros 4) [] [] (zeros 32) (13 ∷ 1 ∷ [])
-    ∷ hash unitType unitNode (zeros 4) [] [] (zeros 31) []
-    ∷ bound unitType unitNode (zeros 4) [] [] []
-    -- bits counted beside their bytes: too many counted, a whole byte to spare, a bit left over
-    ∷ run [] 0 [] 0 (0 ∷ 0 ∷ [])
-    ∷ run [] 1 [] 0 (15 ∷ 1 ∷ [])
-    ∷ run (0 ∷ []) 0 [] 0 (15 ∷ 1 ∷ [])
-    ∷ run [] 0 [] 1 (16 ∷ 0 ∷ [])
-    ∷ run [] 0 (0 ∷ []) 0 (16 ∷ 0 ∷ [])
-    ∷ []
+-- k comps from node i + 1 on, each of the node before it with itself
+unfoldable pub doubled : (k i : ℕ) → List ℕ
+doubled zero i = []
+doubled (suc k) i = 0 ∷ i ∷ i ∷ 0 ∷ doubled k (suc i)
 
-again-hold : allSo again ≡ true
-unfolding again allSo
-again-hold = refl
+stages : Hold (
+    -- no record or too many is 4
+    counted 0 nodeCount is refused (BadNatural 0)
+    ∷ counted 1 nodeCount is passed tt
+    ∷ counted nodeCount nodeCount is passed tt
+    ∷ counted (nodeCount + 1) nodeCount is refused (BadNatural 0)
+    -- 26 at the first such record, by the program's bits and the hash store's bytes
+    ∷ checkRecords (0 ∷ []) (zeros 64) (row 14 4 0 ∷ row 10 0 0 ∷ row 14 4 1 ∷ row 10 1 0 ∷ []) is refused (BadNodeRecord 2)
+    ∷ checkRecords (0 ∷ []) (zeros 64) (row 14 4 0 ∷ row 10 0 0 ∷ row 10 1 0 ∷ row 14 4 1 ∷ []) is refused (BadNodeRecord 2)
+    -- the walk's stage: 4, 26, 1 and 6 to 9, each with the next one wrong too
+    ∷ walkStage tooLong [] unitNode is refused (Header 0)
+    ∷ walkStage tooLong [] (unitNode ++ unitNode) is refused (Header 0)
+    ∷ walkStage tooLong [] badNode is refused (BadNodeRecord 0)
+    ∷ walkStage tooLong [] [] is refused (BadNatural 0)
+    ∷ walkStage [] [] (zeros (nodeNumbers * nodeCount)) is refused (BadNodeRecord 0)
+    ∷ walkStage [] [] (zeros (nodeNumbers * (nodeCount + 1))) is refused (BadNatural 0)
+    ∷ walkStage [] [] (9 ∷ 0 ∷ 0 ∷ []) is refused (BadNatural 0)
+    ∷ walkStage (0x24 ∷ []) [] unitNode is passed tt
+    ∷ walkStage (0 ∷ []) [] (14 ∷ 4 ∷ 0 ∷ 0 ∷ []) is passed tt
+    ∷ walkStage [] (zeros 32) hiddenComp is refused (HiddenElsewhere 2)
+    -- the arrows' stage: 4 of nodes and of types, 26, 1, 2, 6 to 9, 11 and 12
+    ∷ arrowStage unitType unitNode (zeros 4) [] [] is passed tt
+    ∷ arrowStage unitType unitNode (zeros 5) [] [] is passed tt
+    ∷ arrowStage unitType [] [] tooLong [] is refused (BadNatural 0)
+    ∷ arrowStage unitType (zeros (nodeNumbers * (nodeCount + 1))) [] tooLong [] is refused (BadNatural 0)
+    ∷ arrowStage [] badNode [] tooLong [] is refused (BadNatural 0)
+    ∷ arrowStage (zeros (typeBytes * (typeCount + 1))) badNode [] tooLong [] is refused (BadNatural 0)
+    ∷ arrowStage (zeros (typeBytes * typeCount)) badNode [] tooLong [] is refused (BadNodeRecord 0)
+    ∷ arrowStage (unitType ++ unitType) badNode [] tooLong [] is refused (BadNodeRecord 0)
+    ∷ arrowStage (unitType ++ unitType) (unitNode ++ unitNode) [] tooLong [] is refused (Header 0)
+    ∷ arrowStage (unitType ++ unitType) (unitNode ++ unitNode) [] [] [] is refused (BadTypeRecord 1)
+    ∷ arrowStage unitType (unitNode ++ unitNode) [] [] [] is refused (CanonicalOrder 0)
+    ∷ arrowStage unitType hiddenComp (zeros 12) [] (zeros 32) is refused (HiddenElsewhere 2)
+    ∷ arrowStage unitType (unitNode ++ 11 ∷ 0 ∷ 0 ∷ 0 ∷ []) [] [] [] is refused (OneChildDisconnect 1)
+    ∷ arrowStage unitType unitNode [] [] [] is refused (BadArrow 1)
+    ∷ arrowStage unitType unitNode (0 ∷ 0 ∷ 0 ∷ 1 ∷ []) [] [] is refused (BadArrow 0)
+    -- a word's bits are the program's
+    ∷ arrowStage (unitType ++ 1 ∷ 0 ∷ 0 ∷ 0 ∷ 0 ∷ []) (14 ∷ 1 ∷ 7 ∷ 0 ∷ []) (0 ∷ 0 ∷ 0 ∷ 1 ∷ []) (1 ∷ []) [] is passed tt
+    -- the hashes' stage
+    ∷ hashStage unitType unitNode (zeros 4) [] [] [] is passed tt
+    ∷ hashStage unitType unitNode (zeros 4) [] [] (zeros 31) is passed tt
+    ∷ hashStage unitType unitNode (zeros 4) [] [] (zeros 32) is refused (Hash 1)
+    ∷ hashStage unitType unitNode [] [] [] (zeros 32) is refused (BadArrow 1)
+    ∷ hashStage unitType badNode [] [] [] (zeros 32) is refused (BadNodeRecord 0)
+    -- the bounds' stage
+    ∷ boundsStage unitType unitNode (zeros 4) [] [] is passed tt
+    ∷ boundsStage unitType unitNode [] [] [] is refused (BadArrow 1)
+    ∷ boundsStage unitType (8 ∷ 0 ∷ 0 ∷ 0 ∷ doubled 18 0) (zeros (4 * 19)) [] [] is refused (OverLimit 2)
+    ∷ [])
+unfolding Hold counted checkRecords walkStage arrowStage hashStage boundsStage doubled
+stages = refl
 
--- the dossier of 81 bytes, and the same with another version
-abbrev dossier : ℕ → List ℕ
-dossier version = bytes 81 (version * 256 ^ 77 + 0x00000003_00000038_00000002_00000047_00000002_00000049_00000000_00000051_00000000_00000051_00000000_00000051_00000051_0000000000_0100000000_0100000001_8920_00000000_00000002)
+abbrev left : Answer → (cells frames answer : List ℕ) → Left
+left says c f a = record { says = says; cells = c; frames = f; answer = a }
 
--- its program; nothing where the header is refused, and no section 6
-sections : every (same (opened (dossier 1) 1) (0x89 ∷ 0x20 ∷ []) ∷ same (opened (dossier 2) 1) [] ∷ same (opened (dossier 1) 6) [] ∷ []) ≡ true
-unfolding opened same digits every
-sections = refl
+-- the run's stage on the unit program, with bits counted beside their bytes; refusals leave the stores
+abbrev unitRun : (witness : List ℕ) → (witnessBits : ℕ) → (input : List ℕ) → (inputBits : ℕ) → Left
+unitRun w wb inp ib = runStage unitType unitNode (zeros 4) (36 ∷ []) [] [] w wb inp ib (9 ∷ []) (replicate 7 8) (7 ∷ [])
 
--- disconnect of a unit and an iden, a hidden node and a fail node, with hash bytes 1, 2, 3, .. and two supplied hashes
-abbrev branches : (j : ℕ) → List ℕ
-branches j =
-    branchHash (nodesOf [] (tabulate 96 (λ k. k)) (nodeRecords (unitNode ++ 8 ∷ 0 ∷ 0 ∷ 0 ∷ 3 ∷ 0 ∷ 1 ∷ 0 ∷ 3 ∷ 0 ∷ 1 ∷ 0 ∷ 13 ∷ 0 ∷ 0 ∷ 0 ∷ 10 ∷ 32 ∷ 0 ∷ 0 ∷ 13 ∷ 65 ∷ 0 ∷ 0 ∷ [])))
-    (replicate 32 7 ++ replicate 32 8) j
-
--- the first entry of the right child; the hidden node's own; none for other nodes, for bytes that are not all there, for no node
-branch-hashes : every (
-    same (branches 0) []
-    ∷ same (branches 1) (replicate 32 7)
-    ∷ same (branches 4) (tabulate 32 (λ k. k))
-    ∷ same (branches 5) []
-    ∷ same (branches 6) []
-    ∷ same (branches 7) []
-    ∷ []) ≡ true
-unfolding branchHash nodesOf nodeRecords tabulate same every
-branch-hashes = refl
-
--- a count of hashes is its own place up to the last place there is, which stands for every larger one
-count-places : every (
-    eqb (countPlace 0) 0
-    ∷ eqb (countPlace 2048) 2048
-    ∷ eqb (countPlace 4294967295) 4294967295
-    ∷ eqb (countPlace 4294967296) 4294967295
-    ∷ []) ≡ true
-unfolding every
-count-places = refl
+runs : Hold (
+    unitRun [] 0 [] 0 is left (Value 0) (9 ∷ []) (zeros 6 ++ 8 ∷ []) (7 ∷ [])
+    -- too many counted, a whole byte to spare
+    ∷ unitRun [] 1 [] 0 is left (Refused (Witness 1)) (9 ∷ []) (replicate 7 8) (7 ∷ [])
+    ∷ unitRun (0 ∷ []) 0 [] 0 is left (Refused (Witness 1)) (9 ∷ []) (replicate 7 8) (7 ∷ [])
+    ∷ unitRun [] 0 [] 1 is left (Refused (Input 0)) (9 ∷ []) (replicate 7 8) (7 ∷ [])
+    ∷ unitRun [] 0 (0 ∷ []) 0 is left (Refused (Input 0)) (9 ∷ []) (replicate 7 8) (7 ∷ [])
+    -- 26, then 13, then 17
+    ∷ runStage unitType badNode (zeros 4) (36 ∷ []) [] (zeros 32) [] 1 [] 1 (9 ∷ []) [] [] is left (Refused (BadNodeRecord 0)) (9 ∷ []) [] []
+    ∷ runStage unitType unitNode (zeros 4) (36 ∷ []) [] (zeros 32) [] 1 [] 1 (9 ∷ []) [] [] is left (Refused (Hash 1)) (9 ∷ []) [] []
+    ∷ runStage unitType unitNode (zeros 4) (36 ∷ []) [] [] [] 0 [] 0 (9 ∷ []) (8 ∷ []) [] is left (Refused (StoreShort 1)) (9 ∷ []) (8 ∷ []) []
+    -- witness and input are told apart
+    ∷ runStage (unitType ++ 1 ∷ 0 ∷ 0 ∷ 0 ∷ 0 ∷ []) (12 ∷ 0 ∷ 0 ∷ 0 ∷ []) (0 ∷ 1 ∷ 0 ∷ 1 ∷ []) (56 ∷ []) [] [] (128 ∷ []) 1 (0 ∷ []) 1 (0 ∷ []) (replicate 6 8) (7 ∷ [])
+    is left (Value 1) (64 ∷ []) (zeros 6) (128 ∷ [])
+    ∷ [])
+unfolding Hold runStage
+runs = refl
