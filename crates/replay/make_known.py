@@ -1,4 +1,4 @@
-# make_known.py CRATES: writes the file `known` for crate replay, the known runs of document 01 that are not proved there and a unit doubled many times
+# make_known.py CRATES: writes the file `known` for crate replay, the known runs of the requirements that are not proved and a unit doubled many times
 # at each place of a run, and the file `lengths` for crate stores_test, runs in stores of length 0 or of odd lengths. Answers, bounds and stores are
 # written down here as the document says them.
 import os

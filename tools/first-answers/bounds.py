@@ -1,5 +1,5 @@
 # bounds.tsv: the original's NodeBounds of whole dossiers, drawn at random and made for the
-# edges of document 01's limits.
+# edges of the requirements' limits.
 
 from asking import field, number
 from coding import text
@@ -13,7 +13,7 @@ NOTES = [
     "NodeBounds of the last node, as the original gives it: extra cells, extra frames, cost.",
     "cells: source width + target width + extra cells, the widths being the original's.",
     "frames: extra frames + 2. The original's cost stops at 4294967295.",
-    "By its own limits document 01 refuses cells above 262144 as 14 at 0, else frames above 1024",
+    "By their own limits the requirements refuse cells above 262144 as 14 at 0, else frames above 1024",
     "as 14 at 1, else cost above 50000000 as 14 at 2.",
     "witness nodes: how many; the original counts their widths among the extra cells.",
     "No two nodes of a program are equal in kind, children, bits and arrow, but witness nodes and",

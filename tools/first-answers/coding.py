@@ -1,4 +1,4 @@
-# Writing only: bits into bytes, naturals, programs, dossiers, as document 01 lays them out.
+# Writing only: bits into bytes, naturals, programs, dossiers, as the requirements lay them out.
 # Bits are texts of 0 and 1. Nothing here reads or judges what it writes; programs that have
 # to be refused are written by the same functions.
 

@@ -62,7 +62,7 @@ def made(name, graph, root, given=""):
     return Typed(name, graph.types, canonical(graph.nodes, root), given)
 
 
-# Known runs of document 01.
+# Known runs of the requirements.
 def known():
     rows = []
     graph = Graph(TypeTable())

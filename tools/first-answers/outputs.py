@@ -11,7 +11,7 @@ MOST_CELL_BYTES = 40
 ASSERTING = WEIGHTS | {"by_assertion": 20, "by_disconnect": 0}
 COLUMNS = "name\tanswer\tvisits\tcells from zeros\tcells from ones\tdossier"
 NOTES = [
-    "answer: as document 01 prints it; a refusal's number is the original's, its place the",
+    "answer: as the requirements print it; a refusal's number is the original's, its place the",
     "driver's.",
     "visits: as the original reports them, so without the one that ends in 18 or 19.",
     "cells: hex of all the machine's cells after the run, where they held zeros (or ones) before;",

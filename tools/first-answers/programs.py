@@ -104,7 +104,7 @@ def naturals():
     return [("natural", pack(bits)) for bits in whole]
 
 
-# Counts around and above the limit of document 01, most of their nodes missing.
+# Counts around and above the limit of the requirements, most of their nodes missing.
 def counts():
     numbers = (2047, 2048, 2049, 4097, 2**31, 2**32 - 1)
     rests = ("", UNIT_BITS, UNIT_BITS * 8)

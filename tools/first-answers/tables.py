@@ -12,11 +12,11 @@ NOTES = [
     "decode_expression of the original, then close. The mark says how to compare a row:",
     "  all    answer; place where it is given; table and hashes where the answer is 0.",
     "  jet    as all, but the shim's empty jet family gives the 5; the crate would read on.",
-    "  type   the original met a type error in its walk, where document 01 has none: all that is",
-    "         known of document 01's answer is that it is not 3, 4 or 5.",
-    "  count  the count is above 2048, which the original allows. By its own limit document 01",
-    "         refuses 4 at place 0.",
-    "answer: 0 accepted, else document 01's number for the original's error; - for a type error.",
+    "  type   the original met a type error in its walk, where the requirements have none: all that is",
+    "         known of the requirements' answer is that it is not 3, 4 or 5.",
+    "  count  the count is above 2048, which the original allows. By their own limit the requirements",
+    "         refuse it with 4 at place 0.",
+    "answer: 0 accepted, else the requirements' number for the original's error; - for a type error.",
     "place: of 3, 4 and 5; - elsewhere. error: the original's name for it. bits: read at the end.",
     "program: hex, - for none. table: kind,number,number of each node's record, blanks between:",
     "children; a word's n and first bit position; a hash position. A record's fourth number is 0.",
@@ -80,7 +80,7 @@ def word_position(oracle, data, index, word):
     return place
 
 
-# Document 01's records and hash store of an accepted program.
+# The requirements' records and hash store of an accepted program.
 def table(oracle, data, answer):
     records, store = [], ""
     for index, entry in enumerate(answer.split()[3:]):

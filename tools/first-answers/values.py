@@ -7,7 +7,7 @@ from type_table import TypeTable, UNIT_TYPE, records_for
 COLUMNS = "group\tanswer\twidth\tread\tpadded\tbit count\tbits\tindex\ttypes"
 NOTES = [
     "Value::from_compact_bits of the original for the type record at `index` of `types`",
-    "(document 01's records in hex), from the first `bit count` bits of `bits` (hex, top bit",
+    "(the requirements' records in hex), from the first `bit count` bits of `bits` (hex, top bit",
     "first, filled up with zeros).",
     "answer: ok, or short where the value needs more than `bit count` bits.",
     "width: of the type. read: compact bits of the value. padded: its cells in hex, the last byte",

@@ -20,7 +20,7 @@ impl Rests {
         match self {
             Rests::Original => "original",
             Rests::Ours => "original, with a part of ours",
-            Rests::Document => "document 01",
+            Rests::Document => "the requirements",
         }
     }
 }

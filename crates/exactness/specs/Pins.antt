@@ -1,4 +1,4 @@
--- The conditions of the theorems can be met: the program `89 20` of document 01 is the code of the table that holds unit and an injl of it,
+-- The conditions of the theorems can be met: the program `89 20` of the requirements is the code of the table that holds unit and an injl of it,
 -- closed by two zeros, and two records and no byte are room enough for it.
 use mathlib.Core.Path.{_≡_, refl, sym, ap, _∙_, subst}
 use mathlib.Core.List.{List, [], _∷_}

@@ -1,4 +1,4 @@
-//! What the requirements (document 01) add to the original: the dossier's header, type records, the
+//! What the requirements add to the original: the dossier's header, type records, the
 //! order in which a program is read, the places of the walk, supplied hashes, limits and stores.
 //! The original has nothing to hold these against; where it gives a number of its own, `facts` says so.
 
