@@ -1,18 +1,26 @@
--- What each public call promises has one outcome: over a call's own promise, two answers, and two stores that are left, are the same.
+-- What each public call promises has one outcome: over the call's own promise, `Post`, two answers, and two stores that are left, are the same.
 use mathlib.Core.Path.{_≡_, refl, ap, sym, _∙_}
-use mathlib.Core.Bool.{Bool}
 use mathlib.Core.List.{List}
 use Prim.Native.Nat.{ℕ}
-use Rattle.limits.specs.Limits.{hashBytes, failBytes}
-use Rattle.scope.specs.Numbers.{streamOf}
-use Rattle.scope.specs.Reading.{code, naturalUpTo, octets}
-use Rattle.scope.specs.Closing as Closing
-use Rattle.bititer.specs.Answers.{gotCode, gotNatural, gotBytes, Stored, stored, storing}
+use Rattle.promise.specs.Outcomes.{OneResult, OneOutcome, _&_}
+use Rattle.bititer.specs.Answers.{gotCode, gotNatural, gotBytes, Stored, stored}
 use Rattle.bititer.specs.declared.CodeRead.{CodeRead}
 use Rattle.bititer.specs.declared.NaturalFault.{NaturalFault}
 use Rattle.bititer.specs.declared.NaturalRead.{NaturalRead}
 use Rattle.bititer.specs.declared.BytesFault.{BytesFault}
 use Rattle.bititer.specs.declared.BytesRead.{BytesRead}
+use Rattle.bititer.proofs.bit.Kinds as bit-kinds
+use Rattle.bititer.proofs.bit.Reads as bit-reads
+use Rattle.bititer.proofs.closes.Kinds as closes-kinds
+use Rattle.bititer.proofs.closes.Reads as closes-reads
+use Rattle.bititer.proofs.fail_bytes.Kinds as fail-bytes-kinds
+use Rattle.bititer.proofs.fail_bytes.Reads as fail-bytes-reads
+use Rattle.bititer.proofs.hash_bytes.Kinds as hash-bytes-kinds
+use Rattle.bititer.proofs.hash_bytes.Reads as hash-bytes-reads
+use Rattle.bititer.proofs.natural.Kinds as natural-kinds
+use Rattle.bititer.proofs.natural.Reads as natural-reads
+use Rattle.bititer.proofs.two_bits.Kinds as two-bits-kinds
+use Rattle.bititer.proofs.two_bits.Reads as two-bits-reads
 
 -- answers that say the same are the same
 same-code : (r q : CodeRead) → gotCode r ≡ gotCode q → r ≡ q
@@ -44,25 +52,23 @@ same-bytes (BytesRead.Fault BytesFault.Ended) (BytesRead.Fault BytesFault.NoRoom
 same-bytes (BytesRead.Fault BytesFault.NoRoom) (BytesRead.Fault BytesFault.Ended) e = cc
 same-bytes (BytesRead.Fault BytesFault.NoRoom) (BytesRead.Fault BytesFault.NoRoom) e = refl
 
-same-stored : (o : Stored) (r q : BytesRead) (l m : List ℕ) → stored (gotBytes r) l ≡ o → stored (gotBytes q) m ≡ o → (r ≡ q) × (l ≡ m)
-same-stored o r q l m d e = (same-bytes r q (ap (λ (x : Stored). x .says) (d ∙ sym e)), ap (λ (x : Stored). x .store) (d ∙ sym e))
+same-stored : (r q : BytesRead) (l m : List ℕ) → stored (gotBytes r) l ≡ stored (gotBytes q) m → (r ≡ q) × (l ≡ m)
+same-stored r q l m e = (same-bytes r q (ap (λ (x : Stored). x .says) e), ap (λ (x : Stored). x .store) e)
 
-pub bit : (s : List ℕ) (p : ℕ) (r q : CodeRead) → gotCode r ≡ code (streamOf s) 1 p → gotCode q ≡ code (streamOf s) 1 p → r ≡ q
-bit s p r q d e = same-code r q (d ∙ sym e)
+pub bit : OneResult 1 bit-kinds.ps bit-kinds.r bit-reads.Post
+bit κs a s t x y p q = same-code s t (p ∙ sym q)
 
-pub two-bits : (s : List ℕ) (p : ℕ) (r q : CodeRead) → gotCode r ≡ code (streamOf s) 2 p → gotCode q ≡ code (streamOf s) 2 p → r ≡ q
-two-bits s p r q d e = same-code r q (d ∙ sym e)
+pub two-bits : OneResult 1 two-bits-kinds.ps two-bits-kinds.r two-bits-reads.Post
+two-bits κs a s t x y p q = same-code s t (p ∙ sym q)
 
-pub natural : (s : List ℕ) (p bound : ℕ) (r q : NaturalRead) → gotNatural r ≡ naturalUpTo (streamOf s) bound p → gotNatural q ≡ naturalUpTo (streamOf s) bound p → r ≡ q
-natural s p bound r q d e = same-natural r q (d ∙ sym e)
+pub natural : OneResult 1 natural-kinds.ps natural-kinds.r natural-reads.Post
+natural κs a s t x y p q = same-natural s t (p ∙ sym q)
 
-pub hash-bytes : (s : List ℕ) (p : ℕ) (store : List ℕ) (at : ℕ) (r q : BytesRead) (l m : List ℕ)
-    → stored (gotBytes r) l ≡ storing (octets (streamOf s) hashBytes p) store at → stored (gotBytes q) m ≡ storing (octets (streamOf s) hashBytes p) store at → (r ≡ q) × (l ≡ m)
-hash-bytes s p store at r q l m d e = same-stored (storing (octets (streamOf s) hashBytes p) store at) r q l m d e
+pub hash-bytes : OneOutcome 2 hash-bytes-kinds.ps hash-bytes-kinds.r hash-bytes-reads.Post
+hash-bytes κs a s t v w p q = let e = same-stored s t (v .1 .1 .0) (w .1 .1 .0) (p ∙ sym q) in (e .0, λ i. tt & tt & e .1 i & tt & tt)
 
-pub fail-bytes : (s : List ℕ) (p : ℕ) (store : List ℕ) (at : ℕ) (r q : BytesRead) (l m : List ℕ)
-    → stored (gotBytes r) l ≡ storing (octets (streamOf s) failBytes p) store at → stored (gotBytes q) m ≡ storing (octets (streamOf s) failBytes p) store at → (r ≡ q) × (l ≡ m)
-fail-bytes s p store at r q l m d e = same-stored (storing (octets (streamOf s) failBytes p) store at) r q l m d e
+pub fail-bytes : OneOutcome 2 fail-bytes-kinds.ps fail-bytes-kinds.r fail-bytes-reads.Post
+fail-bytes κs a s t v w p q = let e = same-stored s t (v .1 .1 .0) (w .1 .1 .0) (p ∙ sym q) in (e .0, λ i. tt & tt & e .1 i & tt & tt)
 
-pub closes : (s : List ℕ) (p : ℕ) (r q : Bool) → r ≡ Closing.closes (streamOf s) p → q ≡ Closing.closes (streamOf s) p → r ≡ q
-closes s p r q d e = d ∙ sym e
+pub closes : OneResult 1 closes-kinds.ps closes-kinds.r closes-reads.Post
+closes κs a s t x y p q = p ∙ sym q

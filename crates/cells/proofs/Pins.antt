@@ -1,31 +1,33 @@
--- What each public call promises has one outcome: over a call's own promise, two results, or two stores that are left, are the same.
--- A store that is left is a slice of bytes, so that each of its numbers is below 256.
-use mathlib.Core.Path.{_≡_, sym, _∙_}
-use mathlib.Core.List.{List}
-use Prim.Native.Nat.{ℕ, _%_}
-use lib.ListN.{getD, set}
-use lib.Seq.{sets}
-use Rattle.report.specs.Bits.{bitsOf}
-use Rattle.scope.specs.Numbers.{zeros}
+-- What each public call promises has one outcome: over the call's own promise, `Post`, two results, or two stores that are left, are the same.
+-- A store that is left is a slice of bytes, so that each of its numbers is below 256, and its bits tell it.
+use mathlib.Core.Path.{sym, _∙_}
+use denote.Ref.{now}
+use Rattle.promise.specs.Outcomes.{OneResult, OneOutcome, _&_}
 use Rattle.bititer.proofs.Bits.{Bytes, bits-tell}
-use Rattle.cells.specs.Copying.{copyBits, bitsFrom}
+use Rattle.cells.proofs.copy_cells.Kinds as copy-cells-kinds
+use Rattle.cells.proofs.copy_cells.Reads as copy-cells-reads
+use Rattle.cells.proofs.put_bits.Kinds as put-bits-kinds
+use Rattle.cells.proofs.put_bits.Reads as put-bits-reads
+use Rattle.cells.proofs.read_cell.Kinds as read-cell-kinds
+use Rattle.cells.proofs.read_cell.Reads as read-cell-reads
+use Rattle.cells.proofs.write_cell.Kinds as write-cell-kinds
+use Rattle.cells.proofs.write_cell.Reads as write-cell-reads
+use Rattle.cells.proofs.zero_cells.Kinds as zero-cells-kinds
+use Rattle.cells.proofs.zero_cells.Reads as zero-cells-reads
 
--- two stores with the same bits
-same-store : (bits s t : List ℕ) → Bytes s → Bytes t → bitsOf s ≡ bits → bitsOf t ≡ bits → s ≡ t
-same-store bits s t hs ht d e = bits-tell s t hs ht (d ∙ sym e)
+pub read-cell : OneResult 1 read-cell-kinds.ps read-cell-kinds.r read-cell-reads.Post
+read-cell κs a s t x y p q = p ∙ sym q
 
-pub read-cell : (cells : List ℕ) (p r q : ℕ) → r ≡ getD (bitsOf cells) p 0 → q ≡ getD (bitsOf cells) p 0 → r ≡ q
-read-cell cells p r q d e = d ∙ sym e
+pub write-cell : OneOutcome 1 write-cell-kinds.ps write-cell-kinds.r (λ κs a r x. Bytes (now (x .0)) × write-cell-reads.Post κs a r x)
+write-cell κs a s t v w p q = let e = bits-tell (v .0) (w .0) (p .0) (q .0) (p .1 ∙ sym (q .1)) in (λ i. tt, λ i. e i & tt & tt & tt)
 
-pub write-cell : (cells s t : List ℕ) (p b : ℕ) → Bytes s → Bytes t → bitsOf s ≡ set (bitsOf cells) p (b % 2) → bitsOf t ≡ set (bitsOf cells) p (b % 2) → s ≡ t
-write-cell cells s t p b hs ht d e = same-store (set (bitsOf cells) p (b % 2)) s t hs ht d e
+pub copy-cells : OneOutcome 1 copy-cells-kinds.ps copy-cells-kinds.r (λ κs a r x. Bytes (now (x .0)) × copy-cells-reads.Post κs a r x)
+copy-cells κs a s t v w p q = let e = bits-tell (v .0) (w .0) (p .0) (q .0) (p .1 ∙ sym (q .1)) in (λ i. tt, λ i. e i & tt & tt & tt & tt)
 
-pub copy-cells : (cells s t : List ℕ) (from to n : ℕ) → Bytes s → Bytes t → bitsOf s ≡ copyBits (bitsOf cells) from to n → bitsOf t ≡ copyBits (bitsOf cells) from to n → s ≡ t
-copy-cells cells s t from to n hs ht d e = same-store (copyBits (bitsOf cells) from to n) s t hs ht d e
+pub zero-cells : OneOutcome 1 zero-cells-kinds.ps zero-cells-kinds.r (λ κs a r x. Bytes (now (x .0)) × zero-cells-reads.Post κs a r x)
+zero-cells κs a s t v w p q = let e = bits-tell (v .0) (w .0) (p .0) (q .0) (p .1 ∙ sym (q .1)) in (λ i. tt, λ i. e i & tt & tt & tt)
 
-pub zero-cells : (cells s t : List ℕ) (at n : ℕ) → Bytes s → Bytes t → bitsOf s ≡ sets (bitsOf cells) at (zeros n) → bitsOf t ≡ sets (bitsOf cells) at (zeros n) → s ≡ t
-zero-cells cells s t at n hs ht d e = same-store (sets (bitsOf cells) at (zeros n)) s t hs ht d e
-
-pub put-bits : (source cells s t : List ℕ) (p n at : ℕ) → Bytes s → Bytes t → bitsOf s ≡ sets (bitsOf cells) at (bitsFrom (bitsOf source) p n)
-    → bitsOf t ≡ sets (bitsOf cells) at (bitsFrom (bitsOf source) p n) → s ≡ t
-put-bits source cells s t p n at hs ht d e = same-store (sets (bitsOf cells) at (bitsFrom (bitsOf source) p n)) s t hs ht d e
+pub put-bits : OneOutcome 2 put-bits-kinds.ps put-bits-kinds.r (λ κs a r x. Bytes (now (x .1 .1 .1 .0)) × put-bits-reads.Post κs a r x)
+put-bits κs a s t v w p q =
+    let e = bits-tell (v .1 .1 .1 .0) (w .1 .1 .1 .0) (p .0) (q .0) (p .1 ∙ sym (q .1)) in
+    (λ i. tt, λ i. tt & tt & tt & e i & tt & tt)

@@ -1,14 +1,16 @@
--- What the public call promises has one outcome: over its own promise, two answers and two pairs of stores that are left are the same.
+-- What each public call promises has one outcome: over the call's own promise, `Post`, two answers and two stores that are left are the same.
 use mathlib.Core.Path.{_≡_, sym, ap, _∙_}
-use mathlib.Core.List.{List}
-use Prim.Native.Nat.{ℕ, _/_}
-use lib.ListN.{length}
-use Rattle.limits.specs.Limits.{nodeNumbers}
-use Rattle.scope.specs.Closing as Closing
+use Rattle.promise.specs.Outcomes.{OneOutcome, _&_}
 use Rattle.exactness.specs.Checks.{clash}
 use Rattle.decode.specs.declared.Decoded.{Decoded}
 use Rattle.decode.specs.Answers.{saidOf}
-use Rattle.decode.specs.Stores.{cleared, Left, left, leftBy}
+use Rattle.decode.specs.Stores.{Left}
+use Rattle.decode.proofs.clear_bytes.Kinds as clear-bytes-kinds
+use Rattle.decode.proofs.clear_bytes.Reads as clear-bytes-reads
+use Rattle.decode.proofs.clear_numbers.Kinds as clear-numbers-kinds
+use Rattle.decode.proofs.clear_numbers.Reads as clear-numbers-reads
+use Rattle.decode.proofs.decode.Kinds as decode-kinds
+use Rattle.decode.proofs.decode.Reads as decode-reads
 
 -- what an answer says tells it
 pub answer-tells : (r q : Decoded) → saidOf r ≡ saidOf q → r ≡ q
@@ -17,17 +19,16 @@ answer-tells (Decoded.Table s) (Decoded.Refused why) e = clash (cc)
 answer-tells (Decoded.Refused why) (Decoded.Table t) e = clash (cc)
 answer-tells (Decoded.Refused why) (Decoded.Refused other) e = ap Decoded.Refused (cc)
 
-pub decode : (program nodes hashes : List ℕ) (r q : Decoded) (n m h g : List ℕ)
-    → left (saidOf r) n h ≡ leftBy (Closing.decode program (length nodes / nodeNumbers) (length hashes)) nodes hashes
-    → left (saidOf q) m g ≡ leftBy (Closing.decode program (length nodes / nodeNumbers) (length hashes)) nodes hashes
-    → (r ≡ q) × (n ≡ m) × (h ≡ g)
-decode program nodes hashes r q n m h g d e =
-    let same : left (saidOf r) n h ≡ left (saidOf q) m g = d ∙ sym e in
-    (answer-tells r q (ap (λ (x : Left). x .says) same), ap (λ (x : Left). x .nodes) same, ap (λ (x : Left). x .hashes) same)
+pub decode : OneOutcome 3 decode-kinds.ps decode-kinds.r decode-reads.Post
+decode κs a s t v w p q =
+    let e = p ∙ sym q in
+    let nodes = ap (λ (l : Left). l .nodes) e in
+    let hashes = ap (λ (l : Left). l .hashes) e in
+    (answer-tells s t (ap (λ (l : Left). l .says) e), λ i. tt & nodes i & hashes i & tt)
 
 -- clearing a store, of numbers or of bytes
-pub clear-numbers : (store : List ℕ) (from : ℕ) (n m : List ℕ) → n ≡ cleared store from → m ≡ cleared store from → n ≡ m
-clear-numbers store from n m d e = d ∙ sym e
+pub clear-numbers : OneOutcome 1 clear-numbers-kinds.ps clear-numbers-kinds.r clear-numbers-reads.Post
+clear-numbers κs a s t v w p q = let e = p ∙ sym q in (λ i. tt, λ i. e i & tt & tt)
 
-pub clear-bytes : (store : List ℕ) (from : ℕ) (n m : List ℕ) → n ≡ cleared store from → m ≡ cleared store from → n ≡ m
-clear-bytes store from n m d e = d ∙ sym e
+pub clear-bytes : OneOutcome 1 clear-bytes-kinds.ps clear-bytes-kinds.r clear-bytes-reads.Post
+clear-bytes κs a s t v w p q = let e = p ∙ sym q in (λ i. tt, λ i. e i & tt & tt)

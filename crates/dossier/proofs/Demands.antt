@@ -4,9 +4,14 @@
 --   2. Decoding, results and bounds are those of the report and of the table of the requirements.
 --   3. The run is never stuck, it is the meaning at every node, and old bits change nothing.
 use mathlib.Core.Path.{_≡_, refl, sym, ap, _∙_}
-use mathlib.Core.List.{List}
+use mathlib.Core.List.{List, []}
 use Prim.Native.Nat.{ℕ, _+_, _/_, _≤_}
 use lib.ListN.{length}
+use borrow.Fn.Kinds.{Dens, endedOf}
+use contract.Lifetimes.{Lfts}
+use denote.Ref.{RefT, now}
+use denote.Triple.Clauses.{AtExit}
+use Rattle.promise.specs.Outcomes.{_&_}
 use Rattle.limits.specs.Limits.{nodeNumbers, nodeCost}
 use Rattle.refusal.specs.declared.Refusal.{Refusal}
 use Rattle.refusal.specs.declared.Answer.{Answer}
@@ -31,11 +36,27 @@ use Rattle.theory.specs.Answers.{told, output}
 use Rattle.theory.specs.Sound.{Sound}
 use Rattle.theory.specs.Theorems as Theorems
 use Rattle.dossier.proofs.Job.{dossier-decodes}
+use Rattle.dossier.proofs.run.Kinds as kinds
+use Rattle.dossier.proofs.run.Reads as reads
 
--- the promise of the call
+-- a store or a dossier as it is lent, with these numbers in it: where it lies plays no part in the promise, nor how long it is lent
+abbrev lent : List ℕ → RefT (List ℕ)
+lent numbers = record { ptr = (0, 0); name = 0; now = numbers }
+
+abbrev lasting : Lfts 6
+lasting = ([], ([], ([], ([], ([], ([], tt))))))
+
+-- the promise of the call, its own `Post`, of what was lent and of what was answered and left
 abbrev pub Promise : (d nodes hashes cells frames answer : List ℕ) → (r : Answer) → (nodes′ hashes′ cells′ frames′ answer′ : List ℕ) → Type 0
 Promise d nodes hashes cells frames answer r nodes′ hashes′ cells′ frames′ answer′ =
-    ended r nodes′ hashes′ cells′ frames′ answer′ ≡ run d nodes hashes cells frames answer
+    reads.Post lasting (lent d & lent nodes & lent hashes & lent cells & lent frames & lent answer & tt) r
+    (lent d & lent nodes′ & lent hashes′ & lent cells′ & lent frames′ & lent answer′ & tt)
+
+-- every call that keeps its promise gives it, wherever its arguments lie
+pub promised : (κs : Lfts 6) (a : Dens κs kinds.ps) (r : Answer) (x : AtExit (endedOf 6 kinds.ps kinds.r) κs) → reads.Post κs a r x
+    → Promise (now (a .0)) (now (a .1 .0)) (now (a .1 .1 .0)) (now (a .1 .1 .1 .0)) (now (a .1 .1 .1 .1 .0)) (now (a .1 .1 .1 .1 .1 .0))
+    r (now (x .1 .0)) (now (x .1 .1 .0)) (now (x .1 .1 .1 .0)) (now (x .1 .1 .1 .1 .0)) (now (x .1 .1 .1 .1 .1 .0))
+promised κs a r x p = p
 
 module _ (d nodes hashes cells frames answer : List ℕ) (r : Answer) (nodes′ hashes′ cells′ frames′ answer′ : List ℕ)
     (promise : Promise d nodes hashes cells frames answer r nodes′ hashes′ cells′ frames′ answer′) where

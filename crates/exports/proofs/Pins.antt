@@ -1,33 +1,43 @@
--- What each call promises has one outcome: its number, what it tells beside it and the stores that it leaves are one record, and over the call's own promise two of them are the same.
-use mathlib.Core.Path.{_≡_, sym, _∙_}
-use mathlib.Core.List.{List}
-use Prim.Native.Nat.{ℕ}
-use Rattle.scope.specs.Check.{Check}
-use Rattle.scope.specs.Reading.{Table, Got}
-use Rattle.scope.specs.Bounds.{Bound}
-use Rattle.scope.specs.Run.{Left, Ended}
-use Rattle.exports.specs.Codes.{Judged, judgedBy, Decoding, decodingBy, Bounding, boundingBy, Staged, stagedBy, Finished, finishedBy, Read, readBy}
+-- What each call promises has one outcome: over the call's own promise, `Post`, two numbers, what is told beside them and the stores that are left are the same.
+use mathlib.Core.Path.{sym, _∙_}
+use Rattle.promise.specs.Outcomes.{OneOutcome, _&_}
+use Rattle.exports.proofs.drevaloci_arrows.Kinds as arrows-kinds
+use Rattle.exports.proofs.drevaloci_arrows.Reads as arrows-reads
+use Rattle.exports.proofs.drevaloci_bounds.Kinds as bounds-kinds
+use Rattle.exports.proofs.drevaloci_bounds.Reads as bounds-reads
+use Rattle.exports.proofs.drevaloci_decode.Kinds as decode-kinds
+use Rattle.exports.proofs.drevaloci_decode.Reads as decode-reads
+use Rattle.exports.proofs.drevaloci_hashes.Kinds as hashes-kinds
+use Rattle.exports.proofs.drevaloci_hashes.Reads as hashes-reads
+use Rattle.exports.proofs.drevaloci_natural.Kinds as natural-kinds
+use Rattle.exports.proofs.drevaloci_natural.Reads as natural-reads
+use Rattle.exports.proofs.drevaloci_run.Kinds as run-kinds
+use Rattle.exports.proofs.drevaloci_run.Reads as run-reads
+use Rattle.exports.proofs.drevaloci_run_tables.Kinds as run-tables-kinds
+use Rattle.exports.proofs.drevaloci_run_tables.Reads as run-tables-reads
+use Rattle.exports.proofs.drevaloci_walk.Kinds as walk-kinds
+use Rattle.exports.proofs.drevaloci_walk.Reads as walk-reads
 
-pub drevaloci-run : (end : Ended) (x y : Finished) → x ≡ finishedBy end → y ≡ finishedBy end → x ≡ y
-drevaloci-run end x y d e = d ∙ sym e
+pub drevaloci-run : OneOutcome 7 run-kinds.ps run-kinds.r run-reads.Post
+drevaloci-run κs a s t v w p q = let e = p ∙ sym q in (λ i. e i .code, λ i. tt & e i .nodes & e i .hashes & e i .cells & e i .frames & e i .answer & e i .place & tt)
 
-pub drevaloci-decode : (c : Check Table) (nodes hashes : List ℕ) (x y : Decoding) → x ≡ decodingBy c nodes hashes → y ≡ decodingBy c nodes hashes → x ≡ y
-drevaloci-decode c nodes hashes x y d e = d ∙ sym e
+pub drevaloci-decode : OneOutcome 5 decode-kinds.ps decode-kinds.r decode-reads.Post
+drevaloci-decode κs a s t v w p q = let e = p ∙ sym q in (λ i. e i .code, λ i. tt & e i .nodes & e i .hashes & e i .place & e i .bytes & tt)
 
-pub drevaloci-walk : (c : Check (Unit {0})) (x y : Judged) → x ≡ judgedBy c → y ≡ judgedBy c → x ≡ y
-drevaloci-walk c x y d e = d ∙ sym e
+pub drevaloci-walk : OneOutcome 4 walk-kinds.ps walk-kinds.r walk-reads.Post
+drevaloci-walk κs a s t v w p q = let e = p ∙ sym q in (λ i. e i .code, λ i. tt & tt & tt & e i .place & tt)
 
-pub drevaloci-arrows : (c : Check (Unit {0})) (x y : Judged) → x ≡ judgedBy c → y ≡ judgedBy c → x ≡ y
-drevaloci-arrows c x y d e = d ∙ sym e
+pub drevaloci-arrows : OneOutcome 6 arrows-kinds.ps arrows-kinds.r arrows-reads.Post
+drevaloci-arrows κs a s t v w p q = let e = p ∙ sym q in (λ i. e i .code, λ i. tt & tt & tt & tt & tt & e i .place & tt)
 
-pub drevaloci-hashes : (c : Check (Unit {0})) (x y : Judged) → x ≡ judgedBy c → y ≡ judgedBy c → x ≡ y
-drevaloci-hashes c x y d e = d ∙ sym e
+pub drevaloci-hashes : OneOutcome 7 hashes-kinds.ps hashes-kinds.r hashes-reads.Post
+drevaloci-hashes κs a s t v w p q = let e = p ∙ sym q in (λ i. e i .code, λ i. tt & tt & tt & tt & tt & tt & e i .place & tt)
 
-pub drevaloci-bounds : (c : Check Bound) (x y : Bounding) → x ≡ boundingBy c → y ≡ boundingBy c → x ≡ y
-drevaloci-bounds c x y d e = d ∙ sym e
+pub drevaloci-bounds : OneOutcome 8 bounds-kinds.ps bounds-kinds.r bounds-reads.Post
+drevaloci-bounds κs a s t v w p q = let e = p ∙ sym q in (λ i. e i .code, λ i. tt & tt & tt & tt & tt & e i .cells & e i .frames & e i .cost & tt)
 
-pub drevaloci-run-tables : (left : Left) (x y : Staged) → x ≡ stagedBy left → y ≡ stagedBy left → x ≡ y
-drevaloci-run-tables left x y d e = d ∙ sym e
+pub drevaloci-run-tables : OneOutcome 5 run-tables-kinds.ps run-tables-kinds.r run-tables-reads.Post
+drevaloci-run-tables κs a s t v w p q = let e = p ∙ sym q in (λ i. e i .code, λ i. tt & tt & tt & tt & tt & tt & tt & tt & tt & tt & e i .cells & e i .frames & e i .answer & e i .place & tt)
 
-pub drevaloci-natural : (g : Got ℕ) (x y : Read) → x ≡ readBy g → y ≡ readBy g → x ≡ y
-drevaloci-natural g x y d e = d ∙ sym e
+pub drevaloci-natural : OneOutcome 3 natural-kinds.ps natural-kinds.r natural-reads.Post
+drevaloci-natural κs a s t v w p q = let e = p ∙ sym q in (λ i. e i .code, λ i. tt & tt & tt & e i .value & e i .next & tt)

@@ -1,19 +1,24 @@
--- What each public call promises has one outcome: over a call's own promise, two results are the same.
-use mathlib.Core.Path.{_≡_, sym, _∙_}
-use mathlib.Core.List.{List}
-use Prim.Native.Nat.{ℕ}
-use Rattle.scope.specs.Header.{count, checkHeader, section, opened}
-use Rattle.header.specs.Answer.{headerAnswer}
-use Rattle.header.specs.declared.HeaderAnswer.{HeaderAnswer}
+-- What each public call promises has one outcome: over the call's own promise, `Post`, two results are the same, and two parts stand at the same place.
+use mathlib.Core.Path.{sym, _∙_}
+use Rattle.promise.specs.Outcomes.{OneResult, OneSeen}
+use Rattle.promise.specs.Parts.{partOf}
+use Rattle.header.proofs.check_header.Kinds as check-header-kinds
+use Rattle.header.proofs.check_header.Reads as check-header-reads
+use Rattle.header.proofs.count.Kinds as count-kinds
+use Rattle.header.proofs.count.Reads as count-reads
+use Rattle.header.proofs.opened.Kinds as opened-kinds
+use Rattle.header.proofs.opened.Reads as opened-reads
+use Rattle.header.proofs.section.Kinds as section-kinds
+use Rattle.header.proofs.section.Reads as section-reads
 
-pub check-header : (d : List ℕ) (r q : HeaderAnswer) → r ≡ headerAnswer (checkHeader d) → q ≡ headerAnswer (checkHeader d) → r ≡ q
-check-header d r q e f = e ∙ sym f
+pub check-header : OneResult 1 check-header-kinds.ps check-header-kinds.r check-header-reads.Post
+check-header κs a s t x y p q = p ∙ sym q
 
-pub count-of : (d : List ℕ) (k r q : ℕ) → r ≡ count d k → q ≡ count d k → r ≡ q
-count-of d k r q e f = e ∙ sym f
+pub count : OneResult 1 count-kinds.ps count-kinds.r count-reads.Post
+count κs a s t x y p q = p ∙ sym q
 
-pub opened-part : (d : List ℕ) (k : ℕ) (r q : List ℕ) → r ≡ opened d k → q ≡ opened d k → r ≡ q
-opened-part d k r q e f = e ∙ sym f
+pub opened : OneSeen 1 opened-kinds.ps opened-kinds.r (λ κs. partOf) opened-reads.Post
+opened κs a s t x y p q = p ∙ sym q
 
-pub section-part : (d : List ℕ) (k : ℕ) (r q : List ℕ) → r ≡ section d k → q ≡ section d k → r ≡ q
-section-part d k r q e f = e ∙ sym f
+pub section : OneSeen 1 section-kinds.ps section-kinds.r (λ κs. partOf) section-reads.Post
+section κs a s t x y p q = p ∙ sym q

@@ -15,8 +15,10 @@ use Rattle.refusal.specs.declared.Refusal.{Refusal}
 use Rattle.refusal.specs.declared.Refusal.the-variants.{Header}
 use Rattle.scope.specs.Check.{Check, passed, refused, _>>=_, require, firstFailing, each}
 use Rattle.scope.specs.Numbers.{be16, bytesFor, every}
-use Rattle.scope.specs.Header.{number, count, offset, size, start, countRule, typeCountRule, offsetRule, totalRule, headerRule, checkHeader, section, opened}
+use Rattle.scope.specs.Header.{number, count, offset, size, start, countRule, typeCountRule, offsetRule, totalRule, headerRule, checkHeader, section}
+use Rattle.promise.specs.Parts.{Part, cut}
 use Rattle.header.specs.Answer.{headerAnswer}
+use Rattle.header.specs.Sections.{sectionPart, openedBy, openedPart}
 use Rattle.header.specs.declared.HeaderAnswer.the-variants.{Passed, Refused}
 use Rattle.header.proofs.Checks.{every-one, every-last, fails-here, holds-here, first-holds}
 
@@ -211,39 +213,30 @@ module _ (d : List ℕ) where
     unfolding countRule
     section-end k h = leb-true (start d k + size d k) (length d) (count-holds k h)
 
-    pub opened-passed : (k : ℕ) → section d k ≡ opened d k
-    unfolding opened
-    opened-passed k = go (checkHeader d) good
-      where
-        go : (x : Check (Unit {0})) → Passed ≡ headerAnswer x → section d k ≡ elim x [ passed y ↦ section d k | refused r ↦ [] ]
-        go (passed y) e = refl
-        go (refused r) e = let z : _≡_ {A = ℕ} 0 1 = cc in absurd (omega arith)
-
-  pub opened-refused : (r : Refusal) → Refused r ≡ headerAnswer (checkHeader d) → (k : ℕ) → [] ≡ opened d k
-  unfolding opened
-  opened-refused r bad k = go (checkHeader d) bad
+  -- past the last section nothing follows
+  pub start-end : (k : ℕ) → 6 ≤ k → start d 6 ≡ start d k
+  unfolding start
+  start-end k h = let e : k ≡ 6 + (k - 6) = omega arith in go (k - 6) ∙ ap (start d) (sym e)
     where
-      go : (x : Check (Unit {0})) → Refused r ≡ headerAnswer x → _≡_ {A = List ℕ} [] (elim x [ passed y ↦ section d k | refused r ↦ [] ])
+      go : (n : ℕ) → start d 6 ≡ start d (6 + n)
+      go zero = refl
+      go (suc n) =
+          let z = size-none (6 + n) (omega arith) in
+          let e : start d (6 + n) ≡ start d (6 + n) + size d (6 + n) = omega arith in
+          go n ∙ e ∙ ap (start d) (let s : suc (6 + n) ≡ 6 + suc n = omega arith in s)
+
+-- what is opened by what the check says
+module _ (dossier : Part) (k : ℕ) where
+  pub opened-passed : Passed ≡ headerAnswer (checkHeader (dossier .bytes)) → sectionPart dossier k ≡ openedPart dossier k
+  opened-passed good = go (checkHeader (dossier .bytes)) good
+    where
+      go : (x : Check (Unit {0})) → Passed ≡ headerAnswer x → sectionPart dossier k ≡ openedBy x dossier k
+      go (passed y) e = refl
+      go (refused r) e = let z : _≡_ {A = ℕ} 0 1 = cc in absurd (omega arith)
+
+  pub opened-refused : (r : Refusal) → Refused r ≡ headerAnswer (checkHeader (dossier .bytes)) → cut dossier 0 0 ≡ openedPart dossier k
+  opened-refused r bad = go (checkHeader (dossier .bytes)) bad
+    where
+      go : (x : Check (Unit {0})) → Refused r ≡ headerAnswer x → cut dossier 0 0 ≡ openedBy x dossier k
       go (passed y) e = let z : _≡_ {A = ℕ} 0 1 = cc in absurd (omega arith)
-      go (refused r) e = refl
-
-  pub section-none : (k : ℕ) → 6 ≤ k → [] ≡ section d k
-  unfolding section
-  section-none k h = ap (λ (n : ℕ). take n (drop (start d k) d)) (size-none k h)
-
-  -- what of section k lies within the dossier
-  pub section-past : (k from : ℕ) → from ≡ start d k → length d < from → [] ≡ section d k
-  unfolding section
-  section-past k from e h = sym (ap (take (size d k)) (ap (λ (p : ℕ). drop p d) (sym e) ∙ drop-of-length-le d {i = from} (omega arith)) ∙ take-nil {A = ℕ} (size d k))
-
-  pub section-rest : (k from : ℕ) → from ≡ start d k → length d < from + size d k → take (length d - from) (drop from d) ≡ section d k
-  unfolding section
-  section-rest k from e h =
-      let n : length (drop from d) ≡ length d - from = length-drop from d in
-      take-all (length d - from) (drop from d) (omega arith) ∙ sym (take-all (size d k) (drop from d) (omega arith)) ∙ ap (λ (p : ℕ). take (size d k) (drop p d)) e
-
-  pub section-whole : (k from bytes : ℕ) → from ≡ start d k → bytes ≡ size d k → take (from + bytes - from) (drop from d) ≡ section d k
-  unfolding section
-  section-whole k from bytes e z =
-      let n : from + bytes - from ≡ size d k = omega (arith, z) in
-      ap₂ (λ (n p : ℕ). take n (drop p d)) n e
+      go (refused w) e = refl

@@ -7,8 +7,10 @@ ghost use lib.ListN.{length, getD};
 ghost use Rattle.limits.specs.Limits.{dossierBytes};
 ghost use Rattle.scope.specs.Check.{firstFailing};
 ghost use Rattle.scope.specs.Numbers.{be16};
-ghost use Rattle.scope.specs.Header.{number, count, size, start, headerRule, checkHeader, section, opened};
+ghost use Rattle.scope.specs.Header.{number, count, size, start, headerRule, checkHeader};
+ghost use Rattle.promise.specs.Parts.{partOf, cut};
 ghost use Rattle.header.specs.Answer.{headerAnswer};
+ghost use Rattle.header.specs.Sections.{sectionPart, openedPart};
 use refusal::Refusal;
 
 // What the check says: the header keeps its rules, or why it does not.
@@ -160,31 +162,40 @@ fn start(dossier: &[u8], k: usize) -> u64
     place
 }
 
+// The part of n bytes from a place on, as far as there are any.
+fn part(bytes: &[u8], at: usize, n: usize) -> &[u8]
+    ensures { λ r. ⌜ partOf r ≡ cut (partOf (bytes .entry)) at n ⌝ }
+{
+    let all = bytes.len();
+    if all < at {
+        return &bytes[all..];
+    }
+    if all - at < n {
+        return &bytes[at..];
+    }
+    &bytes[at..at + n]
+}
+
 // Section k of a dossier whose header was checked; of any other, what of it lies within the dossier.
 pub fn section(dossier: &[u8], k: usize) -> &[u8]
-    ensures { λ r. ⌜ now r ≡ section (now (dossier .entry)) k ⌝ }
+    ensures { λ r. ⌜ partOf r ≡ sectionPart (partOf (dossier .entry)) k ⌝ }
 {
     if SECTIONS <= k {
-        return &dossier[..0];
+        return part(dossier, start(dossier, SECTIONS) as usize, 0);
     }
-    let from = start(dossier, k);
-    let to = from + size(dossier, k);
-    let length = dossier.len() as u64;
-    if length < from {
-        return &dossier[..0];
-    }
-    if length < to {
-        return &dossier[from as usize..];
-    }
-    &dossier[from as usize..to as usize]
+    part(
+        dossier,
+        start(dossier, k) as usize,
+        size(dossier, k) as usize,
+    )
 }
 
 // Section k, as that part of the dossier; empty where the header is refused or there is no such section.
 pub fn opened(dossier: &[u8], k: usize) -> &[u8]
-    ensures { λ r. ⌜ now r ≡ opened (now (dossier .entry)) k ⌝ }
+    ensures { λ r. ⌜ partOf r ≡ openedPart (partOf (dossier .entry)) k ⌝ }
 {
     let HeaderAnswer::Passed = check_header(dossier) else {
-        return &dossier[..0];
+        return part(dossier, 0, 0);
     };
     section(dossier, k)
 }

@@ -1,10 +1,6 @@
 -- What each public call promises has one outcome: over the call's own promise, `Post`, two results are the same.
-use mathlib.Core.Path.{_≡_, sym, _∙_}
-use mathlib.Core.List.{List}
-use Prim.Native.Nat.{ℕ}
-use borrow.Fn.Kinds.{PK, RK, Out, Dens, endedOf, resT}
-use contract.Lifetimes.{Lfts}
-use denote.Triple.Clauses.{AtExit}
+use mathlib.Core.Path.{sym, _∙_}
+use Rattle.promise.specs.Outcomes.{OneResult}
 use Rattle.lookup.proofs.around_at.Kinds as around-at-kinds
 use Rattle.lookup.proofs.around_at.Reads as around-at-reads
 use Rattle.lookup.proofs.left_part.Kinds as left-part-kinds
@@ -23,11 +19,6 @@ use Rattle.lookup.proofs.target_at.Kinds as target-at-kinds
 use Rattle.lookup.proofs.target_at.Reads as target-at-reads
 use Rattle.lookup.proofs.target_width.Kinds as target-width-kinds
 use Rattle.lookup.proofs.target_width.Reads as target-width-reads
-
--- two results that a promise allows of the same arguments are the same
-abbrev pub OneResult : (n : ℕ) (ps : List (PK n)) (r : RK n) → Out n ps r → Type 0
-OneResult n ps r Post =
-    (κs : Lfts n) (a : Dens κs ps) (s t : resT r κs .Denot) (x y : AtExit (endedOf n ps r) κs) → Post κs a s x → Post κs a t y → s ≡ t
 
 pub around-at : OneResult 4 around-at-kinds.ps around-at-kinds.r around-at-reads.Post
 around-at κs a s t x y p q = p ∙ sym q

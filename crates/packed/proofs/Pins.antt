@@ -1,59 +1,75 @@
--- What each public call promises has one outcome: over a call's own promise, two results, and a store that is left, are the same. What is printed is no result.
-use mathlib.Core.Path.{_≡_, refl, sym, _∙_}
-use mathlib.Core.Bool.{Bool}
-use mathlib.Core.List.{List}
-use Prim.Native.Nat.{ℕ}
-use lib.ListN.{take, drop, getD}
-use Rattle.scope.specs.Numbers.{be16, be32}
-use Rattle.packed.specs.Lists.{unpacked, holdsNumbers, laid}
-use Rattle.packed.specs.Records.{number, part, firstRecord, afterFirst, tells}
-use Rattle.packed.specs.Tallies.{counted}
-use Rattle.packed.specs.declared.Tally.{Tally}
+-- What each public call promises has one outcome: over the call's own promise, `Post`, two results, and two stores that are left, are the same.
+-- A part that is handed back is told by what it holds. The calls that print promise nothing: what is printed is no result.
+use mathlib.Core.Path.{sym, _∙_}
+use denote.Ref.{now}
+use Rattle.promise.specs.Outcomes.{OneResult, OneSeen, OneOutcome, _&_}
+use Rattle.packed.proofs.after_first.Kinds as after-first-kinds
+use Rattle.packed.proofs.after_first.Reads as after-first-reads
+use Rattle.packed.proofs.byte.Kinds as byte-kinds
+use Rattle.packed.proofs.byte.Reads as byte-reads
+use Rattle.packed.proofs.counted.Kinds as counted-kinds
+use Rattle.packed.proofs.counted.Reads as counted-reads
+use Rattle.packed.proofs.first_record.Kinds as first-record-kinds
+use Rattle.packed.proofs.first_record.Reads as first-record-reads
+use Rattle.packed.proofs.from.Kinds as from-kinds
+use Rattle.packed.proofs.from.Reads as from-reads
+use Rattle.packed.proofs.front.Kinds as front-kinds
+use Rattle.packed.proofs.front.Reads as front-reads
+use Rattle.packed.proofs.front_numbers.Kinds as front-numbers-kinds
+use Rattle.packed.proofs.front_numbers.Reads as front-numbers-reads
+use Rattle.packed.proofs.holds_numbers.Kinds as holds-numbers-kinds
+use Rattle.packed.proofs.holds_numbers.Reads as holds-numbers-reads
+use Rattle.packed.proofs.laid.Kinds as laid-kinds
+use Rattle.packed.proofs.laid.Reads as laid-reads
+use Rattle.packed.proofs.number.Kinds as number-kinds
+use Rattle.packed.proofs.number.Reads as number-reads
+use Rattle.packed.proofs.number16.Kinds as number16-kinds
+use Rattle.packed.proofs.number16.Reads as number16-reads
+use Rattle.packed.proofs.number32.Kinds as number32-kinds
+use Rattle.packed.proofs.number32.Reads as number32-reads
+use Rattle.packed.proofs.part.Kinds as part-kinds
+use Rattle.packed.proofs.part.Reads as part-reads
+use Rattle.packed.proofs.tells.Kinds as tells-kinds
+use Rattle.packed.proofs.tells.Reads as tells-reads
 
-pub byte : (v : List ℕ) (at r q : ℕ) → r ≡ getD v at 0 → q ≡ getD v at 0 → r ≡ q
-byte v at r q e f = e ∙ sym f
+pub byte : OneResult 1 byte-kinds.ps byte-kinds.r byte-reads.Post
+byte κs a s t x y p q = p ∙ sym q
 
-pub number16 : (v : List ℕ) (at r q : ℕ) → r ≡ be16 v at → q ≡ be16 v at → r ≡ q
-number16 v at r q e f = e ∙ sym f
+pub number16 : OneResult 1 number16-kinds.ps number16-kinds.r number16-reads.Post
+number16 κs a s t x y p q = p ∙ sym q
 
-pub number32 : (v : List ℕ) (at r q : ℕ) → r ≡ be32 v at → q ≡ be32 v at → r ≡ q
-number32 v at r q e f = e ∙ sym f
+pub number32 : OneResult 1 number32-kinds.ps number32-kinds.r number32-reads.Post
+number32 κs a s t x y p q = p ∙ sym q
 
-pub number-of : (v : List ℕ) (k r q : ℕ) → r ≡ number v k → q ≡ number v k → r ≡ q
-number-of v k r q e f = e ∙ sym f
+pub number : OneResult 1 number-kinds.ps number-kinds.r number-reads.Post
+number κs a s t x y p q = p ∙ sym q
 
-pub tells-of : (v : List ℕ) (a b : ℕ) (r q : Bool) → r ≡ tells v a b → q ≡ tells v a b → r ≡ q
-tells-of v a b r q e f = e ∙ sym f
+pub tells : OneResult 1 tells-kinds.ps tells-kinds.r tells-reads.Post
+tells κs a s t x y p q = p ∙ sym q
 
-pub front : (v : List ℕ) (n : ℕ) (r q : List ℕ) → r ≡ take n v → q ≡ take n v → r ≡ q
-front v n r q e f = e ∙ sym f
+pub front : OneSeen 1 front-kinds.ps front-kinds.r (λ κs. now) front-reads.Post
+front κs a s t x y p q = p ∙ sym q
 
-pub front-numbers : (v : List ℕ) (n : ℕ) (r q : List ℕ) → r ≡ take n v → q ≡ take n v → r ≡ q
-front-numbers v n r q e f = e ∙ sym f
+pub front-numbers : OneSeen 1 front-numbers-kinds.ps front-numbers-kinds.r (λ κs. now) front-numbers-reads.Post
+front-numbers κs a s t x y p q = p ∙ sym q
 
-pub from : (v : List ℕ) (n : ℕ) (r q : List ℕ) → r ≡ drop n v → q ≡ drop n v → r ≡ q
-from v n r q e f = e ∙ sym f
+pub from : OneSeen 1 from-kinds.ps from-kinds.r (λ κs. now) from-reads.Post
+from κs a s t x y p q = p ∙ sym q
 
-pub part-of : (v : List ℕ) (first head k : ℕ) (r q : List ℕ) → r ≡ part v first head k → q ≡ part v first head k → r ≡ q
-part-of v first head k r q e f = e ∙ sym f
+pub part : OneSeen 1 part-kinds.ps part-kinds.r (λ κs. now) part-reads.Post
+part κs a s t x y p q = p ∙ sym q
 
-pub holds-numbers : (store v : List ℕ) (rest : ℕ) (r q : Bool) → r ≡ holdsNumbers store (unpacked v) rest → q ≡ holdsNumbers store (unpacked v) rest → r ≡ q
-holds-numbers store v rest r q e f = e ∙ sym f
+pub holds-numbers : OneResult 2 holds-numbers-kinds.ps holds-numbers-kinds.r holds-numbers-reads.Post
+holds-numbers κs a s t x y p q = p ∙ sym q
 
-pub laid-of : (v store : List ℕ) (r q : ℕ) (s t : List ℕ) → (r, s) ≡ laid (unpacked v) store → (q, t) ≡ laid (unpacked v) store → _≡_ {A = ℕ × List ℕ} (r, s) (q, t)
-laid-of v store r q s t e f = e ∙ sym f
+pub laid : OneOutcome 2 laid-kinds.ps laid-kinds.r laid-reads.Post
+laid κs a s t v w p q = let e = p ∙ sym q in (λ i. e i .0, λ i. tt & e i .1 & tt)
 
-pub first-record : (v r q : List ℕ) → r ≡ firstRecord v → q ≡ firstRecord v → r ≡ q
-first-record v r q e f = e ∙ sym f
+pub first-record : OneSeen 1 first-record-kinds.ps first-record-kinds.r (λ κs. now) first-record-reads.Post
+first-record κs a s t x y p q = p ∙ sym q
 
-pub after-first : (v r q : List ℕ) → r ≡ afterFirst v → q ≡ afterFirst v → r ≡ q
-after-first v r q e f = e ∙ sym f
+pub after-first : OneSeen 1 after-first-kinds.ps after-first-kinds.r (λ κs. now) after-first-reads.Post
+after-first κs a s t x y p q = p ∙ sym q
 
-pub counted-of : (t : Tally) (fine : Bool) (r q : Tally) → r ≡ counted t fine → q ≡ counted t fine → r ≡ q
-counted-of t fine r q e f = e ∙ sym f
-
-pub print-wrong : (r q : Unit {0}) → r ≡ q
-print-wrong r q = refl
-
-pub print-tally : (r q : Unit {0}) → r ≡ q
-print-tally r q = refl
+pub counted : OneResult 0 counted-kinds.ps counted-kinds.r counted-reads.Post
+counted κs a s t x y p q = p ∙ sym q

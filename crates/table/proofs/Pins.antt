@@ -1,23 +1,30 @@
--- What each public call promises has one outcome: over a call's own promise, two results are the same.
-use mathlib.Core.Path.{_≡_, refl, sym, ap, ap₂, _∙_}
-use mathlib.Core.Bool.{Bool}
-use mathlib.Core.List.{List, []}
-use Prim.Native.Nat.{ℕ, _*_}
-use lib.ListN.{length, getD}
-use Rattle.limits.specs.Limits.{nodeCount}
-use Rattle.scope.specs.Check.{Check, passed, refused}
-use Rattle.scope.specs.Numbers.{same}
-use Rattle.scope.specs.Nodes.{kindOf, NodeRecord, nodeRecords}
-use Rattle.scope.specs.Walk.{hiddenAt}
-use Rattle.scope.specs.Stages.{counted, numbersRule, noRecord, walkStage}
+-- What each public call promises has one outcome: over the call's own promise, `Post`, two results are the same.
+use mathlib.Core.Path.{_≡_, refl, sym, ap, _∙_}
+use Rattle.promise.specs.Outcomes.{OneResult}
+use Rattle.scope.specs.Nodes.{NodeRecord}
 use Rattle.exactness.specs.Checks.{clash}
 use Rattle.table.specs.declared.NodeRecord.{NodeRecord as Lent}
 use Rattle.table.specs.declared.Checked.{Checked}
 use Rattle.table.specs.declared.Checked.the-variants.{Passed, Refused}
 use Rattle.table.specs.Answers.{recordOf, checkOf}
-use Rattle.table.specs.Lent.{lentNodes}
-use Rattle.table.specs.Walking.{inTurn}
-use Rattle.table.specs.Stage.{countedRecords, countedWalk}
+use Rattle.table.proofs.check_count.Kinds as check-count-kinds
+use Rattle.table.proofs.check_count.Reads as check-count-reads
+use Rattle.table.proofs.check_records.Kinds as check-records-kinds
+use Rattle.table.proofs.check_records.Reads as check-records-reads
+use Rattle.table.proofs.first_refusal.Kinds as first-refusal-kinds
+use Rattle.table.proofs.first_refusal.Reads as first-refusal-reads
+use Rattle.table.proofs.hidden_at.Kinds as hidden-at-kinds
+use Rattle.table.proofs.hidden_at.Reads as hidden-at-reads
+use Rattle.table.proofs.record_at.Kinds as record-at-kinds
+use Rattle.table.proofs.record_at.Reads as record-at-reads
+use Rattle.table.proofs.record_holds.Kinds as record-holds-kinds
+use Rattle.table.proofs.record_holds.Reads as record-holds-reads
+use Rattle.table.proofs.same_bytes.Kinds as same-bytes-kinds
+use Rattle.table.proofs.same_bytes.Reads as same-bytes-reads
+use Rattle.table.proofs.walk.Kinds as walk-kinds
+use Rattle.table.proofs.walk.Reads as walk-reads
+use Rattle.table.proofs.walk_stage.Kinds as walk-stage-kinds
+use Rattle.table.proofs.walk_stage.Reads as walk-stage-reads
 
 -- a check's answer tells it, and a record's numbers tell it
 pub check-tells : (c d : Checked) → checkOf c ≡ checkOf d → c ≡ d
@@ -29,30 +36,29 @@ check-tells (Refused why) (Refused other) e = ap Refused (cc)
 pub record-tells : (r q : Lent) → recordOf r ≡ recordOf q → r ≡ q
 record-tells r q e = ap (λ (x : NodeRecord). record { kind = x .kind; first = x .first; second = x .second; third = x .third }) e
 
-pub record-at : (nodes : List ℕ) (i : ℕ) (r q : Lent) → recordOf r ≡ getD (nodeRecords nodes) i noRecord → recordOf q ≡ getD (nodeRecords nodes) i noRecord → r ≡ q
-record-at nodes i r q d e = record-tells r q (d ∙ sym e)
+pub record-at : OneResult 1 record-at-kinds.ps record-at-kinds.r record-at-reads.Post
+record-at κs a s t x y p q = record-tells s t (p ∙ sym q)
 
-pub record-holds : (r : Lent) (i program hashes : ℕ) (x y : Bool) → x ≡ numbersRule (8 * program) hashes i (kindOf (r .kind)) (r .first) (r .second) (r .third)
-    → y ≡ numbersRule (8 * program) hashes i (kindOf (r .kind)) (r .first) (r .second) (r .third) → x ≡ y
-record-holds r i program hashes x y d e = d ∙ sym e
+pub record-holds : OneResult 0 record-holds-kinds.ps record-holds-kinds.r record-holds-reads.Post
+record-holds κs a s t x y p q = p ∙ sym q
 
-pub check-count : (nodes : List ℕ) (r q : Checked) → checkOf r ≡ counted (length (nodeRecords nodes)) nodeCount → checkOf q ≡ counted (length (nodeRecords nodes)) nodeCount → r ≡ q
-check-count nodes r q d e = check-tells r q (d ∙ sym e)
+pub check-count : OneResult 1 check-count-kinds.ps check-count-kinds.r check-count-reads.Post
+check-count κs a s t x y p q = check-tells s t (p ∙ sym q)
 
-pub check-records : (program hashes nodes : List ℕ) (r q : Checked) → checkOf r ≡ countedRecords program hashes nodes → checkOf q ≡ countedRecords program hashes nodes → r ≡ q
-check-records program hashes nodes r q d e = check-tells r q (d ∙ sym e)
+pub check-records : OneResult 3 check-records-kinds.ps check-records-kinds.r check-records-reads.Post
+check-records κs a s t x y p q = check-tells s t (p ∙ sym q)
 
-pub walk : (hashes nodes : List ℕ) (r q : Checked) → checkOf r ≡ countedWalk hashes nodes → checkOf q ≡ countedWalk hashes nodes → r ≡ q
-walk hashes nodes r q d e = check-tells r q (d ∙ sym e)
+pub walk : OneResult 2 walk-kinds.ps walk-kinds.r walk-reads.Post
+walk κs a s t x y p q = check-tells s t (p ∙ sym q)
 
-pub walk-stage : (program hashes nodes : List ℕ) (r q : Checked) → checkOf r ≡ walkStage program hashes nodes → checkOf q ≡ walkStage program hashes nodes → r ≡ q
-walk-stage program hashes nodes r q d e = check-tells r q (d ∙ sym e)
+pub walk-stage : OneResult 3 walk-stage-kinds.ps walk-stage-kinds.r walk-stage-reads.Post
+walk-stage κs a s t x y p q = check-tells s t (p ∙ sym q)
 
-pub hidden-at : (nodes : List ℕ) (j : ℕ) (x y : Bool) → x ≡ hiddenAt (lentNodes [] nodes) j → y ≡ hiddenAt (lentNodes [] nodes) j → x ≡ y
-hidden-at nodes j x y d e = d ∙ sym e
+pub hidden-at : OneResult 1 hidden-at-kinds.ps hidden-at-kinds.r hidden-at-reads.Post
+hidden-at κs a s t x y p q = p ∙ sym q
 
-pub same-bytes : (a b : List ℕ) (x y : Bool) → x ≡ same a b → y ≡ same a b → x ≡ y
-same-bytes a b x y d e = d ∙ sym e
+pub same-bytes : OneResult 2 same-bytes-kinds.ps same-bytes-kinds.r same-bytes-reads.Post
+same-bytes κs a s t x y p q = p ∙ sym q
 
-pub first-refusal : (a b r q : Checked) → checkOf r ≡ inTurn (checkOf a) (checkOf b) → checkOf q ≡ inTurn (checkOf a) (checkOf b) → r ≡ q
-first-refusal a b r q d e = check-tells r q (d ∙ sym e)
+pub first-refusal : OneResult 0 first-refusal-kinds.ps first-refusal-kinds.r first-refusal-reads.Post
+first-refusal κs a s t x y p q = check-tells s t (p ∙ sym q)

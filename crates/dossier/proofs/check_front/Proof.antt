@@ -9,6 +9,7 @@ use Rattle.dossier.proofs.check_front.Reads as reads
 use Rattle.dossier.proofs.check_front.Lts as lts
 use Rattle.arrow.proofs.types_hold.Reads as types-hold-reads
 use Rattle.dossier.proofs.check_header.Reads as check-header-reads
+use Rattle.header.specs.Sections.{section-holds}
 use Rattle.header.proofs.section.Reads as section-reads
 
 check-header-requires : tie.Need-check-header-requires
@@ -30,7 +31,7 @@ types-hold-requires : tie.Need-types-hold-requires
 types-hold-requires c κs = search needs
 
 returns-2 : tie.Need-returns-2
-returns-2 c = front-types _ (c .before .before .before .before .check-header .result) (c .before .before .before .before .check-header .ensures) (c .before .before .enum-told .given .1) (c .types-hold .result) (c .types-hold .ensures ∙ ap countedTypes (c .before .section .ensures))
+returns-2 c = front-types _ (c .before .before .before .before .check-header .result) (c .before .before .before .before .check-header .ensures) (c .before .before .enum-told .given .1) (c .types-hold .result) (c .types-hold .ensures ∙ ap countedTypes (section-holds _ _ _ (c .before .section .ensures)))
 
 pub check-front-spec : {M : Type 1} → statement M
 check-front-spec =

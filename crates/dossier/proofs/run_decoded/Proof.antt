@@ -8,6 +8,7 @@ use Rattle.dossier.proofs.run_decoded.Reads as reads
 use Rattle.dossier.proofs.run_decoded.Lts as lts
 use Rattle.bit_machine.proofs.run_stage.Reads as run-stage-reads
 use Rattle.header.proofs.count.Reads as count-reads
+use Rattle.header.specs.Sections.{section-holds}
 use Rattle.header.proofs.section.Reads as section-reads
 
 section-requires : tie.Need-section-requires
@@ -47,7 +48,7 @@ same-length-3 : tie.Need-same-length-3
 same-length-3 c = search needs
 
 returns : tie.Need-returns
-returns c = c .before .before .before .before .before .before .run-stage .ensures ∙ sections-run (c .before .before .before .before .before .before .before .before .before .before .before .before .before .before .before .before .before .before .before .before .before .before .before .before .args .dossier .now) (c .before .before .before .before .before .before .before .before .before .before .before .before .before .before .before .before .before .before .before .before .before .before .before .before .args .nodes .now) (c .before .before .before .before .before .before .before .before .before .before .before .before .before .before .before .before .before .before .before .before .before .before .before .before .args .hashes .now) (c .before .before .before .before .before .before .before .before .before .before .before .before .before .before .before .before .before .before .before .before .before .before .before .before .args .cells .now) (c .before .before .before .before .before .before .before .before .before .before .before .before .before .before .before .before .before .before .before .before .before .before .before .before .args .frames .now) (c .before .before .before .before .before .before .before .before .before .before .before .before .before .before .before .before .before .before .before .before .before .before .before .before .args .answer .now) _ _ _ _ _ _ _ _ (c .before .before .before .before .before .before .before .before .before .before .before .before .before .before .before .before .before .section .ensures) (c .before .before .before .before .before .before .before .before .before .before .before .before .before .before .before .before .section2 .ensures) (c .before .before .before .before .before .before .before .before .before .before .before .before .before .before .before .section3 .ensures) (c .before .before .before .before .before .before .before .before .before .before .before .before .before .before .section4 .ensures) (c .before .before .before .before .before .before .before .before .before .before .before .before .before .section5 .ensures) (c .before .before .before .before .before .before .before .before .before .before .before .before .count .ensures) (c .before .before .before .before .before .before .before .before .before .before .before .section6 .ensures) (c .before .before .before .before .before .before .before .before .before .before .count2 .ensures)
+returns c = c .before .before .before .before .before .before .run-stage .ensures ∙ sections-run (c .before .before .before .before .before .before .before .before .before .before .before .before .before .before .before .before .before .before .before .before .before .before .before .before .args .dossier .now) (c .before .before .before .before .before .before .before .before .before .before .before .before .before .before .before .before .before .before .before .before .before .before .before .before .args .nodes .now) (c .before .before .before .before .before .before .before .before .before .before .before .before .before .before .before .before .before .before .before .before .before .before .before .before .args .hashes .now) (c .before .before .before .before .before .before .before .before .before .before .before .before .before .before .before .before .before .before .before .before .before .before .before .before .args .cells .now) (c .before .before .before .before .before .before .before .before .before .before .before .before .before .before .before .before .before .before .before .before .before .before .before .before .args .frames .now) (c .before .before .before .before .before .before .before .before .before .before .before .before .before .before .before .before .before .before .before .before .before .before .before .before .args .answer .now) _ _ _ _ _ _ _ _ (section-holds _ _ _ (c .before .before .before .before .before .before .before .before .before .before .before .before .before .before .before .before .before .section .ensures)) (section-holds _ _ _ (c .before .before .before .before .before .before .before .before .before .before .before .before .before .before .before .before .section2 .ensures)) (section-holds _ _ _ (c .before .before .before .before .before .before .before .before .before .before .before .before .before .before .before .section3 .ensures)) (section-holds _ _ _ (c .before .before .before .before .before .before .before .before .before .before .before .before .before .before .section4 .ensures)) (section-holds _ _ _ (c .before .before .before .before .before .before .before .before .before .before .before .before .before .section5 .ensures)) (c .before .before .before .before .before .before .before .before .before .before .before .before .count .ensures) (section-holds _ _ _ (c .before .before .before .before .before .before .before .before .before .before .before .section6 .ensures)) (c .before .before .before .before .before .before .before .before .before .before .count2 .ensures)
 
 pub run-decoded-spec : {M : Type 1} → statement M
 run-decoded-spec =

@@ -14,17 +14,17 @@ enum-told c = search needs
 enum-told-2 : tie.Need-enum-told-2
 enum-told-2 c = search needs
 
-slice-aggregate-result : tie.Need-slice-aggregate-result
-slice-aggregate-result c = search needs
+part-requires : tie.Need-part-requires
+part-requires c κs = search needs
 
 returns : tie.Need-returns
-returns c = opened-refused _ _ (sym (c .before .enum-told2 .given .1) ∙ c .before .before .before .check-header .ensures) _
+returns c = c .part .ensures ∙ opened-refused _ _ _ (sym (c .before .enum-told2 .given .1) ∙ c .before .before .before .check-header .ensures)
 
 section-requires : tie.Need-section-requires
 section-requires c κs = search needs
 
 returns-2 : tie.Need-returns-2
-returns-2 c = c .section .ensures ∙ opened-passed _ (sym (c .before .enum-told .given .1) ∙ c .before .before .before .check-header .ensures) _
+returns-2 c = c .section .ensures ∙ opened-passed _ _ (sym (c .before .enum-told .given .1) ∙ c .before .before .before .check-header .ensures)
 
 pub opened-spec : {M : Type 1} → statement M
 opened-spec =
@@ -33,7 +33,7 @@ opened-spec =
     check-header-requires
     enum-told
     enum-told-2
-    slice-aggregate-result
+    part-requires
     returns
     section-requires
     returns-2)

@@ -1,0 +1,1 @@
+// What promises are stated with stands in specs/; this crate has no code.
