@@ -10,7 +10,7 @@ use Rattle.report.specs.Values.{Cells, valueAt}
 use Rattle.report.specs.Terms.{Term}
 use Rattle.report.specs.Typing.{Typed}
 use Rattle.report.specs.Meaning.{done, Means, eval}
-use Rattle.scope.specs.Machine.{Frame, State, Step, state, forward, reset, exec}
+use Rattle.scope.specs.Machine.{Frame, frameFrom, State, Step, state, forward, reset, exec}
 use Rattle.scope.specs.Bounds.{Bound, bounds}
 use Rattle.exactness.specs.Checks.{clash}
 use Rattle.layout.specs.Follow.{Inside, Fits}
@@ -120,10 +120,7 @@ pub no-frames : (nx : ℕ) → Stacked [] [] nx
 no-frames nx = record { reads = tt; writes = tt; apart = tt }
 
 -- a new frame of n cells above all others
-abbrev pub fresh : (nx n : ℕ) → Frame
-fresh nx n = record { cursor = nx; start = nx; len = n }
-
-pub stacked-push : (n : ℕ) {rs ws : List Frame} {nx : ℕ} → Stacked rs ws nx → Stacked rs (fresh nx n ∷ ws) (nx + n)
+pub stacked-push : (n : ℕ) {rs ws : List Frame} {nx : ℕ} → Stacked rs ws nx → Stacked rs (frameFrom nx n ∷ ws) (nx + n)
 stacked-push n {rs} {ws} {nx} h = record {
   reads = inside-more nx (nx + n) rs (omega arith) (h .reads);
   writes = (omega arith, inside-more nx (nx + n) ws (omega arith) (h .writes));

@@ -10,10 +10,10 @@ use Rattle.report.specs.Values.{Val, HasTy, Cells, padded}
 use Rattle.report.specs.Terms.{Term}
 use Rattle.report.specs.Typing.{Typed}
 use Rattle.report.specs.Meaning.{done, _>>=_}
-use Rattle.scope.specs.Machine.{Frame, State, Step, state, forward, reset, putBits, copyCells, newFrame, moveFrame, writeBits, skip, copy, fwd, exec}
+use Rattle.scope.specs.Machine.{Frame, frameFrom, State, Step, state, forward, reset, putBits, copyCells, newFrame, moveFrame, writeBits, skip, copy, fwd, exec}
 use Rattle.scope.specs.Bounds.{Bound, bounds}
 use Rattle.theory.specs.Instructions.{At, advance, at-less, at-advance, advance-advance, length-advance, newFrame-does, writeBits-does, skip-does, copy-does, fwd-does, value-does}
-use Rattle.theory.specs.Entry.{Entry, Stacked, cursorOf, fresh, at-cursor, stacked-push, stacked-move, stacked-writes, stacked-reads, ran}
+use Rattle.theory.specs.Entry.{Entry, Stacked, cursorOf, at-cursor, stacked-push, stacked-move, stacked-writes, stacked-reads, ran}
 
 -- a child with bounds x, beside m cells and k frames, keeps within the bounds z
 pub record Beside (m k : ℕ) (x z : Bound) : Type 0 where
@@ -113,8 +113,8 @@ module _ (size most : ℕ) where
 
   -- a term that was entered with a new frame to write: once it is done, that frame can be moved, and is read from its start
   moved : {f : Term} {A B : Ty} {s s₂ : State} (nx : ℕ) (rs ws : List Frame) → Typed f A B → Enters A B (bounds f) s
-      → s ≡ state (s .cells) rs (fresh nx (width B) ∷ ws) (nx + width B) → exec size most f s ≡ done s₂
-      → moveFrame s₂ ≡ done (state (s₂ .cells) (fresh nx (width B) ∷ rs) ws (nx + width B))
+      → s ≡ state (s .cells) rs (frameFrom nx (width B) ∷ ws) (nx + width B) → exec size most f s ≡ done s₂
+      → moveFrame s₂ ≡ done (state (s₂ .cells) (frameFrom nx (width B) ∷ rs) ws (nx + width B))
   unfolding state moveFrame advance forward reset
   moved {B = B} {s₂ = s₂} nx rs ws typed h is e =
       ap moveFrame (sym (ran typed h e)) ∙ ap (λ (s : State). moveFrame (state (s₂ .cells) (s .reads) (advance (width B) (s .writes)) (s .next))) is
@@ -124,15 +124,15 @@ module _ (size most : ℕ) where
       → newFrame size most (width B) s ≡ done s₁ → exec size most f s₁ ≡ done s₂ → moveFrame s₂ ≡ done t → Enters B C y t
   unfolding state At cursorOf reset
   comp-right {B = B} {s = s} {s₁ = s₁} typed k l h e₁ e₂ e₃ =
-      let pushed : newFrame size most (width B) s ≡ done (state (s .cells) (s .reads) (fresh (s .next) (width B) ∷ s .writes) (s .next + width B)) =
+      let pushed : newFrame size most (width B) s ≡ done (state (s .cells) (s .reads) (frameFrom (s .next) (width B) ∷ s .writes) (s .next + width B)) =
       newFrame-does size most (s .cells) (s .reads) (s .writes) (s .next) (width B) (omega (arith, h .cells, k .cells)) (omega (arith, h .frames, k .frames)) in
-      let is : state (s .cells) (s .reads) (fresh (s .next) (width B) ∷ s .writes) (s .next + width B) ≡ s₁ = cc in
-      let is₁ : s₁ ≡ state (s₁ .cells) (s .reads) (fresh (s .next) (width B) ∷ s .writes) (s .next + width B) =
-      sym is ∙ ap (λ (u : State). state (u .cells) (s .reads) (fresh (s .next) (width B) ∷ s .writes) (s .next + width B)) is in
+      let is : state (s .cells) (s .reads) (frameFrom (s .next) (width B) ∷ s .writes) (s .next + width B) ≡ s₁ = cc in
+      let is₁ : s₁ ≡ state (s₁ .cells) (s .reads) (frameFrom (s .next) (width B) ∷ s .writes) (s .next + width B) =
+      sym is ∙ ap (λ (u : State). state (u .cells) (s .reads) (frameFrom (s .next) (width B) ∷ s .writes) (s .next + width B)) is in
       reached (moved (s .next) (s .reads) (s .writes) typed (comp-left k h e₁) is₁ e₂) e₃ (record {
         read = (refl, omega arith, omega arith);
         write = h .write;
-        stacked = stacked-move (fresh (s .next) (width B)) (stacked-push (width B) (h .stacked));
+        stacked = stacked-move (frameFrom (s .next) (width B)) (stacked-push (width B) (h .stacked));
         cells = omega (arith, h .cells, l .cells);
         frames = omega (arith, h .frames, l .frames);
       })
@@ -144,13 +144,13 @@ module _ (size most : ℕ) where
   module _ (v : Val) (hv : HasTy v (wordTy 8)) (A B C E : Ty) (z : Bound) (s : State) (h : Enters A E z s) where
     -- the two frames
     abbrev source : Frame
-    source = fresh (s .next) (width (wordTy 8) + width A)
+    source = frameFrom (s .next) (width (wordTy 8) + width A)
 
     abbrev middle : ℕ
     middle = s .next + (width (wordTy 8) + width A)
 
     abbrev made : Frame
-    made = fresh middle (width (prod B C))
+    made = frameFrom middle (width (prod B C))
 
     -- what stands in the cells then
     abbrev filled : Cells
