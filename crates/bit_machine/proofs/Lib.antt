@@ -13,3 +13,4 @@ pub mod Whole
 pub mod Ends
 pub mod Stage
 pub mod Pins
+pub mod Visits

@@ -146,7 +146,7 @@ module _ (d : List ℕ) (records bytes : ℕ) (t : Table) (header : checkHeader 
       ∙ walk-holds program records bytes t read)
 
   -- lent, they are the dossier's own
-  lent-own : (given witness : List ℕ) (witnessBits : ℕ) (input : List ℕ) (inputBits : ℕ)
+  pub lent-own : (given witness : List ℕ) (witnessBits : ℕ) (input : List ℕ) (inputBits : ℕ)
       → lent (section d sTypes) (nodeNumbersOf (t .records)) (section d sArrows) (section d sProgram) (t .hashes) given witness witnessBits input inputBits
       ≡ record {
         types = typeRecords (section d sTypes);
@@ -162,7 +162,7 @@ module _ (d : List ℕ) (records bytes : ℕ) (t : Table) (header : checkHeader 
   lent-own given witness witnessBits input inputBits = rw (records-numbers (t .records))
 
   -- 11 to 13 are those of the dossier's tables
-  stage-hashes : hashStage (section d sTypes) (nodeNumbersOf (t .records)) (section d sArrows) (section d sProgram) (t .hashes) (section d sHashes)
+  pub stage-hashes : hashStage (section d sTypes) (nodeNumbersOf (t .records)) (section d sArrows) (section d sProgram) (t .hashes) (section d sHashes)
       ≡ checkTables (tablesOf d t)
   unfolding hashStage tablesOf checkTables
   stage-hashes =

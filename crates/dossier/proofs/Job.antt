@@ -17,11 +17,12 @@ use Rattle.report.specs.Nodes.{Node}
 use Rattle.report.specs.Naturals.{codeNatural}
 use Rattle.scope.specs.Check.{Check, passed, refused, _>>=_}
 use Rattle.scope.specs.Numbers.{zeros, filled}
-use Rattle.scope.specs.Header.{checkHeader, section, sTypes, sProgram}
+use Rattle.scope.specs.Header.{count, checkHeader, section, sTypes, sProgram, sArrows, sWitness, sInput, sHashes}
 use Rattle.scope.specs.Types.{typeRecords, checkTypes}
 use Rattle.scope.specs.Nodes.{nodeNumbersOf}
 use Rattle.scope.specs.Reading.{Table}
 use Rattle.scope.specs.Closing.{decode}
+use Rattle.scope.specs.Stages.{lent, hashStage}
 use Rattle.scope.specs.Run.{Tables, checkTables, tablesOf, checkDossier, Left, leftWith, runTables, Ended, ended, run}
 use Rattle.exactness.specs.Checks.{both-passed, then-passes}
 use Rattle.exactness.specs.Nodes.{layout}
@@ -29,7 +30,7 @@ use Rattle.exactness.specs.Decoding.{decoded-is-program}
 use Rattle.dossier.specs.Ends.{front, keeps, settled}
 use Rattle.dossier.proofs.Records.{length-numbers}
 use Rattle.dossier.proofs.Refusing.{Early, LateAnswer, tables-refuse, tables-late}
-use Rattle.dossier.proofs.Decoded.{length-records, stage}
+use Rattle.dossier.proofs.Decoded.{length-records, stage, stage-hashes, lent-own}
 
 -- checks in a row may be taken together
 steps-together : {X Y Z : Type 0} (m : Check X) (f : X → Check Y) (g : Y → Check Z) → ((m >>= f) >>= g) ≡ (m >>= λ x. (f x >>= g))
@@ -134,15 +135,39 @@ module _ (d nodes hashes cells frames answer : List ℕ) where
           go (passed x) q = job-kept q
           go (refused r) q = job-tables r q
 
--- a dossier that passes 1 to 13 was decoded
-pub dossier-decodes : (d nodes hashes : List ℕ) (t : Table) → checkDossier d nodes hashes ≡ passed t
-    → decode (section d sProgram) (length nodes / nodeNumbers) (length hashes) ≡ passed t
+-- what a dossier that passes 1 to 13 has passed: its header, its types, decoding and the checks of its tables
+pub record Parts (d nodes hashes : List ℕ) (t : Table) : Type 0 where
+  pub header : checkHeader d ≡ passed tt
+  pub types : checkTypes (typeRecords (section d sTypes)) ≡ passed tt
+  pub decodes : decode (section d sProgram) (length nodes / nodeNumbers) (length hashes) ≡ passed t
+  pub tables : checkTables (tablesOf d t) ≡ passed tt
+
+pub dossier-parts : (d nodes hashes : List ℕ) (t : Table) → checkDossier d nodes hashes ≡ passed t → Parts d nodes hashes t
 unfolding checkDossier
-dossier-decodes d nodes hashes t e =
+dossier-parts d nodes hashes t e =
     let reads : Check Table = decode (section d sProgram) (length nodes / nodeNumbers) (length hashes) in
     let a = both-passed (checkHeader d) (λ header. checkTypes (typeRecords (section d sTypes)) >>= λ types. reads >>= λ t. checkTables (tablesOf d t) >>= λ tables. passed t) t e in
     let b = both-passed (checkTypes (typeRecords (section d sTypes))) (λ types. reads >>= λ t. checkTables (tablesOf d t) >>= λ tables. passed t) t (a .2) in
     let c = both-passed reads (λ t. checkTables (tablesOf d t) >>= λ tables. passed t) t (b .2) in
     let f = both-passed (checkTables (tablesOf d (c .0))) (λ tables. passed (c .0)) t (c .2) in
     let q : c .0 ≡ t = cc in
-    c .1 ∙ ap (λ (u : Table). passed u) q
+    record {
+      header = a .1;
+      types = b .1;
+      decodes = c .1 ∙ ap (λ (u : Table). passed u) q;
+      tables = subst (λ (u : Table). checkTables (tablesOf d u) ≡ passed tt) q (f .1);
+    }
+
+-- its own tables pass as lent ones, and are those of the dossier
+module _ (d nodes hashes : List ℕ) (t : Table) (passes : checkDossier d nodes hashes ≡ passed t) where
+  pub own-stage : hashStage (section d sTypes) (nodeNumbersOf (t .records)) (section d sArrows) (section d sProgram) (t .hashes) (section d sHashes) ≡ passed tt
+  own-stage =
+      let p = dossier-parts d nodes hashes t passes in
+      stage-hashes d (length nodes / nodeNumbers) (length hashes) t (p .header) (p .types) (p .decodes) ∙ p .tables
+
+  pub own-tables : tablesOf d t
+      ≡ lent (section d sTypes) (nodeNumbersOf (t .records)) (section d sArrows) (section d sProgram) (t .hashes) (section d sHashes) (section d sWitness) (count d sWitness) (section d sInput) (count d sInput)
+  unfolding tablesOf
+  own-tables =
+      let p = dossier-parts d nodes hashes t passes in
+      sym (lent-own d (length nodes / nodeNumbers) (length hashes) t (p .header) (p .types) (p .decodes) (section d sHashes) (section d sWitness) (count d sWitness) (section d sInput) (count d sInput))

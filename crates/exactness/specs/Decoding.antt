@@ -107,7 +107,7 @@ length-zeros n = length-replicate {A = ℕ} n 0
 
 module _ (bits x : List Bit) where
   -- the closing test holds after a part exactly if the bits end with it
-  closed-stands : Stands bits 0 (length x) x → closes bits (length x) ≡ true → Closed bits x
+  pub closed-stands : Stands bits 0 (length x) x → closes bits (length x) ≡ true → Closed bits x
   unfolding closes
   closed-stands h e =
       let at : ℕ = length x in
@@ -119,23 +119,24 @@ module _ (bits x : List Bit) where
         whole = h .bits-there ∙ ap (λ (r : List Bit). x ++ r) (all-zeros (dropL at bits) (p .1 .1 .0));
       }
 
-  stands-closed : 1 ≤ length x → Closed bits x → Stands bits 0 (length x) x × (closes bits (length x) ≡ true)
+  pub closed-closes : Closed bits x → closes bits (length x) ≡ true
   unfolding closes
-  stands-closed some c =
+  closed-closes c =
       let at : ℕ = length x in
       let rest : dropL at bits ≡ zeros (c .padding) = ap (dropL at) (c .whole) ∙ drop-at x (zeros (c .padding)) at refl in
       let size : length bits ≡ at + c .padding =
       ap length (c .whole) ∙ length-append x (zeros (c .padding)) ∙ ap (λ (k : ℕ). at + k) (length-zeros (c .padding)) in
-      let few = c .short in (
-        subst (λ (k : ℕ). Stands bits 0 k x) (zero-add at) (front-stands bits 0 x (zeros (c .padding)) some (c .whole)),
-        all-every (leb at (length bits) ∷ ltb (length bits - at) 8 ∷ allZero (dropL at bits) ∷ []) (
-          le-leb at (length bits) (omega arith),
-          (lt-ltb (length bits - at) 8 (omega arith), (ap allZero rest ∙ zeros-all (c .padding), tt)),
-        ),
+      let few = c .short in
+      all-every (leb at (length bits) ∷ ltb (length bits - at) 8 ∷ allZero (dropL at bits) ∷ []) (
+        le-leb at (length bits) (omega arith),
+        (lt-ltb (length bits - at) 8 (omega arith), (ap allZero rest ∙ zeros-all (c .padding), tt)),
       )
 
+  stands-closed : 1 ≤ length x → Closed bits x → Stands bits 0 (length x) x
+  stands-closed some c = subst (λ (k : ℕ). Stands bits 0 k x) (zero-add (length x)) (front-stands bits 0 x (zeros (c .padding)) some (c .whole))
+
 -- the stream of a program is bits
-stream-bits : (program : List ℕ) → AreBits (streamOf program)
+pub stream-bits : (program : List ℕ) → AreBits (streamOf program)
 unfolding streamOf
 stream-bits program = go (ltb dossierBytes (length program))
   where
@@ -153,7 +154,7 @@ module _ (program : List ℕ) (records bytes : ℕ) where
   pub program-table : (ns : List Node) → IsProgram program records bytes ns → IsTable (streamOf program) records bytes ns
   program-table ns h = record {
     formed = h .formed;
-    stands = stands-closed (streamOf program) (codeProgram ns) (program-some ns) (h .coded) .0;
+    stands = stands-closed (streamOf program) (codeProgram ns) (program-some ns) (h .coded);
     records-fit = h .records-fit;
     bytes-fit = h .bytes-fit;
   }
@@ -218,7 +219,6 @@ module _ (program : List ℕ) (records bytes : ℕ) where
   unfolding decode afterReading closing layout
   program-is-decoded ns h =
       let t : Table = layout ns in
-      let s = stands-closed (streamOf program) (codeProgram ns) (program-some ns) (h .coded) in
       then-passes (require (leb (length program) dossierBytes) (Header 0)) (λ fits. readNodes (streamOf program) records bytes >>= afterReading) tt
       (holds-require (leb (length program) dossierBytes) (Header 0) (le-leb (length program) dossierBytes (h .within)))
       ∙ then-passes (readNodes (streamOf program) records bytes) afterReading t
@@ -226,7 +226,7 @@ module _ (program : List ℕ) (records bytes : ℕ) where
       ∙ then-passes (checkWalk (nodesOf (streamOf program) (t .hashes) (t .records))) (λ walked. closing t) tt
       (ap checkWalk (decoded-nodes ns h) ∙ canonical-walk ns (h .canonical) (h .hidden-places))
       ∙ then-passes (require (closes (streamOf program) (t .end)) (Closing (length (t .records)))) (λ closed. passed t) tt
-      (holds-require (closes (streamOf program) (t .end)) (Closing (length (t .records))) (s .1))
+      (holds-require (closes (streamOf program) (t .end)) (Closing (length (t .records))) (closed-closes (streamOf program) (codeProgram ns) (h .coded)))
 
   -- a program is the code of one table at most
   pub one-table : (ns ms : List Node) → IsProgram program records bytes ns → IsProgram program records bytes ms → ns ≡ ms

@@ -19,11 +19,11 @@ use Rattle.scope.specs.Walk.{hiddenAt, allowed, checkWalk}
 use Rattle.scope.specs.Arrows.{checkArrows}
 use Rattle.scope.specs.Hashes.{checkHashes}
 use Rattle.scope.specs.Program.{Program, whole, wholeSource, sourceTy, targetTy, last}
-use Rattle.scope.specs.Bounds.{checkBounds, wholeFrames}
+use Rattle.scope.specs.Bounds.{checkBounds, wholeCells, wholeFrames}
 use Rattle.scope.specs.Witness.{checkWitness}
 use Rattle.scope.specs.Input.{checkInput}
 use Rattle.scope.specs.Stores.{checkStores}
-use Rattle.scope.specs.Run.{Tables, programOf, Ready, checkTables, checkReady, Left, cleared, ran, runTables}
+use Rattle.scope.specs.Run.{Tables, programOf, Ready, checkTables, checkReady, Left, cellsOf, cleared, ran, runTables}
 use Rattle.exactness.specs.Checks.{clash, both-passed}
 use Rattle.exactness.specs.Bits.{AllBelow}
 use Rattle.exactness.specs.Types.{types-pass}
@@ -33,7 +33,9 @@ use Rattle.exactness.specs.Canonical.{walk-canonical}
 use Rattle.theory.specs.Supplied.{witness-typed, input-typed}
 use Rattle.theory.specs.Hashes.{hash-typed}
 use Rattle.theory.specs.Sound.{Sound, none-hidden}
+use Rattle.theory.specs.Programs.{runOf}
 use Rattle.theory.specs.Answers.{told, output, run-says, run-output, run-frames}
+use Rattle.theory.specs.Left.{CellsLeft, run-cells}
 
 -- tables that passed 2 to 13: types, node records, walk, arrows and hashes
 pub record Checked (T : Tables) : Type 0 where
@@ -122,3 +124,9 @@ module _ (T : Tables) (ok : Checked T) where
     -- the frame store: what the bound covers is zero
     pub tables-frames : (runTables T cells frames answer) .frames ≡ cleared (wholeFrames (R .program)) frames
     tables-frames = ap (λ (l : Left). l .frames) ran-tables ∙ run-frames (R .program) ready-sound (R .input) ready-input cells frames answer
+
+    -- the cells: those of the machine's last state, from the bound on as they were
+    pub tables-cells : CellsLeft (runOf (R .program) (R .input) (cellsOf cells)) (wholeCells (R .program)) cells ((runTables T cells frames answer) .cells)
+    tables-cells =
+        subst (λ (l : Left). CellsLeft (runOf (R .program) (R .input) (cellsOf cells)) (wholeCells (R .program)) cells (l .cells)) (sym ran-tables)
+        (run-cells (R .program) ready-sound (R .input) ready-input cells frames answer)

@@ -1,21 +1,22 @@
 -- The whole job, from a dossier's bytes: where all checks pass, what is said and what is left in the answer store is told by the meaning of the dossier's program.
 -- And the old contents of all five stores change nothing of what is said.
-use mathlib.Core.Path.{_≡_, refl, sym, ap, _∙_, subst}
-use mathlib.Core.List.{List, []}
+use mathlib.Core.Path.{_≡_, refl, sym, ap, ap₂, _∙_, subst}
+use mathlib.Core.List.{List, [], _++_}
 use Prim.Native.Nat.{ℕ, _-_, _/_, _^_, _<_}
 use native.Mathlib.Omega.{arith}
 use native.Mathlib.Decide.{decLt}
 use lib.ListN.{length, List·getD-eq-default}
 use Rattle.limits.specs.Limits.{nodeNumbers}
 use Rattle.refusal.specs.declared.Refusal.{Refusal}
+use Rattle.refusal.specs.declared.Answer.{Answer}
 use Rattle.refusal.specs.declared.Answer.the-variants.{Refused}
-use Rattle.report.specs.Bits.{Bit}
-use Rattle.report.specs.Values.{HasTy}
+use Rattle.report.specs.Bits.{Bit, bytesOf}
+use Rattle.report.specs.Values.{HasTy, compact}
 use Rattle.report.specs.Nodes.{Node, hidden, word}
 use Rattle.report.specs.Canonical.{children}
-use Rattle.report.specs.Meaning.{eval}
+use Rattle.report.specs.Meaning.{done, failed, pruned, stuck, Means, eval}
 use Rattle.scope.specs.Check.{Check, passed, refused, _>>=_}
-use Rattle.scope.specs.Numbers.{streamOf}
+use Rattle.scope.specs.Numbers.{zeros, bytesFor, streamOf}
 use Rattle.scope.specs.Header.{checkHeader, section, sTypes, sProgram}
 use Rattle.scope.specs.Types.{typeRecords, checkTypes}
 use Rattle.scope.specs.Nodes.{nodeAt, nodesOf}
@@ -23,8 +24,9 @@ use Rattle.scope.specs.Reading.{Table}
 use Rattle.scope.specs.Walk.{checkWalk}
 use Rattle.scope.specs.Closing.{decode}
 use Rattle.scope.specs.Program.{Program, whole, wholeSource}
+use Rattle.scope.specs.Bounds.{wholeCells, wholeFrames}
 use Rattle.scope.specs.Stores.{checkStores}
-use Rattle.scope.specs.Run.{Tables, Ready, checkTables, checkReady, tablesOf, checkDossier, leftWith, runTables, Ended, ended, run}
+use Rattle.scope.specs.Run.{Tables, Ready, checkTables, checkReady, tablesOf, checkDossier, leftWith, runTables, cellsOf, cleared, Ended, ended, run}
 use Rattle.exactness.specs.Checks.{clash, both-passed}
 use Rattle.exactness.specs.Bits.{AllBelow}
 use Rattle.exactness.specs.Nodes.{ContentFits, NodeFits, WellFormed, fit-at}
@@ -33,7 +35,9 @@ use Rattle.exactness.specs.Programs.{IsProgram}
 use Rattle.exactness.specs.Decoding.{decoded-is-program, decoded-nodes}
 use Rattle.theory.specs.Sound.{Sound}
 use Rattle.theory.specs.Answers.{told, output}
-use Rattle.theory.specs.Accepted.{Checked, ready-sound, ready-input, tables-say, tables-output}
+use Rattle.theory.specs.Programs.{runOf}
+use Rattle.theory.specs.Left.{CellsLeft, outputBytes, written-bytes}
+use Rattle.theory.specs.Accepted.{Checked, ready-sound, ready-input, tables-say, tables-output, tables-frames, tables-cells}
 
 -- nodes that stand above their children, with words of the right length, and that pass the walk
 abbrev pub Stand : List Node → Type 0
@@ -62,6 +66,21 @@ decoded program records bytes t e =
       words-whole ns (p .1 .formed),
       canonical-walk ns (p .1 .canonical) (p .1 .hidden-places),
     )
+
+-- the bytes of a meaning's value
+unfoldable pub meantBytes : Means → List ℕ
+unfolding compact bytesOf
+meantBytes (done w) = bytesOf (bytesFor (length (compact w))) (compact w ++ zeros 7)
+meantBytes (failed p y) = []
+meantBytes (pruned p y) = []
+meantBytes stuck = []
+
+meant-bytes : (o : Means) (answer : List ℕ) → outputBytes (told o) (output o answer) ≡ meantBytes o
+unfolding meantBytes outputBytes told output
+meant-bytes (done w) answer = written-bytes (compact w) answer
+meant-bytes (failed p y) answer = refl
+meant-bytes (pruned p y) answer = refl
+meant-bytes stuck answer = refl
 
 module _ (d nodes hashes : List ℕ) (t : Table) (e : checkDossier d nodes hashes ≡ passed t) where
   -- A DOSSIER THAT PASSED 1 TO 13 HOLDS CHECKED TABLES
@@ -104,6 +123,20 @@ module _ (d nodes hashes : List ℕ) (t : Table) (e : checkDossier d nodes hashe
     unfolding run ended
     job-output = rw (e, run) (tables-output (tablesOf d t) dossier-checked cells frames answer R p)
 
+    -- the frame store: what the bound covers is zero, the rest as it was
+    pub job-frames : (run d nodes hashes cells frames answer) .frames ≡ cleared (wholeFrames (R .program)) frames
+    unfolding run ended
+    job-frames = rw (e, run) (tables-frames (tablesOf d t) dossier-checked cells frames answer R p)
+
+    -- the cells: those of the machine's last state, from the bound on as they were
+    pub job-cells : CellsLeft (runOf (R .program) (R .input) (cellsOf cells)) (wholeCells (R .program)) cells ((run d nodes hashes cells frames answer) .cells)
+    unfolding run ended
+    job-cells = rw (e, run) (tables-cells (tablesOf d t) dossier-checked cells frames answer R p)
+
+    -- the bytes that hold the output are those of the meaning's value alone
+    pub job-bytes : outputBytes ((run d nodes hashes cells frames answer) .says) ((run d nodes hashes cells frames answer) .answer) ≡ meantBytes (eval (whole (R .program)) (R .input))
+    job-bytes = ap₂ outputBytes job-says job-output ∙ meant-bytes (eval (whole (R .program)) (R .input)) answer
+
 -- a dossier that is refused by 1 to 13, or by 14 to 17, is told so
 pub job-refused : (d nodes hashes cells frames answer : List ℕ) (r : Refusal) → checkDossier d nodes hashes ≡ refused r
     → (run d nodes hashes cells frames answer) .says ≡ Refused r
@@ -130,18 +163,45 @@ module _ (d nodes nodes′ hashes hashes′ cells cells′ frames frames′ answ
   unfolding checkReady checkStores
   same-ready T = rw (c, f, a)
 
-  -- OLD CONTENTS OF THE FIVE STORES CHANGE NO OUTPUT, NO REFUSAL AND NO PLACE
-  pub old-stores : (run d nodes hashes cells frames answer) .says ≡ (run d nodes′ hashes′ cells′ frames′ answer′) .says
-  old-stores = go (checkDossier d nodes hashes) refl
-    where
-      tables : (t : Table) → checkDossier d nodes hashes ≡ passed t → (x : Check Ready) → checkReady (tablesOf d t) cells frames answer ≡ x
-          → (run d nodes hashes cells frames answer) .says ≡ (run d nodes′ hashes′ cells′ frames′ answer′) .says
-      tables t e (passed R) p =
-          job-says d nodes hashes t e cells frames answer R p ∙ sym (job-says d nodes′ hashes′ t (sym same-dossier ∙ e) cells′ frames′ answer′ R (sym (same-ready (tablesOf d t)) ∙ p))
-      tables t e (refused r) p =
-          job-unready d nodes hashes cells frames answer t r e p ∙ sym (job-unready d nodes′ hashes′ cells′ frames′ answer′ t r (sym same-dossier ∙ e) (sym (same-ready (tablesOf d t)) ∙ p))
+  -- what is said, and the bytes that hold the output
+  abbrev Alike : Type 0
+  Alike =
+      let x = run d nodes hashes cells frames answer in
+      let y = run d nodes′ hashes′ cells′ frames′ answer′ in
+      (x .says ≡ y .says) × (outputBytes (x .says) (x .answer) ≡ outputBytes (y .says) (y .answer))
 
-      go : (x : Check Table) → checkDossier d nodes hashes ≡ x → (run d nodes hashes cells frames answer) .says ≡ (run d nodes′ hashes′ cells′ frames′ answer′) .says
+  alike : Alike
+  unfolding outputBytes
+  alike = go (checkDossier d nodes hashes) refl
+    where
+      -- two refusals for one reason
+      alike-refused : (r : Refusal) → (run d nodes hashes cells frames answer) .says ≡ Refused r → (run d nodes′ hashes′ cells′ frames′ answer′) .says ≡ Refused r → Alike
+      alike-refused r p q = (
+        p ∙ sym q,
+        ap (λ (a : Answer). outputBytes a ((run d nodes hashes cells frames answer) .answer)) p
+            ∙ sym (ap (λ (a : Answer). outputBytes a ((run d nodes′ hashes′ cells′ frames′ answer′) .answer)) q),
+      )
+
+      tables : (t : Table) → checkDossier d nodes hashes ≡ passed t → (x : Check Ready) → checkReady (tablesOf d t) cells frames answer ≡ x → Alike
+      tables t e (passed R) p =
+          let e′ = sym same-dossier ∙ e in
+          let p′ = sym (same-ready (tablesOf d t)) ∙ p in (
+            job-says d nodes hashes t e cells frames answer R p ∙ sym (job-says d nodes′ hashes′ t e′ cells′ frames′ answer′ R p′),
+            job-bytes d nodes hashes t e cells frames answer R p ∙ sym (job-bytes d nodes′ hashes′ t e′ cells′ frames′ answer′ R p′),
+          )
+      tables t e (refused r) p =
+          alike-refused r (job-unready d nodes hashes cells frames answer t r e p)
+          (job-unready d nodes′ hashes′ cells′ frames′ answer′ t r (sym same-dossier ∙ e) (sym (same-ready (tablesOf d t)) ∙ p))
+
+      go : (x : Check Table) → checkDossier d nodes hashes ≡ x → Alike
       go (passed t) e = tables t e (checkReady (tablesOf d t) cells frames answer) refl
-      go (refused r) e =
-          job-refused d nodes hashes cells frames answer r e ∙ sym (job-refused d nodes′ hashes′ cells′ frames′ answer′ r (sym same-dossier ∙ e))
+      go (refused r) e = alike-refused r (job-refused d nodes hashes cells frames answer r e) (job-refused d nodes′ hashes′ cells′ frames′ answer′ r (sym same-dossier ∙ e))
+
+  -- OLD CONTENTS OF THE FIVE STORES CHANGE NO OUTPUT, NO REFUSAL AND NO PLACE: nothing that is said
+  pub old-stores : (run d nodes hashes cells frames answer) .says ≡ (run d nodes′ hashes′ cells′ frames′ answer′) .says
+  old-stores = alike .0
+
+  -- and no bit of the output
+  pub old-output : outputBytes ((run d nodes hashes cells frames answer) .says) ((run d nodes hashes cells frames answer) .answer)
+      ≡ outputBytes ((run d nodes′ hashes′ cells′ frames′ answer′) .says) ((run d nodes′ hashes′ cells′ frames′ answer′) .answer)
+  old-output = alike .1

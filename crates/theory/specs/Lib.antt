@@ -21,4 +21,14 @@ pub mod Accepted
 pub mod Job
 pub mod LentTables
 pub mod BinaryCells
+pub mod Entered
+pub mod Entry
+pub mod Ways
+pub mod AtNodes
+pub mod NodeEnds
+pub mod Stops
+pub mod Refusals
+pub mod Supply
+pub mod Acceptance
+pub mod Left
 pub mod Theorems

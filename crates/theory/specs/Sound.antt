@@ -117,7 +117,7 @@ module _ (P : Program) (ok : Sound P) (i : ℕ) (child : ℕ → Term)
   typed-node _ A B e shown b w x y NodeTyped.Hidden = not-both (rw e) shown
 
 -- a node whose arrow keeps its rule is typed by the report, in the words of a program
-arrow-typed-in : (P : Program) → TypesPass (P .types) → (i : ℕ) → arrowRule (P .types) (P .nodes) (P .arrows) i ≡ true
+pub arrow-typed-in : (P : Program) → TypesPass (P .types) → (i : ℕ) → arrowRule (P .types) (P .nodes) (P .arrows) i ≡ true
     → NodeTyped (P .nodes) (sourceTy P) (targetTy P) (nodeAt (P .nodes) i) (sourceTy P i) (targetTy P i)
 unfolding fromTy toTy sourceTy targetTy
 arrow-typed-in P pass i e = arrow-typed (P .types) pass (P .nodes) (P .arrows) i e

@@ -1,9 +1,10 @@
 -- The main theorems, one after the other, each with a comment; the proofs stand in this crate, in `layout` (the machine on lent stores) and in
--- `exactness` (what the checks accept). The order: meaning, the machine at any point of a run, the room that it needs, nodes of a table, whole runs, the job,
--- the store machine, and the checks. A statement `P ↔ Q` is read "P exactly if Q".
+-- `exactness` (what the checks accept). The order: meaning, the machine at any point of a run, the room that it needs, nodes of a table, whole runs,
+-- the nodes that a run enters, the job, the store machine, and the checks. A statement `P ↔ Q` is read "P exactly if Q".
 -- Notions that the statements name, beside the definitions of `report` and `scope`: Good (Safety), El and den (Denotation), Apart (Cells), At (Instructions),
--- tightCells (Room), Ends and endAt (Correct), Ran (WholeRuns), Sound (Sound), told and output (Answers), BitCells and BitsAfter (BinaryCells); those of
--- `layout` and `exactness` stand in the modules that the names begin with, or that they are taken from.
+-- tightCells (Room), Ends and endAt (Correct), Ran (WholeRuns), Sound (Sound), Entered (Entered), Stacked and cursorOf (Entry), NodeEnds (NodeEnds), StopsIn (Stops),
+-- told and output (Answers), CellsLeft and outputBytes (Left), HeaderFits to StoresFit (Supply), RulesKept, Acceptable and FromRun (Acceptance), BitCells and BitsAfter (BinaryCells);
+-- those of `layout` and `exactness` stand in the modules that the names begin with, or that they are taken from.
 use mathlib.Core.Path.{_≡_, refl, sym, ap, _∙_, subst}
 use mathlib.Core.Logic.{_↔_}
 use mathlib.Core.Bool.{true, false}
@@ -32,8 +33,13 @@ use Rattle.scope.specs.Walk.{hiddenAt, walkFrom, checkWalk}
 use Rattle.scope.specs.Closing.{decode}
 use Rattle.scope.specs.Arrows.{Arrow, leftAt, rightAt, isWord, arrowRule, checkArrows}
 use Rattle.scope.specs.Program.{Program, sourceTy, targetTy, termOf, termAt, whole, wholeSource, wholeTarget}
-use Rattle.scope.specs.Bounds.{Bound, bounds, wholeCells, wholeFrames, wholeCost}
-use Rattle.scope.specs.Run.{Ready, Left, Ended, checkDossier, tablesOf, checkReady, run, cellsOf}
+use Rattle.scope.specs.Bounds.{Bound, bounds, wholeCells, wholeFrames, wholeCost, checkBounds}
+use Rattle.scope.specs.Header.{checkHeader}
+use Rattle.scope.specs.Hashes.{checkHashes}
+use Rattle.scope.specs.Witness.{checkWitness}
+use Rattle.scope.specs.Input.{checkInput}
+use Rattle.scope.specs.Stores.{checkStores}
+use Rattle.scope.specs.Run.{Ready, Left, Ended, checkDossier, tablesOf, checkReady, run, cellsOf, cleared}
 use Rattle.scope.specs.Stages.{lent, hashStage, runStage}
 use Rattle.scope.specs.Machine.{Frame, State, Step, state, exec, machine, answer}
 use Rattle.exactness.specs.Table.{length-entries, entries-at}
@@ -72,8 +78,16 @@ use Rattle.theory.specs.WholeRuns.{Ran}
 use Rattle.theory.specs.NodeTerms.{term-step, bounds-alike}
 use Rattle.theory.specs.Sound.{Sound, term-typed}
 use Rattle.theory.specs.Programs as Programs
+use Rattle.theory.specs.Entered.{Entered}
+use Rattle.theory.specs.Entry.{cursorOf, Stacked, read-below, write-below, read-apart}
+use Rattle.theory.specs.AtNodes.{entered-at}
+use Rattle.theory.specs.NodeEnds.{NodeEnds, node-means}
+use Rattle.theory.specs.Stops.{StopsIn, run-stops}
 use Rattle.theory.specs.Answers.{told, output}
+use Rattle.theory.specs.Left.{CellsLeft, outputBytes}
 use Rattle.theory.specs.Job as Job
+use Rattle.theory.specs.Supply.{HeaderFits, header-fits, fits-header, HashesFit, hashes-fit, fit-hashes, LimitsFit, limits-fit, fit-limits, WitnessFits, witness-fits, fits-witness, InputFits, input-fits, fits-input, StoresFit, stores-fit, fit-stores}
+use Rattle.theory.specs.Acceptance.{programWith, RulesKept, Acceptable, FromRun, kept-says, kept-output, kept-runs, run-kept}
 use Rattle.theory.specs.LentTables.{stage-says}
 use Rattle.theory.specs.BinaryCells.{BitCells, BitsAfter, exec-bits}
 
@@ -177,6 +191,37 @@ module _ (P : Program) (ok : Sound P) (v : Val) (hv : HasTy v (wholeSource P)) w
   pub visits-of-run : visits (whole P) v ≤ wholeCost P / nodeCost + 1
   visits-of-run = Programs.few-visits P ok v hv
 
+-- ENTERED NODES. A run of a sound program on a value of its source, over cells with any old bits, enters node i in state s.
+module _ (P : Program) (ok : Sound P) (v : Val) (hv : HasTy v (wholeSource P)) (c : Cells) (i : ℕ) (s : State) (h : Entered P v c i s) where
+  -- It is a node of the table that is not hidden, so its term has its arrow's type.
+  pub entered-shown : (i < length (P .nodes)) × (hiddenAt (P .nodes) i ≡ false)
+  entered-shown = (entered-at P ok v hv c h .inTable, entered-at P ok v hv c h .shown)
+
+  -- The state meets what `machine-within-bounds` asks for that arrow, in the cells and frames of the whole program: a value to read and room to write at the cursors,
+  -- below the first free cell and apart, and as many cells and frames beyond as the bounds of its term.
+  pub entered-meets : At (s .reads) (cursorOf (s .reads)) (width (sourceTy P i)) × At (s .writes) (cursorOf (s .writes)) (width (targetTy P i))
+      × (cursorOf (s .reads) + width (sourceTy P i) ≤ s .next) × (cursorOf (s .writes) + width (targetTy P i) ≤ s .next)
+      × Apart (cursorOf (s .reads)) (width (sourceTy P i)) (cursorOf (s .writes)) (width (targetTy P i))
+      × (s .next + (bounds (termAt P i)) .cells ≤ wholeCells P) × (length (s .reads) + length (s .writes) + (bounds (termAt P i)) .frames ≤ wholeFrames P)
+  entered-meets =
+      let e = entered-at P ok v hv c h .entry in
+      (e .read, e .write, read-below e, write-below e, read-apart e, e .cells, e .frames)
+
+  -- All frames lie below the first free cell, and no two share a cell.
+  pub entered-frames : Stacked (s .reads) (s .writes) (s .next)
+  entered-frames = entered-at P ok v hv c h .entry .stacked
+
+  -- So the node does what its term means of the value that it reads: the value stands in the target's cells, the write cursor is on by the target's width, the read cursor
+  -- is back, and every other frame's cells and record are as they were; or it stops where the meaning does.
+  pub entered-does : NodeEnds (targetTy P i) s (eval (termAt P i) (valueAt (sourceTy P i) (s .cells) (cursorOf (s .reads)))) (exec (wholeCells P) (wholeFrames P) (termAt P i) s)
+  entered-does = node-means P ok (entered-at P ok v hv c h)
+
+-- A run that stops has entered the node at which it stops, and its last state is the one in which it entered that node.
+pub stops-where-entered : (P : Program) → Sound P → (v : Val) → HasTy v (wholeSource P) → (c : Cells)
+    → StopsIn (Entered P v c) (machine (wholeCells P) (wholeFrames P) (whole P) (wholeSource P) (wholeTarget P) v c)
+unfolding Programs.runOf
+stops-where-entered P ok v hv c = run-stops P ok v hv c
+
 -- THE JOB. A dossier that passes the checks 1 to 13 with stores of these sizes, and whose values and stores pass 14 to 17, holds a sound program and a value of its source.
 module _ (d nodes hashes cells frames answer : List ℕ) (t : Table) (R : Ready)
     (e : checkDossier d nodes hashes ≡ passed t) (p : checkReady (tablesOf d t) cells frames answer ≡ passed R) where
@@ -192,11 +237,40 @@ module _ (d nodes hashes cells frames answer : List ℕ) (t : Table) (R : Ready)
   pub job-leaves-value : (run d nodes hashes cells frames answer) .answer ≡ output (eval (whole (R .program)) (R .input)) answer
   job-leaves-value = Job.job-output d nodes hashes t e cells frames answer R p
 
--- Of any dossier, accepted or not: old contents of the five stores change no output, no refusal and no place.
+  -- The frame records within the bound are zero, those beyond it as they were.
+  pub job-clears-frames : (run d nodes hashes cells frames answer) .frames ≡ cleared (wholeFrames (R .program)) frames
+  job-clears-frames = Job.job-frames d nodes hashes t e cells frames answer R p
+
+  -- The cells are those of the machine's last state, and from the bound on as they were.
+  pub job-leaves-cells : CellsLeft (machine (wholeCells (R .program)) (wholeFrames (R .program)) (whole (R .program)) (wholeSource (R .program)) (wholeTarget (R .program)) (R .input) (cellsOf cells))
+      (wholeCells (R .program)) cells ((run d nodes hashes cells frames answer) .cells)
+  unfolding Programs.runOf
+  job-leaves-cells = Job.job-cells d nodes hashes t e cells frames answer R p
+
+-- Of any dossier: it keeps the rules, that is, it holds the report's code of a table in canonical order, types and hashes by their rules, arrows that are the report's typing,
+-- is within the limits, with the bits of values of the right types and stores that fit, exactly if its answer comes from a run: an output, 18 or 19.
+pub kept-exactly : (d nodes hashes cells frames answer : List ℕ) → FromRun ((run d nodes hashes cells frames answer) .says) ↔ Acceptable d nodes hashes cells frames answer
+kept-exactly d nodes hashes cells frames answer = (run-kept d nodes hashes cells frames answer, λ k. kept-runs d nodes hashes cells frames answer (k .0) (k .1) (k .2) (k .3))
+
+-- And then it is answered by what that program means of that input.
+pub kept-means : (d nodes hashes cells frames answer : List ℕ) (ns : List Node) (values : List Val) (v : Val) → RulesKept d nodes hashes cells frames answer ns values v
+    → ((run d nodes hashes cells frames answer) .says ≡ told (eval (whole (programWith d ns values)) v))
+    × ((run d nodes hashes cells frames answer) .answer ≡ output (eval (whole (programWith d ns values)) v) answer)
+kept-means d nodes hashes cells frames answer ns values v h =
+    (kept-says d nodes hashes cells frames answer ns values v h, kept-output d nodes hashes cells frames answer ns values v h)
+
+-- Old contents of the five stores change no output, no refusal and no place, of any dossier: nothing that is said.
 pub old-stores-change-nothing : (d nodes nodes′ hashes hashes′ cells cells′ frames frames′ answer answer′ : List ℕ)
     → length nodes ≡ length nodes′ → length hashes ≡ length hashes′ → length cells ≡ length cells′ → length frames ≡ length frames′ → length answer ≡ length answer′
     → (run d nodes hashes cells frames answer) .says ≡ (run d nodes′ hashes′ cells′ frames′ answer′) .says
 old-stores-change-nothing = Job.old-stores
+
+-- And no bit of an output: the bytes that hold it are the same.
+pub old-stores-change-no-bit : (d nodes nodes′ hashes hashes′ cells cells′ frames frames′ answer answer′ : List ℕ)
+    → length nodes ≡ length nodes′ → length hashes ≡ length hashes′ → length cells ≡ length cells′ → length frames ≡ length frames′ → length answer ≡ length answer′
+    → outputBytes ((run d nodes hashes cells frames answer) .says) ((run d nodes hashes cells frames answer) .answer)
+    ≡ outputBytes ((run d nodes′ hashes′ cells′ frames′ answer′) .says) ((run d nodes′ hashes′ cells′ frames′ answer′) .answer)
+old-stores-change-no-bit = Job.old-output
 
 -- THE RUN OVER LENT TABLES that pass their checks says what the program of the tables means.
 pub stage-says-meaning : (types nodes arrows program hashes given witness : List ℕ) (witnessBits : ℕ) (input : List ℕ) (inputBits : ℕ)
@@ -392,3 +466,28 @@ decode-nodes program records bytes ns h = decoded-nodes program records bytes ns
 pub decode-one : (program : List ℕ) (records bytes : ℕ) (ns ms : List Node) → IsProgram program records bytes ns
     → IsProgram program records bytes ms → ns ≡ ms
 decode-one program records bytes ns ms h k = one-table program records bytes ns ms h k
+
+-- What is supplied beside the tables. The header passes exactly if its numbers keep their rules.
+pub header-exact : (d : List ℕ) → (checkHeader d ≡ passed tt) ↔ HeaderFits d
+header-exact d = (header-fits d, fits-header d)
+
+-- The hashes pass exactly if they are as many as disconnects with two children, and one child gets one hash.
+pub hashes-exact : (nodes : List Node) (given : List ℕ) → (checkHashes nodes given ≡ passed tt) ↔ HashesFit nodes given
+hashes-exact nodes given = (hashes-fit nodes given, fit-hashes nodes given)
+
+-- A program passes the check of its bounds exactly if it is within the limits.
+pub limits-exact : (P : Program) → (checkBounds P ≡ passed tt) ↔ LimitsFit P
+limits-exact P = (limits-fit P, fit-limits P)
+
+-- The witness bits pass exactly if they are the compact bits of values of the witness nodes' targets, in node order, and then fewer than eight zeros.
+pub witness-exact : (types : List TypeRecord) (nodes : List Node) (arrows : List Arrow) (bytes : List ℕ) (count : ℕ) (values : List Val)
+    → (checkWitness types nodes arrows bytes count ≡ passed values) ↔ WitnessFits types nodes arrows bytes count values
+witness-exact types nodes arrows bytes count values = (witness-fits types arrows nodes bytes count values, fits-witness types arrows nodes bytes count values)
+
+-- The input bits pass exactly if they are the compact bits of a value of the type, and then fewer than eight zeros.
+pub input-exact : (A : Ty) (bytes : List ℕ) (count : ℕ) (v : Val) → (checkInput A bytes count ≡ passed v) ↔ InputFits A bytes count v
+input-exact A bytes count v = (input-fits A bytes count v, fits-input A bytes count v)
+
+-- The stores pass exactly if each has room for its bound.
+pub stores-exact : (P : Program) (cells frames answer : List ℕ) → (checkStores P cells frames answer ≡ passed tt) ↔ StoresFit P cells frames answer
+stores-exact P cells frames answer = (stores-fit P cells frames answer, fit-stores P cells frames answer)

@@ -19,12 +19,13 @@ use Rattle.theory.specs.Room.{tightCells, tight-within}
 use Rattle.theory.specs.Cells.{Kept, bits-out, value-written}
 use Rattle.theory.specs.Instructions.{At, advance, newFrame-does, writeBits-does}
 use Rattle.theory.specs.Correct.{Ends, Value, Fails, Prunes, exec-correct}
+use Rattle.theory.specs.Entry.{Stacked, no-frames, stacked-push}
 
--- an input of n bits: a read frame of n cells, or none where n is 0
-input-does : (size most n : ℕ) (bits : List Bit) (c : Cells) → length bits ≡ n → n ≤ size → 1 ≤ most
-    → (rs : List Frame) × (input size most n bits (state c [] [] 0) ≡ done (state (putBits c 0 bits) rs [] n)) × At rs 0 n × (length rs ≤ 1)
+-- an input of n bits: a read frame of n cells, or none where n is 0; it stands below the first free cell
+pub input-does : (size most n : ℕ) (bits : List Bit) (c : Cells) → length bits ≡ n → n ≤ size → 1 ≤ most
+    → (rs : List Frame) × (input size most n bits (state c [] [] 0) ≡ done (state (putBits c 0 bits) rs [] n)) × At rs 0 n × (length rs ≤ 1) × Stacked rs [] n
 unfolding input At putBits writeBits _>>=_ moveFrame reset advance forward state
-input-does size most zero [] c e l f = ([], refl, omega arith, omega arith)
+input-does size most zero [] c e l f = ([], refl, omega arith, omega arith, no-frames 0)
 input-does size most zero (b ∷ bs) c e l f = absurd (omega arith)
 input-does size most (suc n) bits c e l f =
     let fr : Frame = frameFrom 0 (suc n) in (
@@ -36,15 +37,22 @@ input-does size most (suc n) bits c e l f =
       ),
       (refl, omega arith, omega arith),
       omega arith,
+      record { reads = (omega arith, tt); writes = tt; apart = (tt, tt) },
     )
 
 -- an output of n bits: a write frame of n cells, or none where n is 0
-output-does : (size most n : ℕ) (c : Cells) (rs : List Frame) (nx : ℕ) → nx + n ≤ size → length rs + 1 ≤ most
+pub output-does : (size most n : ℕ) (c : Cells) (rs : List Frame) (nx : ℕ) → nx + n ≤ size → length rs + 1 ≤ most
     → (ws : List Frame) × (output size most n (state c rs [] nx) ≡ done (state c rs ws (nx + n))) × At ws nx n × (length ws ≤ 1)
+    × (Stacked rs [] nx → Stacked rs ws (nx + n))
 unfolding output At
-output-does size most zero c rs nx l f = ([], rw (add-zero nx), omega arith, omega arith)
-output-does size most (suc n) c rs nx l f =
-    (frameFrom nx (suc n) ∷ [], newFrame-does size most c rs [] nx (suc n) l (omega arith), (refl, omega arith, omega arith), omega arith)
+output-does size most zero c rs nx l f = ([], rw (add-zero nx), omega arith, omega arith, λ h. rw (add-zero nx) h)
+output-does size most (suc n) c rs nx l f = (
+  frameFrom nx (suc n) ∷ [],
+  newFrame-does size most c rs [] nx (suc n) l (omega arith),
+  (refl, omega arith, omega arith),
+  omega arith,
+  stacked-push (suc n),
+)
 
 -- How a whole run to B ends, with its output at a place and old cells c: as the meaning does, and every cell at or past `total` keeps its old bit.
 -- It never ends stuck.
