@@ -87,12 +87,15 @@ pub record RulesKept (d nodes hashes cells frames answer : List ℕ) (ns : List 
 
 -- bounds, source and target do not hang on the values
 module _ (d : List ℕ) (ns : List Node) (values values′ : List Val) where
+  -- the program with the one list of values
   abbrev P : Program
   P = programWith d ns values
 
+  -- and with the other
   abbrev Q : Program
   Q = programWith d ns values′
 
+  -- so are the limits
   limits-alike : LimitsFit P → LimitsFit Q
   limits-alike h = record {
     cells = subst (λ (n : ℕ). n ≤ cellCount) (cells-alike P Q refl refl refl) (h .cells);
@@ -100,6 +103,7 @@ module _ (d : List ℕ) (ns : List Node) (values values′ : List Val) where
     cost = subst (λ (n : ℕ). n ≤ costLimit) (cost-alike P Q refl refl refl) (h .cost);
   }
 
+  -- the room in the stores
   stores-alike : {cells frames answer : List ℕ} → StoresFit P cells frames answer → StoresFit Q cells frames answer
   stores-alike {cells} {frames} {answer} h = record {
     cellBytes = subst (λ (n : ℕ). bytesFor n ≤ length cells) (cells-alike P Q refl refl refl) (h .cellBytes);
@@ -107,6 +111,7 @@ module _ (d : List ℕ) (ns : List Node) (values values′ : List Val) where
     answerBytes = subst (λ (A : Ty). bytesFor (width A) ≤ length answer) (target-alike P Q refl refl refl) (h .answerBytes);
   }
 
+  -- and what is an input
   input-alike : {bytes : List ℕ} {n : ℕ} {v : Val} → InputFits (wholeSource P) bytes n v → InputFits (wholeSource Q) bytes n v
   input-alike {bytes} {n} {v} h = subst (λ (A : Ty). InputFits A bytes n v) (source-alike P Q refl refl refl) h
 
@@ -160,9 +165,11 @@ module _ (d nodes hashes cells frames answer : List ℕ) where
 
   -- ONLY SUCH A DOSSIER DOES
   module _ (t : Table) (R : Ready) (e : checkDossier d nodes hashes ≡ passed t) (f : checkReady (tablesOf d t) cells frames answer ≡ passed R) where
+    -- the type records
     abbrev types : List TypeRecord
     types = typeRecords (section d sTypes)
 
+    -- the arrows
     abbrev arrows : List Arrow
     arrows = arrowRecords (section d sArrows)
 
@@ -171,6 +178,7 @@ module _ (d nodes hashes cells frames answer : List ℕ) where
     Checked ns = HeaderFits d × TypesPass types × IsProgram (section d sProgram) (length nodes / nodeNumbers) (length hashes) ns × (t ≡ layout ns)
         × ArrowsTyped types ns arrows × HashesFit ns (section d sHashes)
 
+    -- from the passed checks
     checked : (ns : List Node) × Checked ns
     unfolding checkDossier checkTables
     checked =
@@ -191,6 +199,7 @@ module _ (d nodes hashes cells frames answer : List ℕ) where
           (header-fits d (a .1), rules, p .1, p .2, arrows-typed types rules ns arrows (λ i l. fit-at ns i fit l .below) (k .1), hashes-fit ns (section d sHashes) (k .2)),
         )
 
+    -- and 14 to 17 the values, the input and the stores
     pub passes-kept : (ns : List Node) × (values : List Val) × RulesKept d nodes hashes cells frames answer ns values (R .input) × (t ≡ layout ns) × (R .program ≡ programWith d ns values)
     unfolding checkReady programOf
     passes-kept =
@@ -238,6 +247,7 @@ good-told GoodFail = omega arith
 good-told GoodPrune = omega arith
 
 module _ (d nodes hashes cells frames answer : List ℕ) where
+  -- the whole job
   abbrev job : Ended
   job = run d nodes hashes cells frames answer
 

@@ -38,6 +38,7 @@ pub record AtNode (P : Program) (i : ℕ) (s : State) : Type 0 where
 
 -- the last node, once input and output have their frames
 module _ (P : Program) (ok : Sound P) (v : Val) (hv : HasTy v (wholeSource P)) (c : Cells) where
+  -- its state, from the frames that are opened
   at-last : {s t : State} → input (wholeCells P) (wholeFrames P) (width (wholeSource P)) (padded (wholeSource P) v) (state c [] [] 0) ≡ done s
       → output (wholeCells P) (wholeFrames P) (width (wholeTarget P)) s ≡ done t → AtNode P (last P) t
   unfolding wholeCells wholeFrames whole wholeSource wholeTarget last state
@@ -64,28 +65,36 @@ module _ (P : Program) (ok : Sound P) (v : Val) (hv : HasTy v (wholeSource P)) (
 
 -- what the report's typing of a node says of the arrows of its children
 module _ {nodes : List Node} {from to : ℕ → Ty} where
+  -- comp
   comp-arrows : {a b : ℕ} {A C : Ty} → NodeTyped nodes from to (comp a b) A C → Goes from to a A (to a) × Goes from to b (to a) C
   comp-arrows (NodeTyped.Comp g h) = (record { starts = g .starts; ends = refl }, record { starts = h .starts ∙ sym (g .ends); ends = h .ends })
 
+  -- pair
   pair-arrows : {a b : ℕ} {A E : Ty} → NodeTyped nodes from to (pair a b) A E → Goes from to a A (to a) × Goes from to b A (to b) × (E ≡ prod (to a) (to b))
   pair-arrows (NodeTyped.Pair g h) = (record { starts = g .starts; ends = refl }, record { starts = h .starts; ends = refl }, rw (g .ends, h .ends))
 
+  -- injl
   injl-arrows : {a : ℕ} {A E : Ty} → NodeTyped nodes from to (injl a) A E → (C : Ty) × (from a ≡ A) × (E ≡ sum (to a) C)
   injl-arrows (NodeTyped.Injl {C = C} g) = (C, g .starts, rw (g .ends))
 
+  -- injr
   injr-arrows : {a : ℕ} {A E : Ty} → NodeTyped nodes from to (injr a) A E → (B : Ty) × (from a ≡ A) × (E ≡ sum B (to a))
   injr-arrows (NodeTyped.Injr {B = B} g) = (B, g .starts, rw (g .ends))
 
+  -- take
   take-arrows : {a : ℕ} {S C : Ty} → NodeTyped nodes from to (take a) S C → (B : Ty) × (S ≡ prod (from a) B) × (to a ≡ C)
   take-arrows (NodeTyped.Take {B = B} g) = (B, rw (g .starts), g .ends)
 
+  -- drop
   drop-arrows : {a : ℕ} {S C : Ty} → NodeTyped nodes from to (drop a) S C → (A : Ty) × (S ≡ prod A (from a)) × (to a ≡ C)
   drop-arrows (NodeTyped.Drop {A = A} g) = (A, rw (g .starts), g .ends)
 
+  -- case: each branch goes on or is pruned
   case-arrows : {a b : ℕ} {S D : Ty} → NodeTyped nodes from to (case a b) S D
       → (A B C : Ty) × (S ≡ prod (sum A B) C) × Branch nodes from to a A C D × Branch nodes from to b B C D
   case-arrows (NodeTyped.Case {A = A} {B = B} {C = C} g h) = (A, B, C, refl, g, h)
 
+  -- disconnect
   disconnect-arrows : {a b : ℕ} {A E : Ty} → NodeTyped nodes from to (disconnect a b) A E
       → (B : Ty) × (E ≡ prod B (to b)) × Goes from to a (prod (wordTy 8) A) (prod B (from b))
   disconnect-arrows (NodeTyped.Disconnect {B = B} g h) = (B, rw (h .ends), record { starts = g .starts; ends = g .ends ∙ rw (h .starts) })
@@ -100,6 +109,7 @@ left-wide : (S X A B C : Ty) → S ≡ prod (sum A B) C → X ≡ prod A C → 1
 unfolding width padL leftOf rightOf
 left-wide S X A B C p q = rw (p, q) (omega arith)
 
+-- the right part
 right-wide : (S X A B C : Ty) → S ≡ prod (sum A B) C → X ≡ prod B C → 1 + padR (leftOf (leftOf S)) (rightOf (leftOf S)) + width X ≤ width S
 unfolding width padR leftOf rightOf
 right-wide S X A B C p q = rw (p, q) (omega arith)
@@ -110,6 +120,7 @@ unfolding caseTerm bounds caseRow childRow
 left-beside false p S s t = record { cells = omega arith; frames = omega arith }
 left-beside true p S s t = record { cells = omega arith; frames = omega arith }
 
+-- the right child
 right-beside : (x : Bool) (p : ℕ) (S : Ty) (s t : Term) → Beside 0 0 (bounds t) (bounds (caseTerm x false p S s t))
 unfolding caseTerm bounds caseRow childRow
 right-beside false p S s t = record { cells = omega arith; frames = omega arith }
@@ -122,6 +133,7 @@ record NodeIs (P : Program) (i : ℕ) (n : Node) : Type 0 where
   below : AllBelow i (children n)
   fine : allowed (P .nodes) i n ≡ passed tt
 
+-- by the node that stands there
 node-is : (P : Program) → Sound P → {i : ℕ} {s : State} (n : Node) → AtNode P i s → nodeAt (P .nodes) i ≡ n → NodeIs P i n
 node-is P ok {i} n h e = record {
   typed =
@@ -137,6 +149,7 @@ module _ (P : Program) (ok : Sound P) (i : ℕ) (s : State) (h : AtNode P i s) w
   abbrev size : ℕ
   size = wholeCells P
 
+  -- the frames
   abbrev most : ℕ
   most = wholeFrames P
 
@@ -166,19 +179,23 @@ module _ (P : Program) (ok : Sound P) (i : ℕ) (s : State) (h : AtNode P i s) w
 
   -- a comp
   module _ (a b : ℕ) (e : nodeAt (P .nodes) i ≡ comp a b) where
+    -- room for its middle and each child
     comp-room : Room (width (targetTy P a)) 1 a × Room (width (targetTy P a)) 1 b
     unfolding termOf bounds compRow
     comp-room = rw (node-is P ok (comp a b) h e .term) (record { cells = omega arith; frames = omega arith }, record { cells = omega arith; frames = omega arith })
 
+    -- its children
     comp-children : Child a × Child b
     unfolding allowed children
     comp-children = two-children (comp a b) a b e refl refl
 
+    -- the left child is entered
     at-comp-left : {t : State} → push P (width (targetTy P a)) s ≡ done t → AtNode P a t
     at-comp-left {t} g =
         let k = comp-arrows (node-is P ok (comp a b) h e .typed) in
         at-child a t (comp-children .0) (rw (k .0 .starts) (comp-left size most (comp-room .0) (h .entry) g))
 
+    -- the right child is entered
     at-comp-right : {s₁ s₂ t : State} → push P (width (targetTy P a)) s ≡ done s₁ → runNode P a s₁ ≡ done s₂ → moveFrame s₂ ≡ done t → AtNode P b t
     at-comp-right {t = t} g₁ g₂ g₃ =
         let k = comp-arrows (node-is P ok (comp a b) h e .typed) in
@@ -187,23 +204,28 @@ module _ (P : Program) (ok : Sound P) (i : ℕ) (s : State) (h : AtNode P i s) w
 
   -- a pair
   module _ (a b : ℕ) (e : nodeAt (P .nodes) i ≡ pair a b) where
+    -- room for each child
     pair-room : Room 0 0 a × Room 0 0 b
     unfolding termOf bounds pairRow
     pair-room = rw (node-is P ok (pair a b) h e .term) (record { cells = omega arith; frames = omega arith }, record { cells = omega arith; frames = omega arith })
 
+    -- its children
     pair-children : Child a × Child b
     unfolding allowed children
     pair-children = two-children (pair a b) a b e refl refl
 
+    -- its target is as wide as both targets
     pair-wide : width (targetTy P i) ≡ width (targetTy P a) + width (targetTy P b)
     unfolding width
     pair-wide = ap width (pair-arrows (node-is P ok (pair a b) h e .typed) .2)
 
+    -- the left child is entered
     at-pair-left : AtNode P a s
     at-pair-left =
         let k = pair-arrows (node-is P ok (pair a b) h e .typed) in
         at-child a s (pair-children .0) (rw (k .0 .starts) (same-way size most (pair-room .0) (omega arith) (omega (arith, pair-wide)) (h .entry)))
 
+    -- the right child is entered
     at-pair-right : {t : State} → runNode P a s ≡ done t → AtNode P b t
     at-pair-right {t} g =
         let k = pair-arrows (node-is P ok (pair a b) h e .typed) in
@@ -212,15 +234,18 @@ module _ (P : Program) (ok : Sound P) (i : ℕ) (s : State) (h : AtNode P i s) w
 
   -- a node with one child that is not a case: injl, injr, take, drop
   module _ (n : Node) (a : ℕ) (e : nodeAt (P .nodes) i ≡ n) where
+    -- its child
     one-child : children n ≡ a ∷ [] → allowed (P .nodes) i n ≡ noneHidden (P .nodes) i (a ∷ []) → Child a
     one-child q r =
         let m = node-is P ok n h e in
         ((subst (AllBelow i) q (m .below)) .0, none-hidden (P .nodes) i (a ∷ []) (sym r ∙ m .fine) .0)
 
+    -- room for it
     one-room : bounds (termOf P i n (termAt P)) ≡ childRow (bounds (termAt P a)) → Room 0 0 a
     unfolding childRow
     one-room q = rw (node-is P ok n h e .term, q) (record { cells = omega arith; frames = omega arith })
 
+  -- under injl
   at-injl : (a : ℕ) → nodeAt (P .nodes) i ≡ injl a → {s₁ t : State} → writeBits (0 ∷ []) s ≡ done s₁
       → skip (padL (leftOf (targetTy P i)) (rightOf (targetTy P i))) s₁ ≡ done t → AtNode P a t
   unfolding children allowed termOf bounds width padL leftOf rightOf
@@ -229,6 +254,7 @@ module _ (P : Program) (ok : Sound P) (i : ℕ) (s : State) (h : AtNode P i s) w
       let wide : 1 + padL (leftOf (targetTy P i)) (rightOf (targetTy P i)) + width (targetTy P a) ≤ width (targetTy P i) = rw (k .2) (omega arith) in
       at-child a t (one-child (injl a) a e refl refl) (rw (k .1) (tag-way size most 0 _ (one-room (injl a) a e refl) wide (h .entry) g₁ g₂))
 
+  -- under injr
   at-injr : (a : ℕ) → nodeAt (P .nodes) i ≡ injr a → {s₁ t : State} → writeBits (1 ∷ []) s ≡ done s₁
       → skip (padR (leftOf (targetTy P i)) (rightOf (targetTy P i))) s₁ ≡ done t → AtNode P a t
   unfolding children allowed termOf bounds width padR leftOf rightOf
@@ -237,6 +263,7 @@ module _ (P : Program) (ok : Sound P) (i : ℕ) (s : State) (h : AtNode P i s) w
       let wide : 1 + padR (leftOf (targetTy P i)) (rightOf (targetTy P i)) + width (targetTy P a) ≤ width (targetTy P i) = rw (k .2) (omega arith) in
       at-child a t (one-child (injr a) a e refl refl) (rw (k .1) (tag-way size most 1 _ (one-room (injr a) a e refl) wide (h .entry) g₁ g₂))
 
+  -- under take
   at-take : (a : ℕ) → nodeAt (P .nodes) i ≡ take a → AtNode P a s
   unfolding children allowed termOf bounds width
   at-take a e =
@@ -244,6 +271,7 @@ module _ (P : Program) (ok : Sound P) (i : ℕ) (s : State) (h : AtNode P i s) w
       let wide : width (sourceTy P a) ≤ width (sourceTy P i) = rw (k .1) (omega arith) in
       at-child a s (one-child (take a) a e refl refl) (rw (k .2) (same-way size most (one-room (take a) a e refl) wide (omega arith) (h .entry)))
 
+  -- under drop
   at-drop : (a : ℕ) → nodeAt (P .nodes) i ≡ drop a → {t : State} → fwd (width (leftOf (sourceTy P i))) s ≡ done t → AtNode P a t
   unfolding children allowed termOf bounds width leftOf
   at-drop a e {t} g =
@@ -253,18 +281,22 @@ module _ (P : Program) (ok : Sound P) (i : ℕ) (s : State) (h : AtNode P i s) w
 
   -- a case, or an assertion
   module _ (a b : ℕ) (e : nodeAt (P .nodes) i ≡ case a b) where
+    -- its children stand below it
     case-below : (a < i) × (b < i)
     unfolding children
     case-below = let l = node-is P ok (case a b) h e .below in (l .0, l .1 .0)
 
+    -- room for the left branch
     left-room : hiddenAt (P .nodes) a ≡ false → Room 0 0 a
     unfolding termOf
     left-room q = rw (node-is P ok (case a b) h e .term, termOf, q) (left-beside (hiddenAt (P .nodes) b) i (sourceTy P i) (termAt P a) (termAt P b))
 
+    -- room for the right branch
     right-room : hiddenAt (P .nodes) b ≡ false → Room 0 0 b
     unfolding termOf
     right-room q = rw (node-is P ok (case a b) h e .term, termOf, q) (right-beside (hiddenAt (P .nodes) a) i (sourceTy P i) (termAt P a) (termAt P b))
 
+    -- the left branch is entered
     at-case-left : hiddenAt (P .nodes) a ≡ false → {t : State} → fwd (1 + padL (leftOf (leftOf (sourceTy P i))) (rightOf (leftOf (sourceTy P i)))) s ≡ done t → AtNode P a t
     at-case-left q {t} g =
         let k = case-arrows (node-is P ok (case a b) h e .typed) in
@@ -272,6 +304,7 @@ module _ (P : Program) (ok : Sound P) (i : ℕ) (s : State) (h : AtNode P i s) w
         at-child a t (case-below .0, q)
         (rw (l .ends) (behind-way size most _ (left-room q) (left-wide (sourceTy P i) (sourceTy P a) (k .0) (k .1) (k .2) (k .3) (l .starts)) (h .entry) g))
 
+    -- the right branch is entered
     at-case-right : hiddenAt (P .nodes) b ≡ false → {t : State} → fwd (1 + padR (leftOf (leftOf (sourceTy P i))) (rightOf (leftOf (sourceTy P i)))) s ≡ done t → AtNode P b t
     at-case-right q {t} g =
         let k = case-arrows (node-is P ok (case a b) h e .typed) in
@@ -285,14 +318,17 @@ module _ (P : Program) (ok : Sound P) (i : ℕ) (s : State) (h : AtNode P i s) w
     abbrev kept : Ty
     kept = leftOf (targetTy P i)
 
+    -- both parts
     abbrev both : Ty
     both = prod kept (sourceTy P b)
 
+    -- room for its two frames and each child
     disconnect-room : Room (width (wordTy 8) + width (sourceTy P i) + width both) 2 a × Room (width (wordTy 8) + width (sourceTy P i) + width both) 2 b
     unfolding termOf bounds disconnectRow width
     disconnect-room =
         rw (node-is P ok (disconnect a b) h e .term) (record { cells = omega arith; frames = omega arith }, record { cells = omega arith; frames = omega arith })
 
+    -- its children
     disconnect-children : Child a × Child b
     unfolding allowed children
     disconnect-children = two-children (disconnect a b) a b e refl refl
@@ -305,12 +341,14 @@ module _ (P : Program) (ok : Sound P) (i : ℕ) (s : State) (h : AtNode P i s) w
         let l : leftOf (targetTy P i) ≡ k .0 = ap leftOf (k .1) in
         (record { starts = k .2 .starts; ends = k .2 .ends ∙ rw l }, k .1 ∙ rw l)
 
+    -- the left child is entered
     at-disconnect-left : {t : State} → handed P i b s ≡ done t → AtNode P a t
     unfolding handed width
     at-disconnect-left {t} g =
         at-child a t (disconnect-children .0) (rw (left-goes .0 .starts, left-goes .0 .ends)
         (disconnect-left size most (P .hash b) (ok .hashValues i a b e) (sourceTy P i) kept (sourceTy P b) (targetTy P i) (bounds (termAt P i)) s (h .entry) (disconnect-room .0) g))
 
+    -- the right child is entered
     at-disconnect-right : {s₁ s₂ s₃ s₄ t : State} → handed P i b s ≡ done s₁ → runNode P a s₁ ≡ done s₂ → moveFrame s₂ ≡ done s₃
         → copy (width kept) s₃ ≡ done s₄ → fwd (width kept) s₄ ≡ done t → AtNode P b t
     unfolding handed width

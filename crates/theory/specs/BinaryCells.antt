@@ -23,7 +23,7 @@ zeros-bits : (n : ℕ) → AreBits (replicate n 0)
 zeros-bits zero = tt
 zeros-bits (suc n) = (omega arith, zeros-bits n)
 
-padded-bits : (A : Ty) (v : Val) → AreBits (padded A v)
+pub padded-bits : (A : Ty) (v : Val) → AreBits (padded A v)
 unfolding padded
 padded-bits A ⟨⟩ = tt
 padded-bits A (inl v) = (omega arith, below-append 2 (replicate (padL (leftOf A) (rightOf A)) 0) (padded (leftOf A) v) (zeros-bits (padL (leftOf A) (rightOf A))) (padded-bits (leftOf A) v))
@@ -57,7 +57,7 @@ pub data BitsAfter : Step → Type 0 where
   BitsStuck : BitsAfter stuck
 
 -- one step after the other
-after-bind : (o : Step) (f : State → Step) → BitsAfter o → ((s : State) → BitCells (s .cells) → BitsAfter (f s)) → BitsAfter (o >>= f)
+pub after-bind : (o : Step) (f : State → Step) → BitsAfter o → ((s : State) → BitCells (s .cells) → BitsAfter (f s)) → BitsAfter (o >>= f)
 unfolding _>>=_
 after-bind o f (BitsDone {s} h) k = k s h
 after-bind o f (BitsFailed h) k = BitsFailed h
@@ -78,13 +78,13 @@ after-frames (g ∷ gs) f h = h g gs
 -- the rules of the machine
 module _ (s : State) (h : BitCells (s .cells)) where
   -- frames that come and go change no cell
-  after-newFrame : (size most n : ℕ) → BitsAfter (newFrame size most n s)
+  pub after-newFrame : (size most n : ℕ) → BitsAfter (newFrame size most n s)
   unfolding newFrame state
   after-newFrame size most n =
       after-need (leb (s .next + n) size) _ (after-need (ltb (length (s .reads) + length (s .writes)) most)
       (done (state (s .cells) (s .reads) (frameFrom (s .next) n ∷ s .writes) (s .next + n))) (BitsDone h))
 
-  after-moveFrame : BitsAfter (moveFrame s)
+  pub after-moveFrame : BitsAfter (moveFrame s)
   unfolding moveFrame state
   after-moveFrame = after-frames (s .writes) (λ f ws. done (state (s .cells) (reset f ∷ s .reads) ws (s .next))) (λ f ws. BitsDone h)
 
@@ -94,7 +94,7 @@ module _ (s : State) (h : BitCells (s .cells)) where
       (λ f rs. after-need (eqb (s .next) (f .start + f .len)) (done (state (s .cells) rs (s .writes) (f .start))) (BitsDone h))
 
   -- what is written are bits
-  after-writeBits : (bs : List Bit) → AreBits bs → BitsAfter (writeBits bs s)
+  pub after-writeBits : (bs : List Bit) → AreBits bs → BitsAfter (writeBits bs s)
   unfolding writeBits state
   after-writeBits [] k = BitsDone h
   after-writeBits (b ∷ bs) k = after-frames (s .writes) (λ f ws. need (inFrame (length (b ∷ bs)) f) (done (written f ws)))
@@ -104,14 +104,14 @@ module _ (s : State) (h : BitCells (s .cells)) where
       written f ws = state (putBits (s .cells) (f .cursor) (b ∷ bs)) (s .reads) (forward (length (b ∷ bs)) f ∷ ws) (s .next)
 
   -- cursors that move change no cell
-  after-skip : (n : ℕ) → BitsAfter (skip n s)
+  pub after-skip : (n : ℕ) → BitsAfter (skip n s)
   unfolding skip state
   after-skip zero = BitsDone h
   after-skip (suc n) = after-frames (s .writes) (λ f ws. need (inFrame (suc n) f) (done (state (s .cells) (s .reads) (forward (suc n) f ∷ ws) (s .next))))
       (λ f ws. after-need (inFrame (suc n) f) (done (state (s .cells) (s .reads) (forward (suc n) f ∷ ws) (s .next))) (BitsDone h))
 
   -- what is copied are bits
-  after-copy : (n : ℕ) → BitsAfter (copy n s)
+  pub after-copy : (n : ℕ) → BitsAfter (copy n s)
   unfolding copy state
   after-copy zero = BitsDone h
   after-copy (suc n) = after-frames (s .reads) (λ f rs. elim (s .writes) [ [] ↦ stuck | g ∷ ws ↦ into f g ws ])
@@ -125,7 +125,7 @@ module _ (s : State) (h : BitCells (s .cells)) where
       into f g ws = need (inFrame (suc n) f) (need (inFrame (suc n) g) (done (copied f g ws)))
 
   -- the read cursor on
-  after-fwd : (n : ℕ) → BitsAfter (fwd n s)
+  pub after-fwd : (n : ℕ) → BitsAfter (fwd n s)
   unfolding fwd state
   after-fwd zero = BitsDone h
   after-fwd (suc n) = after-frames (s .reads) (λ f rs. need (inFrame (suc n) f) (done (state (s .cells) (forward (suc n) f ∷ rs) (s .writes) (s .next))))
@@ -156,7 +156,7 @@ after-peek s f k = go (s .reads)
     go (g ∷ rs) = seen (inFrame 1 g) (s .cells (g .cursor))
 
 -- a step of a run: from cells that are bits to cells that are bits
-abbrev KeepsBits : (State → Step) → Type 0
+abbrev pub KeepsBits : (State → Step) → Type 0
 KeepsBits f = (s : State) → BitCells (s .cells) → BitsAfter (f s)
 
 -- a part read n cells further on
@@ -229,7 +229,7 @@ module _ (size most : ℕ) where
   exec-bits bad s h = BitsStuck
 
   -- the frame of the input
-  input-bits : (n : ℕ) (bs : List Bit) → AreBits bs → KeepsBits (input size most n bs)
+  pub input-bits : (n : ℕ) (bs : List Bit) → AreBits bs → KeepsBits (input size most n bs)
   unfolding input
   input-bits zero bs w s h = BitsDone h
   input-bits (suc n) bs w s h =
@@ -237,7 +237,7 @@ module _ (size most : ℕ) where
       after-bind (writeBits bs s) (λ s. moveFrame s) (after-writeBits s h bs w) (λ s h. after-moveFrame s h))
 
   -- the frame of the output
-  output-bits : (n : ℕ) → KeepsBits (output size most n)
+  pub output-bits : (n : ℕ) → KeepsBits (output size most n)
   unfolding output
   output-bits zero s h = BitsDone h
   output-bits (suc n) s h = after-newFrame s h size most (suc n)

@@ -20,6 +20,7 @@ module _ (P : Program) where
   abbrev pub push : (n : ℕ) → State → Step
   push n s = newFrame (wholeCells P) (wholeFrames P) n s
 
+  -- the run of node i within them
   abbrev pub runNode : (i : ℕ) → State → Step
   runNode i s = exec (wholeCells P) (wholeFrames P) (termAt P i) s
 

@@ -65,14 +65,17 @@ clear-above : (nx n : ℕ) (fs : List Frame) → Inside nx fs → ClearOf nx n f
 clear-above nx n [] h = tt
 clear-above nx n (f ∷ fs) h = (λ j p q. omega (arith, h .0), clear-above nx n fs (h .1))
 
+-- clear of two lists is clear of both together
 clear-both : (at n : ℕ) (fs gs : List Frame) → ClearOf at n fs → ClearOf at n gs → ClearOf at n (fs ++ gs)
 clear-both at n [] gs h k = k
 clear-both at n (f ∷ fs) gs h k = (h .0, clear-both at n fs gs (h .1) k)
 
+-- and of the first of them
 pub clear-left : (at n : ℕ) (fs gs : List Frame) → ClearOf at n (fs ++ gs) → ClearOf at n fs
 clear-left at n [] gs h = tt
 clear-left at n (f ∷ fs) gs h = (h .0, clear-left at n fs gs (h .1))
 
+-- and of the second
 pub clear-right : (at n : ℕ) (fs gs : List Frame) → ClearOf at n (fs ++ gs) → ClearOf at n gs
 clear-right at n [] gs h = h
 clear-right at n (f ∷ fs) gs h = clear-right at n fs gs (h .1)
@@ -88,16 +91,19 @@ unfolding advance forward
 inside-advance nx n [] h = tt
 inside-advance nx n (f ∷ fs) h = h
 
+-- and clear of what it was clear of
 clear-advance : (at m n : ℕ) (fs : List Frame) → ClearOf at m fs → ClearOf at m (advance n fs)
 unfolding advance forward
 clear-advance at m n [] h = tt
 clear-advance at m n (f ∷ fs) h = h
 
+-- frames that share no cell share none when a write cursor moves
 separate-writes : (n : ℕ) (ws rs : List Frame) → Separate (ws ++ rs) → Separate (advance n ws ++ rs)
 unfolding advance forward
 separate-writes n [] rs h = h
 separate-writes n (f ∷ ws) rs h = h
 
+-- or a read cursor
 separate-reads : (n : ℕ) (ws rs : List Frame) → Separate (ws ++ rs) → Separate (ws ++ advance n rs)
 unfolding advance forward
 separate-reads n [] [] h = tt
@@ -127,6 +133,7 @@ stacked-push n {rs} {ws} {nx} h = record {
   apart = (clear-both nx n ws rs (clear-above nx n ws (h .writes)) (clear-above nx n rs (h .reads)), h .apart);
 }
 
+-- the active write frame moved to the read frames
 pub stacked-move : (f : Frame) {rs ws : List Frame} {nx : ℕ} → Stacked rs (f ∷ ws) nx → Stacked (reset f ∷ rs) ws nx
 unfolding reset
 stacked-move f {rs} {ws} h = record {
@@ -135,9 +142,11 @@ stacked-move f {rs} {ws} h = record {
   apart = separate-move (reset f) ws rs (h .apart .0) (h .apart .1);
 }
 
+-- the write cursor on
 pub stacked-writes : (n : ℕ) {rs ws : List Frame} {nx : ℕ} → Stacked rs ws nx → Stacked rs (advance n ws) nx
 stacked-writes n {rs} {ws} {nx} h = record { reads = h .reads; writes = inside-advance nx n ws (h .writes); apart = separate-writes n ws rs (h .apart) }
 
+-- the read cursor on
 pub stacked-reads : (n : ℕ) {rs ws : List Frame} {nx : ℕ} → Stacked rs ws nx → Stacked (advance n rs) ws nx
 stacked-reads n {rs} {ws} {nx} h = record { reads = inside-advance nx n rs (h .reads); writes = h .writes; apart = separate-reads n ws rs (h .apart) }
 
@@ -166,9 +175,11 @@ module _ {size most : ℕ} {A B : Ty} {x : Bound} {s : State} (h : Entry size mo
   pub read-below : cursorOf (s .reads) + width A ≤ s .next
   read-below = at-below (s .reads) (width A) (s .next) (h .read) (h .stacked .reads)
 
+  -- the room to write in
   pub write-below : cursorOf (s .writes) + width B ≤ s .next
   write-below = at-below (s .writes) (width B) (s .next) (h .write) (h .stacked .writes)
 
+  -- they are apart
   pub read-apart : Apart (cursorOf (s .reads)) (width A) (cursorOf (s .writes)) (width B)
   read-apart = at-apart (s .reads) (s .writes) (width A) (width B) (h .read) (h .write) (h .stacked .apart)
 
@@ -199,6 +210,7 @@ ends-done {B} {nx = nx} {rs = rs} {ws = ws} t (Value {d = d} q k) e =
 ends-done t (Fails k) e = clash (cc)
 ends-done t (Prunes k) e = clash (cc)
 
+-- so has the run of a term that was entered
 pub ran : {f : Term} {A B : Ty} {size most : ℕ} {s t : State} → Typed f A B → Entry size most A B (bounds f) s → exec size most f s ≡ done t
     → state (t .cells) (s .reads) (advance (width B) (s .writes)) (s .next) ≡ t
 ran {t = t} typed h e = ends-done t (entry-ends typed h) e

@@ -46,6 +46,7 @@ unfolding tabulateFrom
 bits-from i zero c h = tt
 bits-from i (suc n) c h = (omega (arith, h i), bits-from (suc i) n c h)
 
+-- a cell of packed cells
 packed-cell : (n : ℕ) (c : Cells) → BitCells c → (j : ℕ) → j < 8 * n → cellsOf (packed n c) j ≡ c j
 unfolding cellsOf packed tabulate
 packed-cell n c h j l =
@@ -57,6 +58,7 @@ bit-below [] h j = omega arith
 bit-below (b ∷ bs) h zero = omega (arith, h .0)
 bit-below (b ∷ bs) h (suc j) = bit-below bs (h .1) j
 
+-- of every store
 pub store-bits : (cells : List ℕ) → BitCells (cellsOf cells)
 unfolding cellsOf
 store-bits cells j = bit-below (bitsOf cells) (are-bits cells) j
@@ -69,6 +71,7 @@ module _ (P : Program) (ok : Sound P) (v : Val) (hv : HasTy v (wholeSource P)) (
       let same : (j : ℕ) → j < 8 * length cells → cellsOf left j ≡ s .cells j = λ j l. ap (λ (b : List ℕ). cellsOf b j) e ∙ packed-cell (length cells) (s .cells) bits j l in
       record { last = s; ended = last; bytes = e; held = same; beyond = λ j m l. same j l ∙ kept j m }
 
+  -- by how the run ended
   ends-cells : {o : Means} {e : Step} → Ran (wholeTarget P) (width (wholeSource P)) (wholeCells P) (cellsOf cells) o e → BitsAfter e
       → CellsLeft e (wholeCells P) cells ((ends P e cells frames answer) .cells)
   unfolding ends

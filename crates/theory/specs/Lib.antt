@@ -27,6 +27,7 @@ pub mod Ways
 pub mod AtNodes
 pub mod NodeEnds
 pub mod Stops
+pub mod EnteredBits
 pub mod Refusals
 pub mod Supply
 pub mod Acceptance

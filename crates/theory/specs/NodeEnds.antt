@@ -60,12 +60,14 @@ frames-kept : (at n nx x : ℕ) (c d : Cells) (fs : List Frame) → Kept at n nx
 frames-kept at n nx x c d [] k h z = tt
 frames-kept at n nx x c d (f ∷ fs) k h z = (λ j i. k j (λ p. z .0 j p i) (λ q. omega (arith, h .0)), frames-kept at n nx x c d fs k (h .1) (z .1))
 
+-- the frames below the active one lie as low
 below-inside : (nx : ℕ) (fs : List Frame) → Inside nx fs → Inside nx (below fs)
 unfolding below
 below-inside nx [] h = tt
 below-inside nx (f ∷ fs) h = h .1
 
 module _ {size most : ℕ} {A B : Ty} {y : Bound} {s : State} (h : Entry size most A B y s) where
+  -- so the other frames of an entered state keep theirs
   others-kept : (x : ℕ) (t : State) → Kept (cursorOf (s .writes)) (width B) (s .next) x (s .cells) (t .cells) → OthersKept s t
   others-kept x t k =
       let wr : ℕ = cursorOf (s .writes) in

@@ -53,25 +53,31 @@ pub refuses-wider : {X : Type 0} (lo hi lo′ hi′ : ℕ) (c : Check X) → lo�
 refuses-wider lo hi lo′ hi′ c l m h r e = let n = h r e in record { least = omega arith; most = omega arith }
 
 module _ (lo hi : ℕ) where
+  -- in this range
   abbrev Fine : Refusal → Type 0
   Fine r = Numbered lo hi r
 
+  -- a check that passed
   pub passed-refuses : {X : Type 0} (x : X) → Refuses lo hi (passed x)
   passed-refuses x r e = Checks.clash (cc)
 
+  -- a refusal
   pub refused-refuses : {X : Type 0} (q : Refusal) → Fine q → Refuses {X = X} lo hi (refused q)
   refused-refuses q h r e = subst Fine (let z : q ≡ r = cc in z) h
 
+  -- one check after the other
   pub then-refuses : {X Y : Type 0} (m : Check X) (f : X → Check Y) → Refuses lo hi m → ((x : X) → Refuses lo hi (f x)) → Refuses lo hi (m >>= f)
   unfolding _>>=_
   then-refuses (passed x) f h k r e = k x r e
   then-refuses (refused q) f h k r e = h r (cc)
 
+  -- a test
   pub require-refuses : (b : Bool) (q : Refusal) → Fine q → Refuses lo hi (require b q)
   unfolding require
   require-refuses true q h = passed-refuses tt
   require-refuses false q h = refused-refuses q h
 
+  -- a test of each number
   pub each-refuses : (n : ℕ) (test : ℕ → Bool) (refusal : ℕ → Refusal) → ((i : ℕ) → Fine (refusal i)) → Refuses lo hi (each n test refusal)
   unfolding each
   each-refuses n test refusal h = require-refuses (eqb (firstFailing test n 0) n) (refusal (firstFailing test n 0)) (h (firstFailing test n 0))
@@ -89,6 +95,7 @@ header-refuses d =
     (require-refuses 1 1 (every (leb headerBytes (length d) ∷ leb (length d) dossierBytes ∷ [])) (Header 0) (omega arith))
     (λ fits. each-refuses 1 1 14 (headerRule d) (λ j. Header (4 * j)) (λ j. omega arith))
 
+-- the types
 types-refuse : (types : List TypeRecord) → Refuses 2 2 (checkTypes types)
 unfolding checkTypes
 types-refuse types = each-refuses 2 2 (length types) (typeRule types) BadTypeRecord (λ i. omega arith)
@@ -102,6 +109,7 @@ fault-refuses i overBound = omega arith
 fault-refuses i aJet = omega arith
 fault-refuses i hashesShort = omega arith
 
+-- the nodes from node i on
 nodes-refuse : (bits : List Bit) (room k i : ℕ) (records : List NodeRecord) (hashes : List ℕ) (at : ℕ) → Refuses 3 17 (nodesFrom bits room k i records hashes at)
 unfolding nodesFrom
 nodes-refuse bits room zero i records hashes at = passed-refuses 3 17 _
@@ -115,6 +123,7 @@ nodes-refuse bits room (suc k) i records hashes at = go (nodeIn bits room i (len
     go (got x next) later = later (records ++ x .node ∷ []) (hashes ++ x .stored) next
     go (fault e) later = refused-refuses 3 17 (refusalAt i e) (fault-refuses i e)
 
+-- all nodes
 reading-refuses : (bits : List Bit) (records bytes : ℕ) → Refuses 3 17 (readNodes bits records bytes)
 unfolding readNodes
 reading-refuses bits records bytes = go (naturalUpTo bits nodeCount 0)
@@ -132,6 +141,7 @@ reading-refuses bits records bytes = go (naturalUpTo bits nodeCount 0)
 
 -- 6 to 9
 module _ (nodes : List Node) where
+  -- children of which none is hidden
   none-refuses : (i : ℕ) (js : List ℕ) → Refuses 6 9 (noneHidden nodes i js)
   unfolding noneHidden
   none-refuses i [] = passed-refuses 6 9 tt
@@ -139,6 +149,7 @@ module _ (nodes : List Node) where
       then-refuses 6 9 (require (not (hiddenAt nodes j)) (HiddenElsewhere i)) (λ shown. noneHidden nodes i js)
       (require-refuses 6 9 (not (hiddenAt nodes j)) (HiddenElsewhere i) (omega arith)) (λ shown. none-refuses i js)
 
+  -- what a node asks
   allowed-refuses : (i : ℕ) (n : Node) → Refuses 6 9 (allowed nodes i n)
   unfolding allowed
   allowed-refuses i (comp a b) = none-refuses i (a ∷ b ∷ [])
@@ -206,6 +217,7 @@ module _ (nodes : List Node) where
           ]
       go (no h) below = subst WalkRefuses (sym (entries-past (walkMake nodes) nodes i (λ d. passed d) (omega arith))) (λ done. passed-refuses 6 9 done)
 
+  -- the whole walk
   walk-refuses : Refuses 6 9 (checkWalk nodes)
   unfolding checkWalk
   walk-refuses =
@@ -245,6 +257,7 @@ bounds-refuse P =
     three-refuse 14 17 (leb (wholeCells P) cellCount) (leb (wholeFrames P) frameCount) (leb (wholeCost P) costLimit)
     (OverLimit 0) (OverLimit 1) (OverLimit 2) (omega arith) (omega arith) (omega arith)
 
+-- the stores
 stores-refuse : (P : Program) (cells frames answer : List ℕ) → Refuses 14 17 (checkStores P cells frames answer)
 unfolding checkStores
 stores-refuse P cells frames answer =
@@ -264,6 +277,7 @@ values-refuse types arrows i (n ∷ ns) values rest =
     go later (value v rest) = later (values ++ v ∷ []) rest
     go later short = refused-refuses 14 17 (Witness i) (omega arith)
 
+-- the whole witness
 witness-refuses : (types : List TypeRecord) (nodes : List Node) (arrows : List Arrow) (bytes : List ℕ) (count : ℕ) → Refuses 14 17 (checkWitness types nodes arrows bytes count)
 unfolding checkWitness
 witness-refuses types nodes arrows bytes count =

@@ -48,39 +48,46 @@ module _ (Q : ℕ → State → Type 0) where
   asks true x = GoesOn
   asks false x = NoRule
 
+  -- two tests
   asks-both : {X : Type 0} (a b : Bool) (x : X) → StopsIn Q (need a (need b (done x)))
   unfolding need
   asks-both true b x = asks b x
   asks-both false b x = NoRule
 
+  -- a new frame
   push-stops : (size most n : ℕ) (s : State) → StopsIn Q (newFrame size most n s)
   unfolding newFrame
   push-stops size most n s = asks-both (leb (s .next + n) size) (ltb (length (s .reads) + length (s .writes)) most) _
 
   -- the rules that look at the active frames
   module _ (c : Cells) where
+    -- a frame moved
     moves : (rs ws : List Frame) (nx : ℕ) → StopsIn Q (moveFrame (state c rs ws nx))
     unfolding moveFrame
     moves rs [] nx = NoRule
     moves rs (f ∷ ws) nx = GoesOn
 
+    -- a frame dropped
     drops : (rs ws : List Frame) (nx : ℕ) → StopsIn Q (dropFrame (state c rs ws nx))
     unfolding dropFrame
     drops [] ws nx = NoRule
     drops (f ∷ rs) ws nx = asks (eqb nx (f .start + f .len)) _
 
+    -- bits written
     writes : (bs : List Bit) (rs ws : List Frame) (nx : ℕ) → StopsIn Q (writeBits bs (state c rs ws nx))
     unfolding writeBits
     writes [] rs ws nx = GoesOn
     writes (b ∷ bs) rs [] nx = NoRule
     writes (b ∷ bs) rs (f ∷ ws) nx = asks (inFrame (length (b ∷ bs)) f) _
 
+    -- cells passed over
     skips : (n : ℕ) (rs ws : List Frame) (nx : ℕ) → StopsIn Q (skip n (state c rs ws nx))
     unfolding skip
     skips zero rs ws nx = GoesOn
     skips (suc n) rs [] nx = NoRule
     skips (suc n) rs (f ∷ ws) nx = asks (inFrame (suc n) f) _
 
+    -- cells copied
     copies : (n : ℕ) (rs ws : List Frame) (nx : ℕ) → StopsIn Q (copy n (state c rs ws nx))
     unfolding copy
     copies zero rs ws nx = GoesOn
@@ -88,18 +95,21 @@ module _ (Q : ℕ → State → Type 0) where
     copies (suc n) (f ∷ rs) [] nx = NoRule
     copies (suc n) (f ∷ rs) (g ∷ ws) nx = asks-both (inFrame (suc n) f) (inFrame (suc n) g) _
 
+    -- the read cursor on
     goes-on : (n : ℕ) (rs ws : List Frame) (nx : ℕ) → StopsIn Q (fwd n (state c rs ws nx))
     unfolding fwd
     goes-on zero rs ws nx = GoesOn
     goes-on (suc n) [] ws nx = NoRule
     goes-on (suc n) (f ∷ rs) ws nx = asks (inFrame (suc n) f) _
 
+    -- and back
     goes-back : (n : ℕ) (rs ws : List Frame) (nx : ℕ) → StopsIn Q (back n (state c rs ws nx))
     unfolding back
     goes-back zero rs ws nx = GoesOn
     goes-back (suc n) [] ws nx = NoRule
     goes-back (suc n) (f ∷ rs) ws nx = asks (leb (f .start + suc n) (f .cursor)) _
 
+    -- the bit at it
     peeks : (rs ws : List Frame) (nx : ℕ) → StopsIn Q (peek (state c rs ws nx))
     unfolding peek state
     peeks [] ws nx = NoRule
@@ -125,34 +135,42 @@ module _ (P : Program) (ok : Sound P) (v : Val) (hv : HasTy v (wholeSource P)) (
   after-push : (n : ℕ) (s : State) {k : State → Step} → ((t : State) → push P n s ≡ done t → Ok (k t)) → Ok (push P n s >>= k)
   after-push n s = stops-then In (push-stops In (wholeCells P) (wholeFrames P) n s)
 
+  -- a frame moved
   after-move : (s : State) {k : State → Step} → ((t : State) → moveFrame s ≡ done t → Ok (k t)) → Ok (moveFrame s >>= k)
   unfolding state
   after-move s = stops-then In (moves In (s .cells) (s .reads) (s .writes) (s .next))
 
+  -- bits written
   after-write : (bs : List Bit) (s : State) {k : State → Step} → ((t : State) → writeBits bs s ≡ done t → Ok (k t)) → Ok (writeBits bs s >>= k)
   unfolding state
   after-write bs s = stops-then In (writes In (s .cells) bs (s .reads) (s .writes) (s .next))
 
+  -- cells passed over
   after-skip : (n : ℕ) (s : State) {k : State → Step} → ((t : State) → skip n s ≡ done t → Ok (k t)) → Ok (skip n s >>= k)
   unfolding state
   after-skip n s = stops-then In (skips In (s .cells) n (s .reads) (s .writes) (s .next))
 
+  -- cells copied
   after-copy : (n : ℕ) (s : State) {k : State → Step} → ((t : State) → copy n s ≡ done t → Ok (k t)) → Ok (copy n s >>= k)
   unfolding state
   after-copy n s = stops-then In (copies In (s .cells) n (s .reads) (s .writes) (s .next))
 
+  -- the read cursor on
   after-fwd : (n : ℕ) (s : State) {k : State → Step} → ((t : State) → fwd n s ≡ done t → Ok (k t)) → Ok (fwd n s >>= k)
   unfolding state
   after-fwd n s = stops-then In (goes-on In (s .cells) n (s .reads) (s .writes) (s .next))
 
+  -- the bit at it
   after-peek : (s : State) {k : Bit → Step} → ((b : Bit) → peek s ≡ done b → Ok (k b)) → Ok (peek s >>= k)
   unfolding state
   after-peek s = stops-then In (peeks In (s .cells) (s .reads) (s .writes) (s .next))
 
+  -- a frame dropped, at the end
   last-drop : (s : State) → Ok (dropFrame s)
   unfolding state
   last-drop s = drops In (s .cells) (s .reads) (s .writes) (s .next)
 
+  -- the read cursor back, at the end
   last-back : (n : ℕ) (s : State) → Ok (back n s)
   unfolding state
   last-back n s = goes-back In (s .cells) n (s .reads) (s .writes) (s .next)
@@ -175,13 +193,16 @@ module _ (P : Program) (ok : Sound P) (v : Val) (hv : HasTy v (wholeSource P)) (
     abbrev leftTag : ℕ
     leftTag = 1 + padL (leftOf (leftOf (sourceTy P i))) (rightOf (leftOf (sourceTy P i)))
 
+    -- before a right part
     abbrev rightTag : ℕ
     rightTag = 1 + padR (leftOf (leftOf (sourceTy P i))) (rightOf (leftOf (sourceTy P i)))
 
+    -- the left branch
     left-branch : (a b : ℕ) → nodeAt (P .nodes) i ≡ case a b → a < i → hiddenAt (P .nodes) a ≡ false → peek s ≡ done 0
         → Ok (fwd leftTag s >>= λ s. runNode P a s >>= λ s. back leftTag s)
     left-branch a b e l q r = after-fwd leftTag s λ s₁ e₁. there-and-back leftTag a s₁ l (CaseLeft h e q r e₁)
 
+    -- the right branch
     right-branch : (a b k : ℕ) → nodeAt (P .nodes) i ≡ case a b → b < i → hiddenAt (P .nodes) b ≡ false → peek s ≡ done (suc k)
         → Ok (fwd rightTag s >>= λ s. runNode P b s >>= λ s. back rightTag s)
     right-branch a b k e l q r = after-fwd rightTag s λ s₁ e₁. there-and-back rightTag b s₁ l (CaseRight h e q r e₁)
@@ -195,6 +216,7 @@ module _ (P : Program) (ok : Sound P) (v : Val) (hv : HasTy v (wholeSource P)) (
     stops-case a b e la lb true false p q = by-bit _ _ (λ r. AtPruned h) (λ k r. right-branch a b k e lb q r)
     stops-case a b e la lb true true p q = NoRule
 
+    -- a node of each kind
     stops-node : (n : Node) → nodeAt (P .nodes) i ≡ n → AllBelow i (children n) → Ok (exec (wholeCells P) (wholeFrames P) (termOf P i n (termAt P)) s)
     unfolding termOf exec children state
     stops-node (comp a b) e l =
@@ -240,6 +262,7 @@ module _ (P : Program) (ok : Sound P) (v : Val) (hv : HasTy v (wholeSource P)) (
   after-input zero bits s = GoesOn
   after-input (suc n) bits s = after-push (suc n) s λ s₁ e₁. after-write bits s₁ λ s₂ e₂. moves In (s₂ .cells) (s₂ .reads) (s₂ .writes) (s₂ .next)
 
+  -- the output
   after-output : (n : ℕ) (s : State) → Ok (output (wholeCells P) (wholeFrames P) n s)
   unfolding output
   after-output zero s = GoesOn

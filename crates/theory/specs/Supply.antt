@@ -46,9 +46,11 @@ pub record HeaderFits (d : List ℕ) : Type 0 where
   pub rules : (j : ℕ) → j < 14 → headerRule d j ≡ true
 
 module _ (d : List ℕ) where
+  -- the tests of its size
   abbrev sizes : List Bool
   sizes = leb headerBytes (length d) ∷ leb (length d) dossierBytes ∷ []
 
+  -- a header that passed
   pub header-fits : checkHeader d ≡ passed tt → HeaderFits d
   unfolding checkHeader
   header-fits e =
@@ -56,6 +58,7 @@ module _ (d : List ℕ) where
       let q = every-all sizes (require-holds (every sizes) (Header 0) (p .0) (p .1)) in
       record { least = leb-true _ _ (q .0); most = leb-true _ _ (q .1 .0); rules = each-holds 14 (headerRule d) (λ j. Header (4 * j)) tt (p .2) }
 
+  -- and one that keeps its rules passes
   pub fits-header : HeaderFits d → checkHeader d ≡ passed tt
   unfolding checkHeader
   fits-header h =
@@ -76,6 +79,7 @@ pub record StoresFit (P : Program) (cells frames answer : List ℕ) : Type 0 whe
   pub answerBytes : bytesFor (width (wholeTarget P)) ≤ length answer
 
 module _ (P : Program) where
+  -- bounds that passed
   pub limits-fit : checkBounds P ≡ passed tt → LimitsFit P
   unfolding checkBounds checkLimits
   limits-fit e =
@@ -88,6 +92,7 @@ module _ (P : Program) where
         cost = leb-true _ _ (require-holds (leb (wholeCost P) costLimit) (OverLimit 2) tt (b .2));
       }
 
+  -- and bounds within the limits pass
   pub fit-limits : LimitsFit P → checkBounds P ≡ passed tt
   unfolding checkBounds checkLimits
   fit-limits h =
@@ -98,15 +103,19 @@ module _ (P : Program) where
       ∙ holds-require (leb (wholeCost P) costLimit) (OverLimit 2) (le-leb _ _ (h .cost))
 
   module _ (cells frames answer : List ℕ) where
+    -- the test of the cells
     abbrev first : Bool
     first = leb (bytesFor (wholeCells P)) (length cells)
 
+    -- of the frames
     abbrev second : Bool
     second = leb (wholeFrames P) (length frames / frameNumbers)
 
+    -- of the answer
     abbrev third : Bool
     third = leb (bytesFor (width (wholeTarget P))) (length answer)
 
+    -- stores that passed
     pub stores-fit : checkStores P cells frames answer ≡ passed tt → StoresFit P cells frames answer
     unfolding checkStores
     stores-fit e =
@@ -118,6 +127,7 @@ module _ (P : Program) where
           answerBytes = leb-true _ _ (require-holds third (StoreShort 2) tt (b .2));
         }
 
+    -- and stores with room pass
     pub fit-stores : StoresFit P cells frames answer → checkStores P cells frames answer ≡ passed tt
     unfolding checkStores
     fit-stores h =
@@ -132,6 +142,7 @@ pub record HashesFit (nodes : List Node) (given : List ℕ) : Type 0 where
   pub alike : (e f : ℕ) → e < length (rights nodes) → f < length (rights nodes) → getD (rights nodes) e 0 ≡ getD (rights nodes) f 0 → entry given e ≡ entry given f
 
 module _ (nodes : List Node) (given : List ℕ) where
+  -- the child that entry e is for
   abbrev right : (e : ℕ) → ℕ
   right e = getD (rights nodes) e 0
 
@@ -148,6 +159,7 @@ module _ (nodes : List Node) (given : List ℕ) where
       go true r = same-equal _ _ r
       go false r = Checks.not-both (all-every (eqb (right d) (right e) ∷ not (same (entry given d) (entry given e)) ∷ []) (eq-eqb _ _ q, (ap not r, tt))) p
 
+  -- and the other way round
   clash-none : (e d : ℕ) → (right d ≡ right e → entry given d ≡ entry given e) → unlike e d ≡ false
   unfolding every
   clash-none e d h = go (unlike e d) refl
@@ -158,9 +170,11 @@ module _ (nodes : List Node) (given : List ℕ) where
           let p = every-all (eqb (right d) (right e) ∷ not (same (entry given d) (entry given e)) ∷ []) r in
           Checks.not-both (ap (λ (x : List ℕ). same x (entry given e)) (h (eqb-true _ _ (p .0))) ∙ equal-same (entry given e)) (not-true _ (p .1 .0))
 
+  -- the test of the count
   abbrev count : Bool
   count = eqb (length given / hashBytes) (length (rights nodes))
 
+  -- hashes that passed
   pub hashes-fit : checkHashes nodes given ≡ passed tt → HashesFit nodes given
   unfolding checkHashes clash
   hashes-fit e =
@@ -175,6 +189,7 @@ module _ (nodes : List Node) (given : List ℕ) where
         ];
       }
 
+  -- and hashes that fit pass
   pub fit-hashes : HashesFit nodes given → checkHashes nodes given ≡ passed tt
   unfolding checkHashes clash
   fit-hashes h =
@@ -205,6 +220,7 @@ module _ (bytes : List ℕ) (count : ℕ) (bits : List Bit) where
         }) (subst (λ (k : ℕ). closes (streamOf bytes) k ≡ true) l c);
       }
 
+  -- and the other way round
   are-bits : BitsAre bytes count bits → (take count (streamOf bytes) ≡ bits) × (closes (streamOf bytes) count ≡ true)
   are-bits h = (
     ap (take count) (h .closed .whole) ∙ take-at bits _ count (sym (h .many)),
@@ -216,9 +232,11 @@ no-bits : (l : List Bit) → length l ≡ 0 → l ≡ []
 no-bits [] e = refl
 no-bits (b ∷ l) e = absurd (omega arith)
 
+-- the first ones
 first-bits : (n : ℕ) (l : List Bit) → AreBits l → AreBits (take n l)
 first-bits n l h = below-front 2 (take n l) (drop n l) (subst AreBits (sym (take-append-drop n l)) h)
 
+-- the later ones
 below-back : (x rest : List Bit) → AreBits (x ++ rest) → AreBits rest
 below-back [] rest h = h
 below-back (b ∷ x) rest h = below-back x rest (h .1)
@@ -233,6 +251,7 @@ module _ (A : Ty) (bytes : List ℕ) (count : ℕ) (v : Val) where
   abbrev used : List Bit → Bool
   used rest = every (eqb (length rest) 0 ∷ closes (streamOf bytes) count ∷ [])
 
+  -- an input that passed
   pub input-fits : checkInput A bytes count ≡ passed v → InputFits A bytes count v
   unfolding checkInput
   input-fits e = go (readValue A (take count (streamOf bytes))) refl e
@@ -249,6 +268,7 @@ module _ (A : Ty) (bytes : List ℕ) (count : ℕ) (v : Val) where
           record { typed = subst (λ (u : Val). HasTy u A) same (r .0); bits = bits-are bytes count (compact v) bits (t .1 .0) }
       go short p q = Checks.clash (cc)
 
+  -- and an input that fits passes
   pub fits-input : InputFits A bytes count v → checkInput A bytes count ≡ passed v
   unfolding checkInput
   fits-input h =
@@ -306,6 +326,7 @@ module _ (types : List TypeRecord) (arrows : List Arrow) where
   abbrev readFor : (i : ℕ) → Node → List Bit → Read
   readFor i n bits = onWitness n (readValue (tyAt types (target arrows i)) bits) (value ⟨⟩ bits)
 
+  -- the value of a node is read from its bits
   read-one : (i : ℕ) (n : Node) (v : Val) (rest : List Bit) → ValueFor types arrows i n v → readFor i n (compact v ++ rest) ≡ value v rest
   unfolding onWitness compact
   read-one i n v rest h = go (no-witness n)
@@ -314,6 +335,7 @@ module _ (types : List TypeRecord) (arrows : List Arrow) where
       go (inl e) = ap (λ (n : Node). readFor i n (compact v ++ rest)) e ∙ reads-compact (h .witness e) rest
       go (inr k) = k .1 _ _ ∙ ap (λ (u : Val). value ⟨⟩ (compact u ++ rest)) (h .other (k .0)) ∙ ap (λ (u : Val). value u rest) (sym (h .other (k .0)))
 
+  -- and what is read is its value, from its bits
   one-read : (i : ℕ) (n : Node) (bits : List Bit) (v : Val) (rest : List Bit) → AreBits bits → readFor i n bits ≡ value v rest
       → ValueFor types arrows i n v × (bits ≡ compact v ++ rest)
   unfolding onWitness compact
@@ -355,6 +377,7 @@ module _ (types : List TypeRecord) (arrows : List Arrow) where
     e ∙ ap (λ (l : List Bit). compact v ++ l) (k .3) ∙ sym (append-assoc (compact v) (allBits (k .0)) (R .rest)),
   )
 
+  -- of all nodes from node i on
   read-values : (ns : List Node) (i : ℕ) (before : List Val) (bits : List Bit) (R : Values) → AreBits bits → valuesFrom types arrows i ns before bits ≡ passed R
       → WasRead i ns before bits R
   unfolding valuesFrom allBits
@@ -378,6 +401,7 @@ module _ (types : List TypeRecord) (arrows : List Arrow) where
     abbrev left : List Bit → Bool
     left rest = every (eqb (length rest) 0 ∷ closes (streamOf bytes) count ∷ [])
 
+    -- witness bits that passed
     pub witness-fits : checkWitness types nodes arrows bytes count ≡ passed values → WitnessFits types nodes arrows bytes count values
     unfolding checkWitness
     witness-fits e =
@@ -390,6 +414,7 @@ module _ (types : List TypeRecord) (arrows : List Arrow) where
         r .3 ∙ ap₂ (λ (vs : List Val) (l : List Bit). allBits vs ++ l) same (no-bits (a .0 .rest) (eqb-true _ _ (t .0))) ∙ append-nil (allBits values) in
         record { each = subst (ValuesFor types arrows 0 nodes) same (r .1); bits = bits-are bytes count (allBits values) bits (t .1 .0) }
 
+    -- and witness bits that fit pass
     pub fits-witness : WitnessFits types nodes arrows bytes count values → checkWitness types nodes arrows bytes count ≡ passed values
     unfolding checkWitness
     fits-witness h =

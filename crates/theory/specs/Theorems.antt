@@ -83,6 +83,7 @@ use Rattle.theory.specs.Entry.{cursorOf, Stacked, read-below, write-belo
 use Rattle.theory.specs.AtNodes.{entered-at}
 use Rattle.theory.specs.NodeEnds.{NodeEnds, node-means}
 use Rattle.theory.specs.Stops.{StopsIn, run-stops}
+use Rattle.theory.specs.EnteredBits.{entered-bits}
 use Rattle.theory.specs.Answers.{told, output}
 use Rattle.theory.specs.Left.{CellsLeft, outputBytes}
 use Rattle.theory.specs.Job as Job
@@ -206,6 +207,10 @@ module _ (P : Program) (ok : Sound P) (v : Val) (hv : HasTy v (wholeSource P)) (
   entered-meets =
       let e = entered-at P ok v hv c h .entry in
       (e .read, e .write, read-below e, write-below e, read-apart e, e .cells, e .frames)
+
+  -- The cells are bits there, where the old cells are, so bytes can hold them.
+  pub entered-cells : BitCells c → BitCells (s .cells)
+  entered-cells k = entered-bits P v c k h
 
   -- All frames lie below the first free cell, and no two share a cell.
   pub entered-frames : Stacked (s .reads) (s .writes) (s .next)

@@ -146,9 +146,11 @@ module _ (size most : ℕ) where
     abbrev source : Frame
     source = frameFrom (s .next) (width (wordTy 8) + width A)
 
+    -- where the second one starts
     abbrev middle : ℕ
     middle = s .next + (width (wordTy 8) + width A)
 
+    -- the second one
     abbrev made : Frame
     made = frameFrom middle (width (prod B C))
 
@@ -156,9 +158,11 @@ module _ (size most : ℕ) where
     abbrev filled : Cells
     filled = copyCells (putBits (s .cells) (s .next) (padded (wordTy 8) v)) (cursorOf (s .reads)) (s .next + width (wordTy 8)) (width A)
 
+    -- the state then
     abbrev handedTo : State
     handedTo = state filled (source ∷ s .reads) (made ∷ s .writes) (middle + width (prod B C))
 
+    -- and the steps lead there
     hand-does : width (wordTy 8) + width A + width (prod B C) ≤ z .cells → 2 ≤ z .frames → hand v A (width (prod B C)) s ≡ done handedTo
     unfolding _>>=_ At advance forward moveFrame reset state
     hand-does c f = rw (
