@@ -13,7 +13,7 @@ const HASHES: usize = 32_768;
 
 const CELLS: usize = 32_768;
 
-const FRAMES: usize = 3_072;
+const FRAMES: usize = limits::FRAME_NUMBERS * limits::FRAME_COUNT as usize;
 
 const ANSWER: usize = 4_096;
 
