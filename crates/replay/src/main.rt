@@ -178,8 +178,6 @@ fn main() {
     t = replay_file(b"random0", none);
     t = replay_file(b"random1", t);
     t = replay_file(b"random2", t);
-    t = replay_file(b"random3", t);
-    t = replay_file(b"random4", t);
     packed::print_tally(b"random", t);
     t = replay_file(b"bounds0", none);
     t = replay_file(b"bounds1", t);
