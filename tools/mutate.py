@@ -29,9 +29,9 @@ from concurrent.futures import ThreadPoolExecutor
 
 CRATES = ["report", "scope"]
 # files of computed lines and of what they are written with; all others hold definitions
-ROWS = re.compile(r"(Rows|Lines|Known|BoundsTable|Dossiers|Lib)$")
+ROWS = re.compile(r"(Rows|Lines|Shorthand|Assembled|Known|BoundsTable|Dossiers|Lib)$")
 # computed lines that are dear: tried only where the others all hold
-DEAR = ["Dossiers", "Known"]
+DEAR = ["Dossiers", "Known", "OrderRows", "EndRows"]
 # sides that may be changed about, and tests that all have to hold, in any order
 EITHER_WAY = {"max", "min", "eqb", "same", "+", "*"}
 ALL_HOLD = {"every", "noneHidden"}
@@ -110,21 +110,30 @@ def arguments(part):
     return found
 
 
+def imported(text):
+    """The module that each name of a file comes from, by its `use` lines."""
+    found = {}
+    for m in re.finditer(r"^use (\S+)\.\{([^}]*)\}", text, re.M):
+        for item in m.group(2).split(","):
+            found[item.split(" as ")[-1].strip()] = m.group(1)
+    return found
+
+
 class Known:
-    """What the two crates declare: the arguments of functions and constructors, fields of one type, constructors of one line."""
+    """What the two crates declare: the arguments of functions and constructors, fields of one type, constructors of one line, functions of one type."""
 
     def __init__(self, texts):
         self.arguments, self.fields, self.families, self.functions = dict(LIBRARY), {}, {"true": ["false"], "false": ["true"]}, {}
         for (crate, name), text in texts.items():
-            self.read(name, text)
+            self.read("Rattle.%s.specs.%s" % (crate, name), text)
 
     def read(self, name, text):
-        block, fields, section = None, [], []
+        block, record, fields, section = None, None, [], []
         for line in text.split("\n"):
             indent = len(line) - len(line.lstrip())
             if line.strip() and indent == 0:
                 m = re.match(r"(?:pub )?(data|record) (\S+)", line)
-                block, fields, section = (m.group(1) if m else None), [], []
+                block, record, fields, section = (m.group(1) if m else None), (m.group(2) if m else None), [], []
                 if line.startswith("module _ "):
                     section = arguments(line[len("module _ "):line.rindex(" where")])
                     continue
@@ -135,9 +144,7 @@ class Known:
                     continue
             if block == "record" and indent:
                 fields.append((m.group(2), m.group(3)))
-                for one, type_ in fields:
-                    others = [f for f, t in fields if t == type_ and f != one]
-                    self.fields.setdefault(one, set()).update(others)
+                self.fields[record] = fields
             elif block == "data" and indent:
                 names = re.match(r"  ([^:(){}]+?) : ", line).group(1).split()
                 asked = [t for _, t in types(m.group(3).split(" -- ")[0])[0]]
@@ -150,54 +157,67 @@ class Known:
                 same = (name, tuple(t for _, t in section), tuple(t for _, t in asked), answer)
                 self.functions.setdefault(same, []).append(m.group(2))
 
-    def siblings(self, name):
-        """The next function of the same file with the same type."""
-        for names in self.functions.values():
-            if name in names and len(names) > 1:
+    def siblings(self, name, module):
+        """The next function of the module with the same type."""
+        for (home, *_), names in self.functions.items():
+            if home.replace("·specs.", ".") == module.replace("·specs.", ".") and name in names and len(names) > 1:
                 yield names[(names.index(name) + 1) % len(names)]
 
 
 class Clause:
     """A clause of a definition: where its right side stands, the types of the variables in scope, and the line that lists what it unfolds."""
 
-    def __init__(self, text, name, line, body, end, scope, answer, unfolds=None, rule=False):
-        self.text, self.name, self.line, self.body, self.end, self.scope, self.answer, self.unfolds, self.rule = text, name, line, body, end, scope, answer, unfolds, rule
-        self.nodes = tree(text, body, end)
+    def __init__(self, text, module, name, body, end, scope, answer, unfolds=None, rule=False):
+        self.text, self.module, self.name, self.body, self.end, self.scope, self.answer, self.unfolds, self.rule = text, module, name, body, end, scope, answer, unfolds, rule
+        self.nodes, self.imports = tree(text, body, end), imported(text)
 
     def cut(self, nodes):
         return self.text[nodes[0].start:nodes[-1].end]
 
     def edit(self, kind, start, end, new, unfold=None):
-        """The edit as (line, kind, old, new, the whole text with it)."""
+        """The edit as (name of what is edited, line, kind, old, new, the whole text with it)."""
         text = self.text[:start] + new + self.text[end:]
         if unfold and self.unfolds is not None and not re.search(r"\s%s(\s|$)" % re.escape(unfold), self.text[self.unfolds:self.text.index("\n", self.unfolds)]):
             stop = self.text.index("\n", self.unfolds)
             text = text[:stop] + " " + unfold + text[stop:]
-        return self.text.count("\n", 0, start) + 1, kind, self.text[start:end], new, text
+        return self.name, self.text.count("\n", 0, start) + 1, kind, self.text[start:end], new, text
 
     def swap(self, kind, a, b):
         """Two stretches of nodes changed about."""
         return self.edit(kind, a[0].start, b[-1].end, self.cut(b) + self.text[a[-1].end:b[0].start] + self.cut(a))
 
     def levels(self, nodes=None, head=None):
-        """Each sequence of nodes at one level, with the word that stands before it."""
+        """Each sequence of nodes at one level, with the function that it is an argument of."""
         nodes = self.nodes if nodes is None else nodes
         yield nodes, head
         for at, node in enumerate(nodes):
             if not node.plain():
-                word = [n.token for n in nodes[:at] if n.line == node.line and n.plain()]
-                yield from self.levels(node.parts, word[-1] if word else None)
+                first = at
+                while first > 0 and nodes[first - 1].line == node.line and not self.divides(nodes[first - 1]):
+                    first -= 1
+                yield from self.levels(node.parts, nodes[first].token if first < at else None)
+
+    @staticmethod
+    def divides(node):
+        """An operator, a keyword, or the end of a λ's variables: what stands on its two sides are no function and argument."""
+        return node.plain() and (node.token in INFIX or node.token in BREAKS or node.token.startswith("λ") or re.search(r"[^.]\.$", node.token) is not None)
 
     def tokens(self):
+        """The tokens, but for the patterns of an `elim`'s cases and for what stands before `=` or `←`."""
         for nodes, _ in self.levels():
-            yield from (node for node in nodes if node.plain())
+            pattern = any(node.plain() and node.token == "↦" for node in nodes)
+            for node, after in zip(nodes, nodes[1:] + [None]):
+                if node.plain() and node.token in ("↦", "|"):
+                    pattern = node.token == "|"
+                elif node.plain() and not pattern and not (after is not None and after.plain() and after.token in ("=", "←")):
+                    yield node
 
     def runs(self):
         """Applications: stretches that no operator, keyword or line's end divides."""
         for nodes, _ in self.levels():
             run = []
             for node in nodes + [None]:
-                stop = node is None or (node.plain() and (node.token in INFIX or node.token in BREAKS or node.token.startswith("λ") or re.search(r"[^.]\.$", node.token)))
+                stop = node is None or self.divides(node)
                 if stop or (run and node.line != run[-1].line):
                     if run:
                         yield run
@@ -215,9 +235,9 @@ class Clause:
                     chain.append(part)
                     part = []
                 elif node is None or (token is not None and (token in BREAKS or token.startswith("λ") or re.search(r"[^.]\.$", token) or
-                                                             (token in INFIX and (operator != "∷" or token == "++")))):
+                                                             (token in INFIX and {token, operator} != {"∷", "++"} or (token, operator) == ("++", "∷")))):
                     chain.append(part)
-                    if len(chain) > 1 and all(chain):
+                    if len(chain) > 1 and all(chain) and token != "↦":
                         yield chain, head
                     chain, part = [], []
                 else:
@@ -246,7 +266,7 @@ def bound(patterns, asked, known):
     return scope
 
 
-def clauses(text, known):
+def clauses(text, module, known):
     """The clauses of a file, and the rules of its data types that relate things."""
     lines = text.split("\n")
     starts = [0]
@@ -258,10 +278,11 @@ def clauses(text, known):
         indent = len(line) - len(line.lstrip())
         word = line.split()[0] if line.split() else ""
         end = at + 1
-        while end < len(lines) and lines[end].strip() and len(lines[end]) - len(lines[end].lstrip()) > indent:
+        while end < len(lines) and lines[end].strip() and (len(lines[end]) - len(lines[end].lstrip()) > indent or lines[end].strip()[0] in "])}"):
             end += 1
         if line and indent == 0:
-            section, rules = [], re.match(r"pub data \S+ : .*→", line) is not None
+            data = re.match(r"pub data (\S+) : .*→", line)
+            section, rules = [], data is not None
         if line.startswith("module _ "):
             section = arguments(line[len("module _ "):line.rindex(" where")])
         elif word == "unfolding":
@@ -270,7 +291,7 @@ def clauses(text, known):
             colon = starts[at] + line.index(" : ") + 3
             rule = " ".join(lines[at:end])[line.index(" : ") + 3:]
             scope = {n: t for m in re.finditer(r"[{(]([^(){}:]*) : ([^(){}]*)[)}]", rule) for n, t in [(n, m.group(2)) for n in m.group(1).split()]}
-            yield Clause(text, word, at, colon, starts[end] - 1, scope, "", rule=True)
+            yield Clause(text, module, data.group(1), colon, starts[end] - 1, scope, "", rule=True)
             at = end - 1
         elif re.match(r"\s*(pub )?(data|record) ", line):
             at = at if rules else end - 1
@@ -279,7 +300,7 @@ def clauses(text, known):
             patterns = tree(text, starts[at] + indent + len(word), equals - 1)
             scope = dict(section)
             scope.update(bound(patterns, [t for _, t in declared[word][1]], known))
-            yield Clause(text, word, at, equals, starts[end] - 1, scope, declared[word][2], declared[word][3] if declared[word][3] is not None else unfolds)
+            yield Clause(text, module, word, equals, starts[end] - 1, scope, declared[word][2], declared[word][3] if declared[word][3] is not None else unfolds)
             declared[word] = declared[word][:3] + (declared[word][3] if declared[word][3] is not None else unfolds,)
             at = end - 1
         elif SIGNATURE.match(line) and word not in ("use", "--", "infixl", "infixr"):
@@ -332,18 +353,17 @@ def applied(c, known):
 
 
 def compared(c, known):
-    """Equal loosened to either side; the larger of two numbers replaced by one of them or by their sum."""
+    """Equal loosened to either side (but for "not above 0", which means 0); the sum for the larger of two numbers."""
     for run in c.runs():
         head, args = run[0], run[1:]
         if head.plain() and len(args) == 2 and head.token in ("eqb", "max"):
             a, b = c.cut(args[:1]), c.cut(args[1:])
             if head.token == "eqb":
-                yield c.edit("not above, for equal", head.start, args[1].end, "lib.Dec.leb %s %s" % (a, b))
+                if b != "0":
+                    yield c.edit("not above, for equal", head.start, args[1].end, "lib.Dec.leb %s %s" % (a, b))
                 yield c.edit("not below, for equal", head.start, args[1].end, "lib.Dec.leb %s %s" % (b, a))
             else:
                 yield c.edit("the sum, for the larger", head.start, args[1].end, "(%s + %s)" % (a, b))
-                yield c.edit("the first, for the larger", head.start, args[1].end, a)
-                yield c.edit("the second, for the larger", head.start, args[1].end, b)
 
 
 def branched(c, known):
@@ -391,15 +411,21 @@ def replaced(c, known):
         stem = node.token[: len(node.token) - len(node.token.split(".")[-1])]
         name = node.token[len(stem):]
         if stem == ".":
-            for other in sorted(known.fields.get(name, []))[:1]:
-                yield c.edit("another field", node.start, node.end, "." + other)
+            for record, fields in known.fields.items():
+                alike = [f for f, t in fields if t == dict(fields).get(name)]
+                if len(alike) > 1 and (record in c.imports or re.search(r"^pub record %s " % record, c.text, re.M)):
+                    yield c.edit("another field", node.start, node.end, "." + alike[(alike.index(name) + 1) % len(alike)])
+            continue
+        home = c.imports.get(name, c.module)
+        if home.startswith("lib."):
+            if name in LIBRARY_PAIRS:
+                yield c.edit("another function", node.start, node.end, "%s.%s" % (home, LIBRARY_PAIRS[name].replace("L", "")))
             continue
         for other in known.families.get(name, [])[:1]:
             yield c.edit("another constructor", node.start, node.end, stem + other)
-        for other in known.siblings(name):
-            yield c.edit("another function", node.start, node.end, stem + other, other)
-        if name in LIBRARY_PAIRS:
-            yield c.edit("another function", node.start, node.end, ("lib.Dec." if name in ("leb", "ltb") else "") + LIBRARY_PAIRS[name])
+        for other in known.siblings(name, home):
+            known_here = home == c.module or c.imports.get(other) == home
+            yield c.edit("another function", node.start, node.end, other if known_here else "%s.%s" % (home, other), other if known_here else "%s.%s" % (home, other))
 
 
 def stepped(c, known):
@@ -451,10 +477,10 @@ def answered(c, known, others):
 KINDS = [listed, reckoned, applied, compared, branched, counted, replaced, stepped, premised]
 
 
-def edits(text, known):
+def edits(text, module, known):
     """Every edit of a file, each once."""
     seen = {text}
-    found = list(clauses(text, known))
+    found = list(clauses(text, module, known))
     for k, c in enumerate(found):
         others = [o for o in found[k + 1:] + found[:k] if o.name == c.name and not c.rule]
         for made in [kind(c, known) for kind in KINDS] + [answered(c, known, others)]:
@@ -477,18 +503,18 @@ def write(path, text):
 
 
 def needed(root, crate):
-    """The lines of crates.txt for a crate and all that it rests on."""
+    """The lines of crates.txt for a crate and all that it rests on, as they stand there."""
     lines = {}
     for line in read(os.path.join(root, "crates.txt")).split("\n"):
-        m = re.match(r"(\w+):(.*)$", line.split("#")[0])
+        m = re.match(r"(\w+):", line)
         if m:
-            lines[m.group(1)] = m.group(2).split()
+            lines[m.group(1)] = line
     reached, todo = {}, [crate]
     while todo:
         name = todo.pop()
         if name in lines and name not in reached:
             reached[name] = lines[name]
-            todo += lines[name]
+            todo += lines[name].split()[1:]
     return reached
 
 
@@ -496,9 +522,9 @@ class Copy:
     """A small repository with a crate and the proved libraries below it, in which edits are tried."""
 
     def __init__(self, root, crate):
-        self.crate, self.root = crate, tempfile.mkdtemp(prefix="mutate-")
+        self.crate, self.root = crate, tempfile.mkdtemp(prefix="mutate-", dir=os.path.join(root, "target"))
         lines = needed(root, crate)
-        write(os.path.join(self.root, "crates.txt"), "".join("%s: %s\n" % (n, " ".join(d)) for n, d in lines.items()))
+        write(os.path.join(self.root, "crates.txt"), "\n".join(lines.values()) + "\n")
         for name in lines:
             shutil.copytree(os.path.join(root, "crates", name), os.path.join(self.root, "crates", name))
             for part in ("rlib/%s.rlib", "stamp/%s") if name != crate else ():
@@ -506,45 +532,56 @@ class Copy:
                 os.makedirs(os.path.dirname(here), exist_ok=True)
                 (shutil.copytree if os.path.isdir(there) else shutil.copy)(there, here)
         self.specs = os.path.join(self.root, "crates", crate, "specs")
-        self.lib = read(os.path.join(self.specs, "Lib.antt"))
-        self.dear = {n: read(os.path.join(self.specs, n + ".antt")) for n in DEAR if os.path.exists(os.path.join(self.specs, n + ".antt"))}
+        self.texts = {name[:-5]: read(os.path.join(self.specs, name)) for name in os.listdir(self.specs)}
+        self.order = re.findall(r"^pub mod (\w+)$", self.texts["Lib"], re.M)
 
-    def put(self, dear):
-        """The crate with its dear rows, or without them."""
-        lib = self.lib
-        for name, text in self.dear.items():
+    def uses(self, name):
+        """The files of the crate that a file imports."""
+        return {m.split(".")[0] for m in re.findall(r"^use Rattle\.%s\.specs\.([^\s{]+)" % self.crate, self.texts[name], re.M)}
+
+    def needs(self, names):
+        """The files with all that they import."""
+        found, todo = set(), list(names)
+        while todo:
+            name = todo.pop()
+            if name not in found:
+                found.add(name)
+                todo += self.uses(name)
+        return found
+
+    def stages(self, name):
+        """What an edit of a file is tried on: the rows beside it that need the fewest files, then all rows but the dear ones, then all."""
+        beside = [self.needs([row, name]) for row in self.order if ROWS.search(row) and name in self.uses(row)]
+        if beside:
+            yield min(beside, key=lambda names: (sum(len(self.texts[n]) for n in names), sorted(names)))
+        yield set(self.order) - set(DEAR)
+        if set(self.order) & set(DEAR):
+            yield set(self.order)
+
+    def put(self, names, edited):
+        """Just these files, with the text of the edited one."""
+        for name in self.order:
             path = os.path.join(self.specs, name + ".antt")
-            if dear:
-                write(path, text)
-            else:
-                lib = lib.replace("pub mod %s\n" % name, "")
-                if os.path.exists(path):
-                    os.remove(path)
-        write(os.path.join(self.specs, "Lib.antt"), lib)
+            if name in names:
+                write(path, edited.get(name, self.texts[name]))
+            elif os.path.exists(path):
+                os.remove(path)
+        write(os.path.join(self.specs, "Lib.antt"), "".join("pub mod %s\n" % name for name in self.order if name in names))
 
-    def outcome(self):
-        """What the check says of the crate as it stands, and where."""
-        for dear in ([False, True] if self.dear else [True]):
-            self.put(dear)
+    def attempt(self, name, what, text):
+        """What the check says of the crate with an edit, and where; an error at what was edited, or at what could not use it, means that it is no definition."""
+        for names in self.stages(name):
+            self.put(names, {name: text})
             done = subprocess.run(["rt", "dev", self.crate], cwd=self.root, capture_output=True, text=True, env=dict(os.environ, RT_JOBS="1", RT_CUT="0"))
             if done.returncode == 0:
                 continue
             said = done.stdout + done.stderr
             places = re.findall(r"specs/(\w+)\.antt:\d+:\d+: error: (.*)", said)
-            wrong = [p for p in places if not ROWS.search(p[0])]
+            wrong = [p for p in places if p[1].startswith("`%s`" % what) or "not admitted" in p[1]]
             if done.returncode == 1 and places and not wrong:
                 return "refused", "%s: %s" % (places[0][0], short(places[0][1]))
             return "no text", "%s: %s" % (wrong[0][0], short(wrong[0][1])) if wrong else short(said.strip().split("\n")[-1])
         return "PASSES", ""
-
-    def attempt(self, name, text):
-        path = os.path.join(self.specs, name + ".antt")
-        before = read(path)
-        write(path, text)
-        try:
-            return self.outcome()
-        finally:
-            write(path, before)
 
 
 def short(text):
@@ -553,7 +590,7 @@ def short(text):
 
 
 def gather(root, what):
-    """The edits that were asked for: (crate, file, words, the whole text with it)."""
+    """The edits that were asked for: (crate, file, name of what is edited, words, the whole text with it)."""
     texts = {}
     for crate in CRATES:
         folder = os.path.join(root, "crates", crate, "specs")
@@ -562,10 +599,10 @@ def gather(root, what):
                 texts[crate, name[:-5]] = read(os.path.join(folder, name))
     known = Known(texts)
     for (crate, name), text in texts.items():
-        for number, (line, kind, old, new, whole) in enumerate(edits(text, known)):
+        for number, (edited, line, kind, old, new, whole) in enumerate(edits(text, "Rattle.%s.specs.%s" % (crate, name), known)):
             label = "%s/%s" % (crate, name)
             if not what or crate in what or label in what or "%s:%d" % (label, number) in what:
-                yield crate, name, "%s:%d line %d, %s: `%s` becomes `%s`" % (label, number, line, kind, short(old), short(new)), whole
+                yield crate, name, edited, "%s:%d line %d, %s: `%s` becomes `%s`" % (label, number, line, kind, short(old), short(new)), whole
 
 
 def attempt_all(root, crate, chosen, jobs, show):
@@ -574,8 +611,8 @@ def attempt_all(root, crate, chosen, jobs, show):
     tally = Counter()
 
     def share(k):
-        for _, name, words, text in chosen[k::jobs]:
-            outcome, where = copies[k].attempt(name, text)
+        for _, name, edited, words, text in chosen[k::jobs]:
+            outcome, where = copies[k].attempt(name, edited, text)
             tally[outcome] += 1
             if show or outcome == "PASSES":
                 print(outcome, words, "(%s)" % where if where else "", flush=True)
@@ -602,7 +639,7 @@ def main():
     if options.sample is not None and options.sample < len(chosen):
         chosen = random.Random(options.seed).sample(chosen, options.sample)
     if options.verb == "list":
-        for _, _, words, _ in chosen:
+        for _, _, _, words, _ in chosen:
             print(words)
         print("%d edits" % len(chosen))
         return

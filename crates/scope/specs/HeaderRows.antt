@@ -18,18 +18,18 @@ bytesOf32 [] = []
 bytesOf32 (n ∷ ns) = n / 16777216 % 256 ∷ n / 65536 % 256 ∷ n / 256 % 256 ∷ n % 256 ∷ bytesOf32 ns
 
 -- the header's numbers
-abbrev pub header : List ℕ
+abbrev header : List ℕ
 header = 1 ∷ 2 ∷ 56 ∷ 3 ∷ 66 ∷ 1 ∷ 69 ∷ 9 ∷ 73 ∷ 3 ∷ 75 ∷ 1 ∷ 76 ∷ 108 ∷ []
 
 -- the dossier with another header; its other bytes are 100, 101, ..
-abbrev pub headed : List ℕ → List ℕ
+abbrev headed : List ℕ → List ℕ
 headed numbers = bytesOf32 numbers ++ tabulate 52 (λ k. 100 + k)
 
-abbrev pub dossier : List ℕ
+abbrev dossier : List ℕ
 dossier = headed header
 
 -- the dossier with number j replaced
-abbrev with : (j n : ℕ) → List ℕ
+abbrev pub with : (j n : ℕ) → List ℕ
 with j n = headed (take j header ++ n ∷ drop (suc j) header)
 
 numbers : Hold (
@@ -63,6 +63,7 @@ refusals : Hold (
     ∷ checkHeader (with 0 0) is refused (Header 0)
     ∷ checkHeader (with 0 2) is refused (Header 0)
     ∷ checkHeader (with 1 0) is refused (Header 4)
+    ∷ checkHeader (with 1 1) is refused (Header 16)
     ∷ checkHeader (with 1 10) is refused (Header 12)
     ∷ checkHeader (with 1 11) is refused (Header 4)
     ∷ checkHeader (with 2 55) is refused (Header 8)

@@ -1,5 +1,6 @@
 -- The machine, computed: each rule with just enough room and with one cell or one frame less, and how each kind of term is run, on old ones and on old zeros.
 use mathlib.Core.Path.{_≡_, refl}
+use mathlib.Core.Bool.{Bool, true, false}
 use mathlib.Core.List.{List, [], _∷_, _++_}
 use Prim.Native.Nat.{ℕ, zero, suc, _+_}
 use lib.ListN.{getD}
@@ -48,9 +49,9 @@ bits-put : Hold (
 unfolding Hold putBits copyCells tabulateFrom
 bits-put = refl
 
--- a read frame of cells 0 to 2 with its cursor at 1, a write frame of cells 3 to 6 with its cursor at 4
+-- a read frame of cells 0 to 2 with its cursor at 1, a write frame of cells 3 to 6 with its cursor at 5
 abbrev S : State
-S = state (cells (1 ∷ 0 ∷ 1 ∷ []) 0) (frame 1 0 3 ∷ []) (frame 4 3 4 ∷ []) 7
+S = state (cells (1 ∷ 0 ∷ 1 ∷ []) 0) (frame 1 0 3 ∷ []) (frame 5 3 4 ∷ []) 7
 
 -- no frame
 abbrev bare : State
@@ -62,10 +63,12 @@ upTo nx = state (cells [] 0) (frame 5 4 3 ∷ frame 1 0 2 ∷ []) (frame 2 2 2 �
 
 rules : Hold (
     -- a frame above all frames, within the cells and the frames there are; old bits stay
-    shown 0 8 (newFrame 9 3 2 S) is done (view (1 ∷ 0 ∷ 1 ∷ 0 ∷ 0 ∷ 0 ∷ 0 ∷ 0 ∷ []) (frame 1 0 3 ∷ []) (frame 7 7 2 ∷ frame 4 3 4 ∷ []) 9)
-    ∷ shown 0 1 (newFrame 7 3 0 S) is done (view (1 ∷ []) (frame 1 0 3 ∷ []) (frame 7 7 0 ∷ frame 4 3 4 ∷ []) 7)
+    shown 0 8 (newFrame 9 3 2 S) is done (view (1 ∷ 0 ∷ 1 ∷ 0 ∷ 0 ∷ 0 ∷ 0 ∷ 0 ∷ []) (frame 1 0 3 ∷ []) (frame 7 7 2 ∷ frame 5 3 4 ∷ []) 9)
+    ∷ shown 0 1 (newFrame 7 3 0 S) is done (view (1 ∷ []) (frame 1 0 3 ∷ []) (frame 7 7 0 ∷ frame 5 3 4 ∷ []) 7)
     ∷ shown 0 0 (newFrame 8 3 2 S) is stuck
     ∷ shown 0 0 (newFrame 9 2 2 S) is stuck
+    ∷ shown 0 0 (newFrame 9 4 2 (upTo 7)) is done (view [] (frame 5 4 3 ∷ frame 1 0 2 ∷ []) (frame 7 7 2 ∷ frame 2 2 2 ∷ []) 9)
+    ∷ shown 0 0 (newFrame 9 3 2 (upTo 7)) is stuck
     -- the write frame becomes the read frame, its cursor at its start
     ∷ shown 0 3 (moveFrame S) is done (view (1 ∷ 0 ∷ 1 ∷ []) (frame 3 3 4 ∷ frame 1 0 3 ∷ []) [] 7)
     ∷ shown 0 0 (moveFrame bare) is stuck
@@ -75,28 +78,29 @@ rules : Hold (
     ∷ shown 0 0 (dropFrame (upTo 8)) is stuck
     ∷ shown 0 0 (dropFrame bare) is stuck
     -- bits from the write cursor on, as far as the frame goes
-    ∷ shown 3 5 (writeBits (1 ∷ 0 ∷ 1 ∷ []) S) is done (view (0 ∷ 1 ∷ 0 ∷ 1 ∷ 0 ∷ []) (frame 1 0 3 ∷ []) (frame 7 3 4 ∷ []) 7)
-    ∷ shown 0 0 (writeBits (1 ∷ 0 ∷ 1 ∷ 1 ∷ []) S) is stuck
+    ∷ shown 3 5 (writeBits (1 ∷ 1 ∷ []) S) is done (view (0 ∷ 0 ∷ 1 ∷ 1 ∷ 0 ∷ []) (frame 1 0 3 ∷ []) (frame 7 3 4 ∷ []) 7)
+    ∷ shown 3 5 (writeBits (1 ∷ []) S) is done (view (0 ∷ 0 ∷ 1 ∷ 0 ∷ 0 ∷ []) (frame 1 0 3 ∷ []) (frame 6 3 4 ∷ []) 7)
+    ∷ shown 0 0 (writeBits (1 ∷ 0 ∷ 1 ∷ []) S) is stuck
     ∷ shown 0 0 (writeBits (1 ∷ []) bare) is stuck
     ∷ shown 0 0 (writeBits [] bare) is done (view [] [] [] 7)
     -- the write cursor alone
-    ∷ shown 0 3 (skip 3 S) is done (view (1 ∷ 0 ∷ 1 ∷ []) (frame 1 0 3 ∷ []) (frame 7 3 4 ∷ []) 7)
-    ∷ shown 0 0 (skip 4 S) is stuck
+    ∷ shown 0 3 (skip 2 S) is done (view (1 ∷ 0 ∷ 1 ∷ []) (frame 1 0 3 ∷ []) (frame 7 3 4 ∷ []) 7)
+    ∷ shown 0 0 (skip 3 S) is stuck
     ∷ shown 0 0 (skip 1 bare) is stuck
     ∷ shown 0 0 (skip 0 bare) is done (view [] [] [] 7)
     -- from the read cursor to the write cursor, as far as both frames go
-    ∷ shown 3 5 (copy 2 S) is done (view (0 ∷ 0 ∷ 1 ∷ 0 ∷ 0 ∷ []) (frame 1 0 3 ∷ []) (frame 6 3 4 ∷ []) 7)
-    ∷ shown 0 0 (copy 3 S) is stuck
-    ∷ shown 0 0 (copy 2 (state (cells [] 0) (frame 1 0 3 ∷ []) (frame 6 3 4 ∷ []) 7)) is stuck
+    ∷ shown 3 5 (copy 2 S) is done (view (0 ∷ 0 ∷ 0 ∷ 1 ∷ 0 ∷ []) (frame 1 0 3 ∷ []) (frame 7 3 4 ∷ []) 7)
+    ∷ shown 0 0 (copy 3 (state (cells [] 0) (frame 1 0 3 ∷ []) (frame 4 3 4 ∷ []) 7)) is stuck
+    ∷ shown 0 0 (copy 3 (state (cells [] 0) (frame 0 0 3 ∷ []) (frame 5 3 4 ∷ []) 7)) is stuck
     ∷ shown 0 0 (copy 1 (state (cells [] 0) [] (frame 4 3 4 ∷ []) 7)) is stuck
     ∷ shown 0 0 (copy 1 (state (cells [] 0) (frame 1 0 3 ∷ []) [] 7)) is stuck
     ∷ shown 0 0 (copy 0 bare) is done (view [] [] [] 7)
     -- the read cursor on and back, within its frame
-    ∷ shown 0 3 (fwd 2 S) is done (view (1 ∷ 0 ∷ 1 ∷ []) (frame 3 0 3 ∷ []) (frame 4 3 4 ∷ []) 7)
+    ∷ shown 0 3 (fwd 2 S) is done (view (1 ∷ 0 ∷ 1 ∷ []) (frame 3 0 3 ∷ []) (frame 5 3 4 ∷ []) 7)
     ∷ shown 0 0 (fwd 3 S) is stuck
     ∷ shown 0 0 (fwd 1 bare) is stuck
     ∷ shown 0 0 (fwd 0 bare) is done (view [] [] [] 7)
-    ∷ shown 0 3 (back 1 S) is done (view (1 ∷ 0 ∷ 1 ∷ []) (frame 0 0 3 ∷ []) (frame 4 3 4 ∷ []) 7)
+    ∷ shown 0 3 (back 1 S) is done (view (1 ∷ 0 ∷ 1 ∷ []) (frame 0 0 3 ∷ []) (frame 5 3 4 ∷ []) 7)
     ∷ shown 0 1 (back 2 (upTo 7)) is stuck
     ∷ shown 0 0 (back 1 bare) is stuck
     ∷ shown 0 0 (back 0 bare) is done (view [] [] [] 7)
@@ -183,6 +187,38 @@ runs : Hold (
 unfolding Hold shown exec
 runs = refl
 
+-- a comp within each kind of term: it needs a frame and a place above the frames, of the cells and frames that the whole has
+abbrev inner : Term
+inner = comp one unit unit
+
+unfoldable pub isDone : Step → Bool
+isDone (done s) = true
+isDone (failed p s) = false
+isDone (pruned p s) = false
+isDone stuck = false
+
+-- with as many frames as it takes, and with one less
+abbrev framed : Term → (tag frames : ℕ) → List Bool
+framed t tag n = isDone (exec 20 (suc n) t (on tag 0)) ∷ isDone (exec 20 n t (on tag 0)) ∷ []
+
+rooms-within : Hold (
+    framed inner 0 2 is (true ∷ false ∷ [])
+    ∷ framed (injl one one inner) 0 2 is (true ∷ false ∷ [])
+    ∷ framed (injr one one inner) 0 2 is (true ∷ false ∷ [])
+    ∷ framed (pair one inner unit) 0 2 is (true ∷ false ∷ [])
+    ∷ framed (pair one unit inner) 0 2 is (true ∷ false ∷ [])
+    ∷ framed (take inner) 0 2 is (true ∷ false ∷ [])
+    ∷ framed (drop b1 inner) 0 2 is (true ∷ false ∷ [])
+    ∷ framed (case b1 b1 inner unit) 0 2 is (true ∷ false ∷ [])
+    ∷ framed (case b1 b1 unit inner) 1 2 is (true ∷ false ∷ [])
+    ∷ framed (assertl 5 b1 b1 inner) 0 2 is (true ∷ false ∷ [])
+    ∷ framed (assertr 6 b1 b1 inner) 1 2 is (true ∷ false ∷ [])
+    ∷ framed (comp one inner unit) 0 3 is (true ∷ false ∷ [])
+    ∷ framed (comp one unit inner) 0 3 is (true ∷ false ∷ [])
+    ∷ [])
+unfolding Hold isDone exec
+rooms-within = refl
+
 -- the word of 2 ^ k ones
 unfoldable pub ones : (k : ℕ) → Val
 ones zero = i
@@ -197,6 +233,11 @@ disconnects : Hold (
     disconnected 273 4 is wrote (0 ∷ 1 ∷ 0 ∷ 1 ∷ 0 ∷ 0 ∷ 1 ∷ 1 ∷ []) 4
     ∷ disconnected 272 4 is stuck
     ∷ disconnected 273 3 is stuck
+    -- the same with a comp in the left child, and in the right one
+    ∷ shown 0 0 (exec 273 5 (disconnect b1 one one (ones 8) (comp one unit (pair one unit unit)) unit) (on 0 0)) is wrote [] 0
+    ∷ shown 0 0 (exec 273 4 (disconnect b1 one one (ones 8) (comp one unit (pair one unit unit)) unit) (on 0 0)) is stuck
+    ∷ shown 0 0 (exec 273 5 (disconnect b1 one one (ones 8) (pair one unit unit) inner) (on 0 0)) is wrote [] 0
+    ∷ shown 0 0 (exec 273 4 (disconnect b1 one one (ones 8) (pair one unit unit) inner) (on 0 0)) is stuck
     -- the hash stands before the input, and what the left child writes after both
     ∷ shown 267 8 (exec 273 4 (disconnect b1 b2 b1 (ones 8) (drop (wordTy 8) (pair b2 (witness b2 (i & o)) (iden b1))) unit) (on 0 0))
     is wrote (1 ∷ 1 ∷ 0 ∷ 1 ∷ 0 ∷ 0 ∷ 0 ∷ 0 ∷ []) 2
@@ -209,6 +250,14 @@ machines : Hold (
     shown 0 5 (machine 4 2 (injr one b1 (iden b1)) b1 (sum one b1) i (cells [] 0)) is done (view (1 ∷ 1 ∷ 1 ∷ 0 ∷ 0 ∷ []) (frame 0 0 1 ∷ []) (frame 3 1 2 ∷ []) 3)
     ∷ shown 0 3 (machine 2 1 (witness b2 (o & i)) one b2 ⟨⟩ (cells [] 1)) is done (view (0 ∷ 1 ∷ 1 ∷ []) [] (frame 2 0 2 ∷ []) 2)
     ∷ shown 0 3 (machine 3 1 unit (sum one b2) one (inl ⟨⟩) (cells [] 1)) is done (view (0 ∷ 0 ∷ 0 ∷ []) (frame 0 0 3 ∷ []) [] 3)
+    -- a cell or a frame less than input, output or the run need
+    ∷ shown 0 0 (machine 2 9 unit (sum one b2) one (inl ⟨⟩) (cells [] 1)) is stuck
+    ∷ shown 0 0 (machine 9 0 unit (sum one b2) one (inl ⟨⟩) (cells [] 1)) is stuck
+    ∷ shown 0 0 (machine 1 9 (iden b1) b1 b1 i (cells [] 1)) is stuck
+    ∷ shown 0 0 (machine 9 1 (iden b1) b1 b1 i (cells [] 1)) is stuck
+    ∷ shown 0 0 (machine 0 1 inner one one ⟨⟩ (cells [] 1)) is done (view [] [] [] 0)
+    ∷ shown 0 0 (machine 9 0 inner one one ⟨⟩ (cells [] 1)) is stuck
+    ∷ shown 0 0 (machine 0 9 (comp b1 (witness b1 o) unit) one one ⟨⟩ (cells [] 1)) is stuck
     ∷ [])
 unfolding Hold shown machine
 machines = refl

@@ -8,7 +8,7 @@ use Rattle.report.specs.Lines.{Line, _is_, Hold}
 use Rattle.report.specs.Bits.{Bit}
 use Rattle.report.specs.Nodes.{Node, comp, case, pair, disconnect, injl, injr, take, drop, disconnect1, iden, unit, witness, fail, hidden, word}
 use Rattle.scope.specs.Numbers.{tabulate}
-use Rattle.scope.specs.Nodes.{Kind, kComp, kCase, kPair, kDisconnect, kInjl, kInjr, kTake, kDrop, kIden, kUnit, kFail, kDisconnect1, kWitness, kHidden, kWord, kUnknown, kindOf, NodeRecord, nodeRecords, nodeNumbersOf, nodesOf, nodeAt, onHidden, onDisconnect, onOneChild, onWitness}
+use Rattle.scope.specs.Nodes.{Kind, kComp, kCase, kPair, kDisconnect, kInjl, kInjr, kTake, kDrop, kIden, kUnit, kFail, kDisconnect1, kWitness, kHidden, kWord, kUnknown, kindOf, NodeRecord, nodeRecord, nodeRecords, nodeNumbersOf, nodesOf, nodeAt, onHidden, onDisconnect, onOneChild, onWitness}
 
 kinds : Hold (
     tabulate 16 kindOf
@@ -23,8 +23,10 @@ row k a b c = record { kind = k; first = a; second = b; third = c }
 -- four numbers a record; odd numbers at the end are of none
 records : Hold (
     nodeRecords (1 ∷ 2 ∷ 3 ∷ 4 ∷ 5 ∷ 6 ∷ 7 ∷ 8 ∷ 9 ∷ 9 ∷ 9 ∷ []) is (row 1 2 3 4 ∷ row 5 6 7 8 ∷ [])
+    -- a number past the end is 0
+    ∷ (nodeRecord [] 0 ∷ nodeRecord (1 ∷ 2 ∷ 3 ∷ 4 ∷ 5 ∷ []) 1 ∷ []) is (row 0 0 0 0 ∷ row 5 0 0 0 ∷ [])
     ∷ [])
-unfolding Hold nodeRecords
+unfolding Hold nodeRecords nodeRecord
 records = refl
 
 stored : Hold (

@@ -22,9 +22,9 @@ values-from : Hold (
 unfolding Hold valueFrom
 values-from = refl
 
--- unit, b1, b2, b1 + b2, (b1 + b2) × b2, b2 × (b1 + b2)
+-- unit, b1, b2, b1 + b2, (b1 + b2) × unit, b2 × (b1 + b2)
 abbrev types : List TypeRecord
-types = ty 0 0 0 ∷ ty 1 0 0 ∷ ty 2 1 1 ∷ ty 1 1 2 ∷ ty 2 3 2 ∷ ty 2 2 3 ∷ []
+types = ty 0 0 0 ∷ ty 1 0 0 ∷ ty 2 1 1 ∷ ty 1 1 2 ∷ ty 2 3 0 ∷ ty 2 2 3 ∷ []
 
 -- node 2 is hidden; the hash of node 1 is 0, that of node 2 is 1
 abbrev P : Program
@@ -37,7 +37,7 @@ P = record {
 }
 
 arrows-typed : Hold (
-    sourceTy P 3 is prod (sum b1 b2) b2
+    sourceTy P 3 is prod (sum b1 b2) one
     ∷ targetTy P 3 is prod b2 (sum b1 b2)
     ∷ [])
 unfolding Hold sourceTy targetTy
@@ -50,13 +50,13 @@ terms : Hold (
     ∷ termOf P 3 (Node.case 0 2) fail is assertl 3 b1 b2 (fail 0)
     ∷ termOf P 3 (Node.case 2 1) fail is assertr 3 b1 b2 (fail 1)
     ∷ termOf P 3 (Node.case 2 2) fail is bad
-    ∷ termOf P 3 (Node.disconnect 0 1) fail is disconnect (prod (sum b1 b2) b2) b2 (sum b1 b2) o (fail 0) (fail 1)
-    ∷ termOf P 4 (Node.injl 0) fail is injl b1 b2 (fail 0)
-    ∷ termOf P 4 (Node.injr 0) fail is injr b1 b2 (fail 0)
+    ∷ termOf P 3 (Node.disconnect 0 1) fail is disconnect (prod (sum b1 b2) one) b2 (sum b1 b2) o (fail 0) (fail 1)
+    ∷ termOf P 4 (Node.injl 1) fail is injl b1 b2 (fail 1)
+    ∷ termOf P 4 (Node.injr 1) fail is injr b1 b2 (fail 1)
     ∷ termOf P 3 (Node.take 0) fail is take (fail 0)
     ∷ termOf P 3 (Node.drop 0) fail is drop (sum b1 b2) (fail 0)
     ∷ termOf P 3 (Node.disconnect1 0) fail is bad
-    ∷ termOf P 3 Node.iden fail is iden (prod (sum b1 b2) b2)
+    ∷ termOf P 3 Node.iden fail is iden (prod (sum b1 b2) one)
     ∷ termOf P 3 Node.unit fail is unit
     ∷ termOf P 4 Node.witness fail is witness (sum b1 b2) (inl i)
     -- past the values a witness is the empty one

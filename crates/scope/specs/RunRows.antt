@@ -20,7 +20,7 @@ use Rattle.scope.specs.Program.{Program}
 use Rattle.scope.specs.Machine.{State, state}
 use Rattle.scope.specs.Run.{Tables, programOf, Ready, checkTables, checkReady, Left, leftWith, cellsOf, packed, cleared, written, ends, runTables, tablesOf}
 use Rattle.scope.specs.Shorthand.{ty, to, row, table}
-use Rattle.scope.specs.HeaderRows.{dossier, bytesOf32}
+use Rattle.scope.specs.HeaderRows.{with, bytesOf32}
 
 -- the value of 2 ^ k times the same bit
 unfoldable pub word-of : (k : ℕ) → Val → Val
@@ -56,9 +56,9 @@ tables-in-turn : Hold (
 unfolding Hold checkTables
 tables-in-turn = refl
 
--- the sections of the dossier of HeaderRows, whose nodes were decoded
+-- the sections of the dossier of HeaderRows, whatever its version, whose nodes were decoded
 abbrev T : Tables
-T = tablesOf dossier (table (row 14 4 2 ∷ row 13 1 0 ∷ []) (tabulate 40 (λ k. k)) 0)
+T = tablesOf (with 0 2) (table (row 14 4 2 ∷ row 13 1 0 ∷ []) (tabulate 40 (λ k. k)) 0)
 
 sections : Hold (
     T .given is tabulate 32 (λ k. 120 + k)

@@ -13,7 +13,7 @@ use Rattle.scope.specs.Check.{Check, passed, refused}
 use Rattle.scope.specs.Numbers.{zeros, tabulate}
 use Rattle.scope.specs.Nodes.{Kind, kComp, kCase, kPair, kDisconnect, kInjl, kInjr, kTake, kDrop, kIden, kUnit, kFail, kDisconnect1, kWitness, kHidden, kWord, kUnknown}
 use Rattle.scope.specs.Run.{Left}
-use Rattle.scope.specs.Stages.{counted, numbersRule, recordRule, checkRecords, walkStage, arrowStage, hashStage, boundsStage, runStage}
+use Rattle.scope.specs.Stages.{counted, numbersRule, noRecord, recordRule, checkRecords, walkStage, arrowStage, hashStage, boundsStage, runStage}
 use Rattle.scope.specs.Shorthand.{row}
 
 -- record 3 of a kind with these numbers, beside 8 bits of program and 70 bytes of hashes
@@ -65,6 +65,9 @@ numbers-of-kinds : Hold (
 unfolding Hold numbersRule recordRule
 numbers-of-kinds = refl
 
+no-record : noRecord ≡ row 15 0 0
+no-record = refl
+
 abbrev unitNode : List ℕ
 unitNode = 9 ∷ 0 ∷ 0 ∷ 0 ∷ []
 
@@ -105,11 +108,13 @@ stages : Hold (
     ∷ walkStage [] [] (zeros (nodeNumbers * (nodeCount + 1))) is refused (BadNatural 0)
     ∷ walkStage [] [] (9 ∷ 0 ∷ 0 ∷ []) is refused (BadNatural 0)
     ∷ walkStage (0x24 ∷ []) [] unitNode is passed tt
+    ∷ walkStage (zeros dossierBytes) [] unitNode is passed tt
     ∷ walkStage (0 ∷ []) [] (14 ∷ 4 ∷ 0 ∷ 0 ∷ []) is passed tt
     ∷ walkStage [] (zeros 32) hiddenComp is refused (HiddenElsewhere 2)
     -- the arrows' stage: 4 of nodes and of types, 26, 1, 2, 6 to 9, 11 and 12
     ∷ arrowStage unitType unitNode (zeros 4) [] [] is passed tt
     ∷ arrowStage unitType unitNode (zeros 5) [] [] is passed tt
+    ∷ arrowStage unitType unitNode (zeros 4) (zeros dossierBytes) [] is passed tt
     ∷ arrowStage unitType [] [] tooLong [] is refused (BadNatural 0)
     ∷ arrowStage unitType (zeros (nodeNumbers * (nodeCount + 1))) [] tooLong [] is refused (BadNatural 0)
     ∷ arrowStage [] badNode [] tooLong [] is refused (BadNatural 0)
@@ -157,6 +162,9 @@ runs : Hold (
     ∷ runStage unitType badNode (zeros 4) (36 ∷ []) [] (zeros 32) [] 1 [] 1 (9 ∷ []) [] [] is left (Refused (BadNodeRecord 0)) (9 ∷ []) [] []
     ∷ runStage unitType unitNode (zeros 4) (36 ∷ []) [] (zeros 32) [] 1 [] 1 (9 ∷ []) [] [] is left (Refused (Hash 1)) (9 ∷ []) [] []
     ∷ runStage unitType unitNode (zeros 4) (36 ∷ []) [] [] [] 0 [] 0 (9 ∷ []) (8 ∷ []) [] is left (Refused (StoreShort 1)) (9 ∷ []) (8 ∷ []) []
+    -- a word is of the program's bits
+    ∷ runStage (unitType ++ 1 ∷ 0 ∷ 0 ∷ 0 ∷ 0 ∷ []) (14 ∷ 1 ∷ 7 ∷ 0 ∷ []) (0 ∷ 0 ∷ 0 ∷ 1 ∷ []) (1 ∷ []) [] [] [] 0 [] 0 (0 ∷ []) (replicate 6 8) (7 ∷ [])
+    is left (Value 1) (128 ∷ []) (zeros 6) (128 ∷ [])
     -- witness and input are told apart
     ∷ runStage (unitType ++ 1 ∷ 0 ∷ 0 ∷ 0 ∷ 0 ∷ []) (12 ∷ 0 ∷ 0 ∷ 0 ∷ []) (0 ∷ 1 ∷ 0 ∷ 1 ∷ []) (56 ∷ []) [] [] (128 ∷ []) 1 (0 ∷ []) 1 (0 ∷ []) (replicate 6 8) (7 ∷ [])
     is left (Value 1) (64 ∷ []) (zeros 6) (128 ∷ [])

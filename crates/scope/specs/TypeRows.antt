@@ -18,9 +18,11 @@ table = ty 0 0 0 ∷ ty 1 0 0 ∷ ty 2 1 1 ∷ ty 1 1 2 ∷ ty 2 1 2 ∷ []
 -- five bytes a record; odd bytes at the end are of none
 records : Hold (
     typeRecords (0 ∷ 0 ∷ 0 ∷ 0 ∷ 0 ∷ 2 ∷ 1 ∷ 2 ∷ 3 ∷ 4 ∷ 9 ∷ 9 ∷ 9 ∷ 9 ∷ []) is (ty 0 0 0 ∷ ty 2 0x0102 0x0304 ∷ [])
+    -- a byte past the end is 0, and a record past the table of no tag
+    ∷ (typeRecord [] 0 ∷ typeRecord (2 ∷ 1 ∷ []) 0 ∷ []) is (ty 0 0 0 ∷ ty 2 256 0 ∷ [])
     ∷ (typeAt table 3 ∷ typeAt table 5 ∷ []) is (ty 1 1 2 ∷ ty 3 0 0 ∷ [])
     ∷ [])
-unfolding Hold typeRecords typeAt
+unfolding Hold typeRecords typeRecord typeAt
 records = refl
 
 types : Hold (
