@@ -1,0 +1,81 @@
+-- What each public call promises has one outcome: over the call's own promise, `Post`, two results, and a store that is left, are the same.
+use mathlib.Core.Path.{_≡_, sym, _∙_}
+use mathlib.Core.List.{List}
+use Prim.Native.Nat.{ℕ}
+use borrow.Fn.Kinds.{PK, RK, Out, Dens, endedOf, resT}
+use contract.Lifetimes.{Lfts}
+use denote.Ref.{now}
+use denote.Triple.Clauses.{AtExit}
+use Rattle.common.specs.Answers.{OneResult, check-tells}
+use Rattle.common.proofs.first_refusal.Kinds as first-refusal-kinds
+use Rattle.common.proofs.first_refusal.Reads as first-refusal-reads
+use Rattle.common.proofs.place16.Kinds as place16-kinds
+use Rattle.common.proofs.place16.Reads as place16-reads
+use Rattle.common.proofs.place32.Kinds as place32-kinds
+use Rattle.common.proofs.place32.Reads as place32-reads
+use Rattle.common.proofs.wide32.Kinds as wide32-kinds
+use Rattle.common.proofs.wide32.Reads as wide32-reads
+use Rattle.common.proofs.byte_at.Kinds as byte-at-kinds
+use Rattle.common.proofs.byte_at.Reads as byte-at-reads
+use Rattle.common.proofs.number16.Kinds as number16-kinds
+use Rattle.common.proofs.number16.Reads as number16-reads
+use Rattle.common.proofs.number32.Kinds as number32-kinds
+use Rattle.common.proofs.number32.Reads as number32-reads
+use Rattle.common.proofs.part.Kinds as part-kinds
+use Rattle.common.proofs.part.Reads as part-reads
+use Rattle.common.proofs.same_bytes.Kinds as same-bytes-kinds
+use Rattle.common.proofs.same_bytes.Reads as same-bytes-reads
+use Rattle.common.proofs.bytes_for.Kinds as bytes-for-kinds
+use Rattle.common.proofs.bytes_for.Reads as bytes-for-reads
+use Rattle.common.proofs.word_bits.Kinds as word-bits-kinds
+use Rattle.common.proofs.word_bits.Reads as word-bits-reads
+use Rattle.common.proofs.clear_numbers.Kinds as clear-numbers-kinds
+use Rattle.common.proofs.clear_numbers.Reads as clear-numbers-reads
+use Rattle.common.proofs.clear_bytes.Kinds as clear-bytes-kinds
+use Rattle.common.proofs.clear_bytes.Reads as clear-bytes-reads
+
+pub first-refusal : OneResult 0 first-refusal-kinds.ps first-refusal-kinds.r first-refusal-reads.Post
+first-refusal κs a s t x y p q = check-tells s t (p ∙ sym q)
+
+pub place16 : OneResult 0 place16-kinds.ps place16-kinds.r place16-reads.Post
+place16 κs a s t x y p q = p .0 ∙ sym (q .0)
+
+pub place32 : OneResult 0 place32-kinds.ps place32-kinds.r place32-reads.Post
+place32 κs a s t x y p q = p .0 ∙ sym (q .0)
+
+pub wide32 : OneResult 0 wide32-kinds.ps wide32-kinds.r wide32-reads.Post
+wide32 κs a s t x y p q = p .0 ∙ sym (q .0)
+
+pub byte-at : OneResult 1 byte-at-kinds.ps byte-at-kinds.r byte-at-reads.Post
+byte-at κs a s t x y p q = p ∙ sym q
+
+pub number16 : OneResult 1 number16-kinds.ps number16-kinds.r number16-reads.Post
+number16 κs a s t x y p q = p ∙ sym q
+
+pub number32 : OneResult 1 number32-kinds.ps number32-kinds.r number32-reads.Post
+number32 κs a s t x y p q = p ∙ sym q
+
+-- a part is told by its bytes
+pub part : (κs : Lfts 1) (a : Dens κs part-kinds.ps) (s t : resT part-kinds.r κs .Denot) (x y : AtExit (endedOf 1 part-kinds.ps part-kinds.r) κs)
+    → part-reads.Post κs a s x → part-reads.Post κs a t y → now s ≡ now t
+part κs a s t x y p q = p ∙ sym q
+
+pub same-bytes : OneResult 2 same-bytes-kinds.ps same-bytes-kinds.r same-bytes-reads.Post
+same-bytes κs a s t x y p q = p ∙ sym q
+
+pub bytes-for : OneResult 0 bytes-for-kinds.ps bytes-for-kinds.r bytes-for-reads.Post
+bytes-for κs a s t x y p q = p .0 ∙ sym (q .0)
+
+pub word-bits : OneResult 0 word-bits-kinds.ps word-bits-kinds.r word-bits-reads.Post
+word-bits κs a s t x y p q = p .0 ∙ sym (q .0)
+
+-- a store that is cleared, as it is left
+abbrev OneStore : (ps : List (PK 1)) (r : RK 1) → (left : (κs : Lfts 1) → AtExit (endedOf 1 ps r) κs → List ℕ) → Out 1 ps r → Type 0
+OneStore ps r left Post =
+    (κs : Lfts 1) (a : Dens κs ps) (s t : resT r κs .Denot) (x y : AtExit (endedOf 1 ps r) κs) → Post κs a s x → Post κs a t y → left κs x ≡ left κs y
+
+pub clear-numbers : OneStore clear-numbers-kinds.ps clear-numbers-kinds.r (λ κs x. now (x .0)) clear-numbers-reads.Post
+clear-numbers κs a s t x y p q = p ∙ sym q
+
+pub clear-bytes : OneStore clear-bytes-kinds.ps clear-bytes-kinds.r (λ κs x. now (x .0)) clear-bytes-reads.Post
+clear-bytes κs a s t x y p q = p ∙ sym q
