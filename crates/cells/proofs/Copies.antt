@@ -11,7 +11,7 @@ use borrow.Author.Tests.{leb-true}
 use lib.Dec.{leb}
 use lib.ListN.{length, getD, set, take, drop, length-set, length-drop, List·getD-append}
 use lib.Seq.{sets, paste, length-paste, length-paste-head, length-take-le, getD-append-add, getD-take, getD-drop, getD-set-same, getD-set-other, ext-getD}
-use Rattle.cells.specs.Copying.{copyBits, bitsFrom}
+use Rattle.common.specs.Cells.{copyBits, bitsFrom}
 use Rattle.cells.proofs.Parts.{bits-set}
 
 -- the loop that copies

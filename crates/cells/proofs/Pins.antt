@@ -8,7 +8,7 @@ use lib.Seq.{sets}
 use Rattle.report.specs.Bits.{bitsOf}
 use Rattle.scope.specs.Numbers.{zeros}
 use Rattle.bititer.proofs.Bits.{Bytes, bits-tell}
-use Rattle.cells.specs.Copying.{copyBits, bitsFrom}
+use Rattle.common.specs.Cells.{copyBits, bitsFrom}
 
 -- two stores with the same bits
 same-store : (bits s t : List ℕ) → Bytes s → Bytes t → bitsOf s ≡ bits → bitsOf t ≡ bits → s ≡ t

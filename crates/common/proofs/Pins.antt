@@ -9,18 +9,18 @@ use denote.Triple.Clauses.{AtExit}
 use Rattle.common.specs.Answers.{OneResult, check-tells}
 use Rattle.common.proofs.first_refusal.Kinds as first-refusal-kinds
 use Rattle.common.proofs.first_refusal.Reads as first-refusal-reads
-use Rattle.common.proofs.place16.Kinds as place16-kinds
-use Rattle.common.proofs.place16.Reads as place16-reads
-use Rattle.common.proofs.place32.Kinds as place32-kinds
-use Rattle.common.proofs.place32.Reads as place32-reads
-use Rattle.common.proofs.wide32.Kinds as wide32-kinds
-use Rattle.common.proofs.wide32.Reads as wide32-reads
+use Rattle.common.proofs.index.Kinds as index-kinds
+use Rattle.common.proofs.index.Reads as index-reads
+use Rattle.common.proofs.place.Kinds as place-kinds
+use Rattle.common.proofs.place.Reads as place-reads
+use Rattle.common.proofs.wide.Kinds as wide-kinds
+use Rattle.common.proofs.wide.Reads as wide-reads
 use Rattle.common.proofs.byte_at.Kinds as byte-at-kinds
 use Rattle.common.proofs.byte_at.Reads as byte-at-reads
-use Rattle.common.proofs.number16.Kinds as number16-kinds
-use Rattle.common.proofs.number16.Reads as number16-reads
-use Rattle.common.proofs.number32.Kinds as number32-kinds
-use Rattle.common.proofs.number32.Reads as number32-reads
+use Rattle.common.proofs.half_at.Kinds as half-at-kinds
+use Rattle.common.proofs.half_at.Reads as half-at-reads
+use Rattle.common.proofs.number_at.Kinds as number-at-kinds
+use Rattle.common.proofs.number_at.Reads as number-at-reads
 use Rattle.common.proofs.part.Kinds as part-kinds
 use Rattle.common.proofs.part.Reads as part-reads
 use Rattle.common.proofs.same_bytes.Kinds as same-bytes-kinds
@@ -37,23 +37,23 @@ use Rattle.common.proofs.clear_bytes.Reads as clear-bytes-reads
 pub first-refusal : OneResult 0 first-refusal-kinds.ps first-refusal-kinds.r first-refusal-reads.Post
 first-refusal κs a s t x y p q = check-tells s t (p ∙ sym q)
 
-pub place16 : OneResult 0 place16-kinds.ps place16-kinds.r place16-reads.Post
-place16 κs a s t x y p q = p .0 ∙ sym (q .0)
+pub index : OneResult 0 index-kinds.ps index-kinds.r index-reads.Post
+index κs a s t x y p q = p .0 ∙ sym (q .0)
 
-pub place32 : OneResult 0 place32-kinds.ps place32-kinds.r place32-reads.Post
-place32 κs a s t x y p q = p .0 ∙ sym (q .0)
+pub place : OneResult 0 place-kinds.ps place-kinds.r place-reads.Post
+place κs a s t x y p q = p .0 ∙ sym (q .0)
 
-pub wide32 : OneResult 0 wide32-kinds.ps wide32-kinds.r wide32-reads.Post
-wide32 κs a s t x y p q = p .0 ∙ sym (q .0)
+pub wide : OneResult 0 wide-kinds.ps wide-kinds.r wide-reads.Post
+wide κs a s t x y p q = p .0 ∙ sym (q .0)
 
 pub byte-at : OneResult 1 byte-at-kinds.ps byte-at-kinds.r byte-at-reads.Post
 byte-at κs a s t x y p q = p ∙ sym q
 
-pub number16 : OneResult 1 number16-kinds.ps number16-kinds.r number16-reads.Post
-number16 κs a s t x y p q = p ∙ sym q
+pub half-at : OneResult 1 half-at-kinds.ps half-at-kinds.r half-at-reads.Post
+half-at κs a s t x y p q = p ∙ sym q
 
-pub number32 : OneResult 1 number32-kinds.ps number32-kinds.r number32-reads.Post
-number32 κs a s t x y p q = p ∙ sym q
+pub number-at : OneResult 1 number-at-kinds.ps number-at-kinds.r number-at-reads.Post
+number-at κs a s t x y p q = p ∙ sym q
 
 -- a part is told by its bytes
 pub part : (κs : Lfts 1) (a : Dens κs part-kinds.ps) (s t : resT part-kinds.r κs .Denot) (x y : AtExit (endedOf 1 part-kinds.ps part-kinds.r) κs)

@@ -1,5 +1,5 @@
 -- A list of bits and the machine's cells: what is done to the list is what the machine does to its cells.
--- Bits are copied one after the other, each from the list as it then is; a place past the end reads as 0, and a write there does nothing.
+-- Bits are copied one after the other, each from the list as it then is. A place past the end reads as 0, and a write there does nothing.
 use mathlib.Core.Path.{_≡_, refl, sym, ap, _∙_}
 use mathlib.Core.List.{List, [], _∷_}
 use Prim.Native.Nat.{ℕ, zero, suc, _+_, _≤_, _<_}
@@ -18,6 +18,11 @@ unfoldable pub copyBits : List Bit → (from to n : ℕ) → List Bit
 copyBits l from to zero = l
 copyBits l from to (suc n) = copyBits (set l to (getD l from 0)) (suc from) (suc to) n
 
+-- n bits of a list from p on; 0 past its end
+unfoldable pub bitsFrom : List Bit → (p n : ℕ) → List Bit
+bitsFrom l p zero = []
+bitsFrom l p (suc n) = getD l p 0 ∷ bitsFrom l (suc p) n
+
 pub length-copied : (l : List Bit) (from to n : ℕ) → length (copyBits l from to n) ≡ length l
 unfolding copyBits
 length-copied l from to zero = refl
@@ -35,13 +40,13 @@ setCell-other c q p b h = rw (ne-eqb q p h, setCell)
 -- setting a cell of the list is setting it in the cells, inside the list or not
 pub set-tabulate : (n : ℕ) (c : Cells) (p : ℕ) (b : Bit) → set (tabulate n c) p b ≡ tabulate n (setCell c p b)
 set-tabulate n c p b =
-    let e : length (set (tabulate n c) p b) ≡ n = length-set (tabulate n c) p b ∙ length-tabulate n c in
-    tabulated 0 (set (tabulate n c) p b) (setCell c p b) (λ j k. cell j (omega arith)) ∙ ap (λ (m : ℕ). tabulate m (setCell c p b)) e
+    let e : length (set (tabulate n c) p b) ≡ n = length-set (tabulate n c) p b ∙ length-tabulate c n in
+    tabulated (setCell c p b) 0 (set (tabulate n c) p b) (λ j k. cell j (omega arith)) ∙ ap (λ (m : ℕ). tabulate m (setCell c p b)) e
   where
     cell : (j : ℕ) → j < n → getD (set (tabulate n c) p b) j 0 ≡ setCell c p b j
     cell j h = elim (ℕ-discrete j p) [
-      | yes e ↦ rw e (getD-set-same (tabulate n c) p b 0 (omega (arith, length-tabulate n c)) ∙ sym (setCell-same c p p b refl))
-      | no m ↦ getD-set-other (tabulate n c) p j b 0 m ∙ tabulate-at n c j 0 h ∙ sym (setCell-other c j p b m)
+      | yes e ↦ rw e (getD-set-same (tabulate n c) p b 0 (omega (arith, length-tabulate c n)) ∙ sym (setCell-same c p p b refl))
+      | no m ↦ getD-set-other (tabulate n c) p j b 0 m ∙ tabulate-at c n j 0 h ∙ sym (setCell-other c j p b m)
     ]
 
 pub sets-tabulate : (n : ℕ) (c : Cells) (at : ℕ) (bs : List Bit) → sets (tabulate n c) at bs ≡ tabulate n (putBits c at bs)
@@ -55,6 +60,6 @@ pub copy-tabulate : (n : ℕ) (c : Cells) (from to k : ℕ) → from + k ≤ n �
 unfolding copyBits copyCells
 copy-tabulate n c from to zero h = refl
 copy-tabulate n c from to (suc k) h =
-    ap (λ (b : ℕ). copyBits (set (tabulate n c) to b) (suc from) (suc to) k) (tabulate-at n c from 0 (omega arith))
+    ap (λ (b : ℕ). copyBits (set (tabulate n c) to b) (suc from) (suc to) k) (tabulate-at c n from 0 (omega arith))
     ∙ ap (λ (l : List ℕ). copyBits l (suc from) (suc to) k) (set-tabulate n c to (c from))
     ∙ copy-tabulate n (setCell c to (c from)) (suc from) (suc to) k (omega arith)

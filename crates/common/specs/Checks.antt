@@ -209,10 +209,14 @@ holds-first test (suc k) i h =
     rw (h i (omega arith) (omega arith), firstFailing) (omega arith)
 
 -- a test of each number passes exactly if it holds of each
-pub each-holds : (n : ℕ) (test : ℕ → Bool) (refusal : ℕ → Refusal) (x : Unit {0}) → each n test refusal ≡ passed x → (i : ℕ) → i < n → test i ≡ true
+pub each-passed : (n : ℕ) (test : ℕ → Bool) (refusal : ℕ → Refusal) (x : Unit {0}) → each n test refusal ≡ passed x → firstFailing test n 0 ≡ n
 unfolding each
+each-passed n test refusal x e =
+    eqb-true (firstFailing test n 0) n (require-holds (eqb (firstFailing test n 0) n) (refusal (firstFailing test n 0)) x e)
+
+pub each-holds : (n : ℕ) (test : ℕ → Bool) (refusal : ℕ → Refusal) (x : Unit {0}) → each n test refusal ≡ passed x → (i : ℕ) → i < n → test i ≡ true
 each-holds n test refusal x e i l =
-    let p = eqb-true (firstFailing test n 0) n (require-holds (eqb (firstFailing test n 0) n) (refusal (firstFailing test n 0)) x e) in
+    let p = each-passed n test refusal x e in
     first-holds test n 0 (omega arith) i (omega arith) (omega arith)
 
 pub holds-each : (n : ℕ) (test : ℕ → Bool) (refusal : ℕ → Refusal) → ((i : ℕ) → i < n → test i ≡ true) → each n test refusal ≡ passed tt

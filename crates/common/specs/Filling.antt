@@ -20,31 +20,31 @@ module _ {X : Type 0} (f : ℕ → X) (none : X) (size : ℕ) where
   fill-start = ap (λ k. replicate k none) (let e : size ≡ size - 0 = omega arith in e)
 
   pub fill-length : (n : ℕ) → n ≤ size → length (filledTo n) ≡ size
-  fill-length n h = omega (arith, length-append (tabulate n f) (replicate (size - n) none), length-tabulate n f, length-replicate (size - n) none)
+  fill-length n h = omega (arith, length-append (tabulate n f) (replicate (size - n) none), length-tabulate f n, length-replicate (size - n) none)
 
   pub fill-at : (n j : ℕ) → j < n → getD (filledTo n) j none ≡ f j
-  fill-at n j h = List·getD-append (tabulate n f) (replicate (size - n) none) none j (omega (arith, length-tabulate n f)) ∙ tabulate-at n f j none h
+  fill-at n j h = List·getD-append (tabulate n f) (replicate (size - n) none) none j (omega (arith, length-tabulate f n)) ∙ tabulate-at f n j none h
 
   pub fill-past : (n j : ℕ) → n ≤ j → getD (filledTo n) j none ≡ none
   fill-past n j h =
-      ap (λ k. getD (filledTo n) k none) (let q : j ≡ length (tabulate n f) + (j - n) = omega (arith, length-tabulate n f) in q)
+      ap (λ k. getD (filledTo n) k none) (let q : j ≡ length (tabulate n f) + (j - n) = omega (arith, length-tabulate f n) in q)
       ∙ getD-append-add (tabulate n f) (replicate (size - n) none) (j - n) none
       ∙ replicate-at (size - n) (j - n) none
 
   pub fill-more : (n : ℕ) (v : X) → n < size → v ≡ f n → set (filledTo n) n v ≡ filledTo (n + 1)
   fill-more n v h e =
       ap (λ k. set (tabulate n f ++ replicate k none) n v) (let q : size - n ≡ suc (size - (n + 1)) = omega arith in q)
-      ∙ set-at (tabulate n f) none (replicate (size - (n + 1)) none) v n (length-tabulate n f)
+      ∙ set-at (tabulate n f) none (replicate (size - (n + 1)) none) v n (length-tabulate f n)
       ∙ ap (λ x. tabulate n f ++ (x ∷ replicate (size - (n + 1)) none)) e
       ∙ sym (append-assoc (tabulate n f) (f n ∷ []) (replicate (size - (n + 1)) none))
-      ∙ ap (λ l. l ++ replicate (size - (n + 1)) none) (sym (tabulate-more n f))
+      ∙ ap (λ l. l ++ replicate (size - (n + 1)) none) (sym (tabulate-more f n))
       ∙ ap (λ k. tabulate k f ++ replicate (size - (n + 1)) none) (sym (add-one n))
 
   -- where nothing is to stand in the rest, the array is whole
   pub fill-end : (n : ℕ) → n ≤ size → ((j : ℕ) → n ≤ j → j < size → f j ≡ none) → filledTo n ≡ tabulate size f
   fill-end n h rest =
-      ext-getD none (filledTo n) (tabulate size f) (fill-length n h ∙ sym (length-tabulate size f))
-      (λ j l. let m : j < size = omega (arith, fill-length n h) in entry j m (decLt j n) ∙ sym (tabulate-at size f j none m))
+      ext-getD none (filledTo n) (tabulate size f) (fill-length n h ∙ sym (length-tabulate f size))
+      (λ j l. let m : j < size = omega (arith, fill-length n h) in entry j m (decLt j n) ∙ sym (tabulate-at f size j none m))
     where
       entry : (j : ℕ) → j < size → Dec (j < n) → getD (filledTo n) j none ≡ f j
       entry j m (yes l) = fill-at n j l

@@ -6,6 +6,7 @@ pub mod Passes
 pub mod Numbers
 pub mod Bits
 pub mod Cells
+pub mod Types
 pub mod Nodes
 pub mod Stores
 pub mod Words

@@ -1,12 +1,11 @@
 -- Node records in a store, four numbers each: how many there are, which one stands where, and what node it stands for.
 -- The records of records' numbers are those records, and the numbers of a store's records are its numbers.
-use mathlib.Core.Path.{_≡_, refl, sym, ap, ap₂, _∙_}
-use mathlib.Core.List.{List, [], _∷_, _++_}
+use mathlib.Core.Path.{_≡_, refl, ap, ap₂, _∙_}
+use mathlib.Core.List.{List, [], _∷_}
 use Prim.Native.Nat.{ℕ, zero, suc, _+_, _*_, _/_, _<_, _≤_}
 use native.Mathlib.Omega.{arith}
 use lib.ListN.{length, getD}
 use Rattle.limits.specs.Limits.{nodeNumbers}
-use Rattle.report.specs.Nodes.{Node}
 use Rattle.scope.specs.Numbers.{tabulateFrom, tabulate}
 use Rattle.scope.specs.Nodes.{kindOf, NodeRecord, nodeRecord, nodeRecords, nodeNumbersOf, nodeOf, nodesOf, nodeAt}
 use Rattle.scope.specs.Stages.{noRecord}
@@ -15,16 +14,16 @@ use Rattle.common.specs.Tables.{length-tabulate, tabulate-at, tabulate-p
 -- a record for every four numbers
 pub length-records : (l : List ℕ) → length (nodeRecords l) ≡ length l / nodeNumbers
 unfolding nodeRecords
-length-records l = length-tabulate (length l / nodeNumbers) (nodeRecord l)
+length-records l = length-tabulate (nodeRecord l) (length l / nodeNumbers)
 
 -- record i, and no record past the end
 pub record-in : (l : List ℕ) (i : ℕ) → i < length l / nodeNumbers → getD (nodeRecords l) i noRecord ≡ nodeRecord l i
 unfolding nodeRecords
-record-in l i h = tabulate-at (length l / nodeNumbers) (nodeRecord l) i noRecord h
+record-in l i h = tabulate-at (nodeRecord l) (length l / nodeNumbers) i noRecord h
 
 pub record-past : (l : List ℕ) (i : ℕ) → length l / nodeNumbers ≤ i → getD (nodeRecords l) i noRecord ≡ noRecord
 unfolding nodeRecords
-record-past l i h = tabulate-past (length l / nodeNumbers) (nodeRecord l) i noRecord h
+record-past l i h = tabulate-past (nodeRecord l) (length l / nodeNumbers) i noRecord h
 
 -- a node for every record
 pub length-nodes : (bits hashes : List ℕ) (rs : List NodeRecord) → length (nodesOf bits hashes rs) ≡ length rs
@@ -61,8 +60,8 @@ module _ (a b c d : ℕ) (l : List ℕ) where
   records-first =
       let e : length (a ∷ b ∷ c ∷ d ∷ l) / nodeNumbers ≡ suc (length l / nodeNumbers) = omega arith in
       ap (λ (n : ℕ). tabulateFrom 0 n (nodeRecord (a ∷ b ∷ c ∷ d ∷ l))) e
-      ∙ ap (λ (rs : List NodeRecord). four a b c d ∷ rs) (later-from 0 (length l / nodeNumbers) (nodeRecord (a ∷ b ∷ c ∷ d ∷ l))
-      ∙ tabulate-same noRecord (length l / nodeNumbers) (λ j. nodeRecord (a ∷ b ∷ c ∷ d ∷ l) (suc j)) (nodeRecord l) (λ j h. record-later j))
+      ∙ ap (λ (rs : List NodeRecord). four a b c d ∷ rs) (later-from (nodeRecord (a ∷ b ∷ c ∷ d ∷ l)) 0 (length l / nodeNumbers)
+      ∙ tabulate-same noRecord (λ j. nodeRecord (a ∷ b ∷ c ∷ d ∷ l) (suc j)) (nodeRecord l) (length l / nodeNumbers) (λ j h. record-later j))
 
 -- the numbers of the records of n records' numbers are those numbers
 pub numbers-back : (n : ℕ) (l : List ℕ) → length l ≡ nodeNumbers * n → nodeNumbersOf (nodeRecords l) ≡ l

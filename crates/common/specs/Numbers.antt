@@ -1,13 +1,21 @@
--- Numbers in bytes past the end of a slice: nothing is read there, so they are 0.
-use mathlib.Core.Path.{_≡_}
+-- Numbers by their bits and by their bytes: one bit more doubles, and past the end of a slice nothing is read, so numbers there are 0.
+use mathlib.Core.Path.{_≡_, ap, _∙_}
 use mathlib.Core.List.{List}
-use Prim.Native.Nat.{ℕ, _+_, _≤_}
+use Prim.Native.Nat.{ℕ, suc, _+_, _*_, _^_, _≤_}
+use native.Mathlib.Nat.{mul-assoc, add-mul}
 use native.Mathlib.Omega.{arith}
+use lib.Pow.{pow-add}
 use lib.ListN.{length, List·getD-eq-default}
 use Rattle.scope.specs.Numbers.{be16, be32}
 
-pub past16 : (s : List ℕ) (at : ℕ) → length s ≤ at → be16 s at ≡ 0
-past16 s at past = rw (List·getD-eq-default s 0 {n = at} past, List·getD-eq-default s 0 {n = at + 1} (omega arith))
+pub double : (k : ℕ) → 2 ^ suc k ≡ 2 * 2 ^ k
+double k = ap (λ (i : ℕ). 2 ^ i) (let e : suc k ≡ 1 + k = omega arith in e) ∙ pow-add 2 1 k
 
-pub past32 : (s : List ℕ) (at : ℕ) → length s ≤ at → be32 s at ≡ 0
-past32 s at past = omega (arith, past16 s at past, past16 s (at + 2) (omega arith))
+pub shift-in : (n b p : ℕ) → (n * 2 + b) * p ≡ n * (2 * p) + b * p
+shift-in n b p = add-mul (n * 2) b p ∙ rw mul-assoc
+
+pub half-past : (s : List ℕ) (at : ℕ) → length s ≤ at → be16 s at ≡ 0
+half-past s at past = rw (List·getD-eq-default s 0 {n = at} past, List·getD-eq-default s 0 {n = at + 1} (omega arith))
+
+pub number-past : (s : List ℕ) (at : ℕ) → length s ≤ at → be32 s at ≡ 0
+number-past s at past = omega (arith, half-past s at past, half-past s (at + 2) (omega arith))

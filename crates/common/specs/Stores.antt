@@ -1,7 +1,7 @@
 -- A store that is cleared from an index on, one number a turn: nothing yet, one number more, all.
 use mathlib.Core.Path.{_≡_, sym, ap, ap₂, _∙_}
 use mathlib.Core.List.{List, _++_, append-nil}
-use Prim.Native.Nat.{ℕ, zero, suc, _+_, _-_, _<_, _≤_}
+use Prim.Native.Nat.{ℕ, suc, _+_, _-_, _<_, _≤_}
 use native.Mathlib.Omega.{arith}
 use lib.ListN.{length, getD, set, take, drop-of-length-le, length-replicate, getD-replicate}
 use lib.Seq.{take-all, paste, paste-zero, paste-suc}

@@ -11,60 +11,60 @@ use Rattle.report.specs.Table.{entriesFrom, entries}
 use Rattle.scope.specs.Numbers.{tabulateFrom, tabulate}
 use Rattle.common.specs.Lists.{length-snoc}
 
-module _ {X : Type 0} where
-  pub length-from : (i n : ℕ) (f : ℕ → X) → length (tabulateFrom i n f) ≡ n
+module _ {X : Type 0} (f : ℕ → X) where
+  pub length-from : (i n : ℕ) → length (tabulateFrom i n f) ≡ n
   unfolding tabulateFrom
-  length-from i zero f = refl
-  length-from i (suc n) f = ap suc (length-from (suc i) n f)
+  length-from i zero = refl
+  length-from i (suc n) = ap suc (length-from (suc i) n)
 
-  at-from : (i n : ℕ) (f : ℕ → X) (k : ℕ) (d : X) → k < n → getD (tabulateFrom i n f) k d ≡ f (i + k)
+  at-from : (i n k : ℕ) (d : X) → k < n → getD (tabulateFrom i n f) k d ≡ f (i + k)
   unfolding tabulateFrom
-  at-from i zero f k d h = absurd (not-suc-le-zero h)
-  at-from i (suc n) f zero d h = ap f (sym (add-zero i))
-  at-from i (suc n) f (suc k) d h = at-from (suc i) n f k d (le-of-suc-le-suc h) ∙ ap f (suc-add i k ∙ sym (add-suc i k))
+  at-from i zero k d h = absurd (not-suc-le-zero h)
+  at-from i (suc n) zero d h = ap f (sym (add-zero i))
+  at-from i (suc n) (suc k) d h = at-from (suc i) n k d (le-of-suc-le-suc h) ∙ ap f (suc-add i k ∙ sym (add-suc i k))
 
   -- part by part
-  pub append-from : (i n m : ℕ) (f : ℕ → X) → tabulateFrom i (n + m) f ≡ tabulateFrom i n f ++ tabulateFrom (i + n) m f
+  pub append-from : (i n m : ℕ) → tabulateFrom i (n + m) f ≡ tabulateFrom i n f ++ tabulateFrom (i + n) m f
   unfolding tabulateFrom
-  append-from i zero m f = ap₂ (λ (k j : ℕ). tabulateFrom j k f) (zero-add m) (sym (add-zero i))
-  append-from i (suc n) m f =
+  append-from i zero m = ap₂ (λ (k j : ℕ). tabulateFrom j k f) (zero-add m) (sym (add-zero i))
+  append-from i (suc n) m =
       ap (λ (k : ℕ). tabulateFrom i k f) (suc-add n m)
-      ∙ ap (λ (l : List X). f i ∷ l) (append-from (suc i) n m f ∙ ap (λ (k : ℕ). tabulateFrom (suc i) n f ++ tabulateFrom k m f) (suc-add i n ∙ sym (add-suc i n)))
+      ∙ ap (λ (l : List X). f i ∷ l) (append-from (suc i) n m ∙ ap (λ (k : ℕ). tabulateFrom (suc i) n f ++ tabulateFrom k m f) (suc-add i n ∙ sym (add-suc i n)))
 
-  pub later-from : (i n : ℕ) (f : ℕ → X) → tabulateFrom (suc i) n f ≡ tabulateFrom i n (λ k. f (suc k))
+  pub later-from : (i n : ℕ) → tabulateFrom (suc i) n f ≡ tabulateFrom i n (λ k. f (suc k))
   unfolding tabulateFrom
-  later-from i zero f = refl
-  later-from i (suc n) f = ap (λ (l : List X). f (suc i) ∷ l) (later-from (suc i) n f)
+  later-from i zero = refl
+  later-from i (suc n) = ap (λ (l : List X). f (suc i) ∷ l) (later-from (suc i) n)
 
   -- as many entries as numbers
-  pub length-tabulate : (n : ℕ) (f : ℕ → X) → length (tabulate n f) ≡ n
+  pub length-tabulate : (n : ℕ) → length (tabulate n f) ≡ n
   unfolding tabulate
-  length-tabulate n f = length-from 0 n f
+  length-tabulate n = length-from 0 n
 
   -- entry i, and none past the last
-  pub tabulate-at : (n : ℕ) (f : ℕ → X) (i : ℕ) (d : X) → i < n → getD (tabulate n f) i d ≡ f i
+  pub tabulate-at : (n i : ℕ) (d : X) → i < n → getD (tabulate n f) i d ≡ f i
   unfolding tabulate
-  tabulate-at n f i d h = at-from 0 n f i d h ∙ ap f (zero-add i)
+  tabulate-at n i d h = at-from 0 n i d h ∙ ap f (zero-add i)
 
-  pub tabulate-past : (n : ℕ) (f : ℕ → X) (i : ℕ) (d : X) → n ≤ i → getD (tabulate n f) i d ≡ d
-  tabulate-past n f i d h = List·getD-eq-default (tabulate n f) d (omega (arith, length-tabulate n f))
+  pub tabulate-past : (n i : ℕ) (d : X) → n ≤ i → getD (tabulate n f) i d ≡ d
+  tabulate-past n i d h = List·getD-eq-default (tabulate n f) d (omega (arith, length-tabulate n))
 
   -- one entry more
-  pub tabulate-more : (n : ℕ) (f : ℕ → X) → tabulate (suc n) f ≡ tabulate n f ++ (f n ∷ [])
+  pub tabulate-more : (n : ℕ) → tabulate (suc n) f ≡ tabulate n f ++ (f n ∷ [])
   unfolding tabulate tabulateFrom
-  tabulate-more n f =
-      ap (λ (k : ℕ). tabulateFrom 0 k f) (let e : suc n ≡ n + 1 = omega arith in e) ∙ append-from 0 n 1 f
+  tabulate-more n =
+      ap (λ (k : ℕ). tabulateFrom 0 k f) (let e : suc n ≡ n + 1 = omega arith in e) ∙ append-from 0 n 1
       ∙ ap (λ (k : ℕ). tabulateFrom 0 n f ++ (f k ∷ [])) (zero-add n)
 
-  -- a list is made by a rule that tells its entries; so two rules that agree on them make the same list
-  pub tabulated : (d : X) (l : List X) (f : ℕ → X) → ((j : ℕ) → j < length l → getD l j d ≡ f j) → l ≡ tabulate (length l) f
-  tabulated d l f h =
-      ext-getD d l (tabulate (length l) f) (sym (length-tabulate (length l) f)) (λ j k. h j k ∙ sym (tabulate-at (length l) f j d k))
+  -- a list is made by a rule that tells its entries
+  pub tabulated : (d : X) (l : List X) → ((j : ℕ) → j < length l → getD l j d ≡ f j) → l ≡ tabulate (length l) f
+  tabulated d l h = ext-getD d l (tabulate (length l) f) (sym (length-tabulate (length l))) (λ j k. h j k ∙ sym (tabulate-at (length l) j d k))
 
-  pub tabulate-same : (d : X) (n : ℕ) (f g : ℕ → X) → ((i : ℕ) → i < n → f i ≡ g i) → tabulate n f ≡ tabulate n g
-  tabulate-same d n f g h =
-      tabulated d (tabulate n f) g (λ j l. let k : j < n = omega (arith, length-tabulate n f) in tabulate-at n f j d k ∙ h j k)
-      ∙ ap (λ (k : ℕ). tabulate k g) (length-tabulate n f)
+-- two rules that agree on the entries make the same list
+pub tabulate-same : {X : Type 0} (d : X) (f g : ℕ → X) (n : ℕ) → ((i : ℕ) → i < n → f i ≡ g i) → tabulate n f ≡ tabulate n g
+tabulate-same d f g n h =
+    tabulated g d (tabulate n f) (λ j l. let k : j < n = omega (arith, length-tabulate f n) in tabulate-at f n j d k ∙ h j k)
+    ∙ ap (λ (k : ℕ). tabulate k g) (length-tabulate f n)
 
 module _ {R X : Type 0} (make : List X → R → X) where
   -- the entries made so far stay in front

@@ -27,22 +27,22 @@ pub fn first_refusal(first: Checked, second: Checked) -> Checked
     second
 }
 
-// A number of 16 bits as a place.
-pub fn place16(x: u16) -> usize
+// An index of 16 bits as a place.
+pub fn index(x: u16) -> usize
     ensures { λ r. ⌜ (r ≡ x) × (r < 2 ^ 16) ⌝ }
 {
     x as usize
 }
 
 // A number of 32 bits as a place.
-pub fn place32(x: u32) -> usize
+pub fn place(x: u32) -> usize
     ensures { λ r. ⌜ (r ≡ x) × (r < 2 ^ 32) ⌝ }
 {
     x as usize
 }
 
 // A number of 32 bits as one of 64, so that no sum of two wraps.
-pub fn wide32(x: u32) -> u64
+pub fn wide(x: u32) -> u64
     ensures { λ r. ⌜ (r ≡ x) × (r < 2 ^ 32) ⌝ }
 {
     x as u64
@@ -56,7 +56,7 @@ pub fn byte_at(bytes: &[u8], at: usize) -> u8
 }
 
 // The number of 16 bits at a place, with 0 for bytes past the end.
-pub fn number16(bytes: &[u8], at: usize) -> u16
+pub fn half_at(bytes: &[u8], at: usize) -> u16
     ensures { λ r. ⌜ r ≡ be16 (now (bytes .entry)) at ⌝ }
 {
     if bytes.len() <= at {
@@ -66,13 +66,13 @@ pub fn number16(bytes: &[u8], at: usize) -> u16
 }
 
 // The number of 32 bits at a place, with 0 for bytes past the end.
-pub fn number32(bytes: &[u8], at: usize) -> u32
+pub fn number_at(bytes: &[u8], at: usize) -> u32
     ensures { λ r. ⌜ r ≡ be32 (now (bytes .entry)) at ⌝ }
 {
     if bytes.len() <= at {
         return 0;
     }
-    number16(bytes, at) as u32 * 65536 + number16(bytes, at + 2) as u32
+    half_at(bytes, at) as u32 * 65536 + half_at(bytes, at + 2) as u32
 }
 
 // The part of n bytes from a place on, as far as there are any.

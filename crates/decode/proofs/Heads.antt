@@ -15,7 +15,7 @@ use Rattle.report.specs.Bits.{Bit}
 use Rattle.scope.specs.Check.{Check, passed, refused}
 use Rattle.scope.specs.Numbers.{streamOf}
 use Rattle.scope.specs.Reading.{Got, got, fault, Fault, streamEnded, aJet, refusalAt, Reader, _>>=_, give, stop, here, Item, item, next, code, naturalUpTo, child, octets, combinator, wordItem, node}
-use Rattle.exactness.specs.Checks.{clash}
+use Rattle.common.specs.Checks.{clash}
 use Rattle.bititer.proofs.Streams.{length-within, next-within, next-past}
 use Rattle.decode.specs.declared.NumberRead.{NumberRead}
 use Rattle.decode.specs.declared.Follows.{Follows}

@@ -14,12 +14,12 @@ use Rattle.report.specs.Bits.{Bit}
 use Rattle.scope.specs.Check.{refused}
 use Rattle.scope.specs.Nodes.{NodeRecord}
 use Rattle.scope.specs.Reading.{Got, got, fault, Fault, hashesShort, refusalAt, Reader, give, stop, Item, node, nodeIn}
-use Rattle.exactness.specs.Checks.{clash}
+use Rattle.common.specs.Checks.{clash}
 use Rattle.bititer.specs.Answers.{Stored, stored, placed, storing, bytesFault, gotBytes}
 use Rattle.bititer.specs.declared.BytesFault.{BytesFault}
 use Rattle.bititer.specs.declared.BytesRead.{BytesRead}
 use Rattle.bititer.proofs.Streams.{octets-got}
-use Rattle.bititer.proofs.Octets.{length-bytes}
+use Rattle.common.specs.Bits.{length-bytes}
 use Rattle.table.specs.Answers.{recordOf}
 use Rattle.decode.specs.declared.Follows.{Follows}
 use Rattle.decode.specs.declared.NodeHead.{NodeHead}

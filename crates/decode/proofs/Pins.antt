@@ -5,7 +5,7 @@ use Prim.Native.Nat.{ℕ, _/_}
 use lib.ListN.{length}
 use Rattle.limits.specs.Limits.{nodeNumbers}
 use Rattle.scope.specs.Closing as Closing
-use Rattle.exactness.specs.Checks.{clash}
+use Rattle.common.specs.Checks.{clash}
 use Rattle.decode.specs.declared.Decoded.{Decoded}
 use Rattle.decode.specs.Answers.{saidOf}
 use Rattle.decode.specs.Stores.{cleared, Left, left, leftBy}

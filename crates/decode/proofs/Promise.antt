@@ -11,7 +11,7 @@ use Rattle.scope.specs.Numbers.{zeros, filled}
 use Rattle.scope.specs.Nodes.{nodeRecords, nodeNumbersOf}
 use Rattle.scope.specs.Reading.{Table}
 use Rattle.scope.specs.Closing.{decode, nodesLeft, hashesLeft}
-use Rattle.exactness.specs.Checks.{clash}
+use Rattle.common.specs.Checks.{clash}
 use Rattle.decode.specs.declared.Sizes.{Sizes}
 use Rattle.decode.specs.declared.Decoded.{Decoded}
 use Rattle.decode.specs.Answers.{saidOf}

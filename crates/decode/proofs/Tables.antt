@@ -18,7 +18,7 @@ use Rattle.scope.specs.Nodes.{NodeRecord, nodeRecords, nodeNumbersOf, nodesOf}
 use Rattle.scope.specs.Reading.{Got, got, fault, refusalAt, Item, naturalUpTo, nodeIn, Table, nodesFrom, readNodes}
 use Rattle.scope.specs.Walk.{checkWalk}
 use Rattle.scope.specs.Closing.{closes, decode, nodesLeft, hashesLeft}
-use Rattle.exactness.specs.Checks.{clash}
+use Rattle.common.specs.Checks.{clash}
 use Rattle.bititer.specs.Answers.{placed}
 use Rattle.bititer.proofs.Naturals.{up-to-got}
 use Rattle.table.specs.Answers.{recordOf, checkOf}

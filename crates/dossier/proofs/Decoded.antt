@@ -28,7 +28,7 @@ use Rattle.scope.specs.Closing.{decode}
 use Rattle.scope.specs.Arrows.{arrowRecords}
 use Rattle.scope.specs.Run.{Tables, checkTables, tablesOf, Left, leftWith, runTables}
 use Rattle.scope.specs.Stages.{counted, noRecord, recordRule, checkRecords, lentTables, lent, hashStage, runStage}
-use Rattle.exactness.specs.Checks.{every-all, all-every, holds-require, then-passes, holds-each}
+use Rattle.common.specs.Checks.{every-all, all-every, holds-require, then-passes, holds-each}
 use Rattle.exactness.specs.Nodes.{recordsFrom, hashesOf, layout}
 use Rattle.exactness.specs.Stream.{Stands, stands-split}
 use Rattle.exactness.specs.Programs.{IsProgram}
@@ -39,7 +39,7 @@ use Rattle.theory.specs.LentTables.{length-stream}
 use Rattle.header.specs.Answer.{headerAnswer}
 use Rattle.header.specs.declared.HeaderAnswer.the-variants.{Passed}
 use Rattle.header.proofs.Rules.{passes-all, section-end}
-use Rattle.types.proofs.Tables.{length-tabulate}
+use Rattle.common.specs.Tables.{length-tabulate}
 use Rattle.dossier.proofs.Records.{records-kept, records-numbers}
 
 -- a table with a record, and not too many

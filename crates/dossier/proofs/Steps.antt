@@ -18,7 +18,7 @@ use Rattle.scope.specs.Closing as Closing
 use Rattle.scope.specs.Closing.{nodesLeft, hashesLeft}
 use Rattle.scope.specs.Stages.{runStage}
 use Rattle.scope.specs.Run.{checkTables, tablesOf, Left, leftWith, Ended, ended, run}
-use Rattle.exactness.specs.Checks.{clash, both-passed}
+use Rattle.common.specs.Checks.{clash, both-passed}
 use Rattle.table.specs.Answers.{checkOf}
 use Rattle.table.specs.declared.Checked.{Checked}
 use Rattle.table.specs.declared.Checked.the-variants as Checked

@@ -11,7 +11,7 @@ use Rattle.scope.specs.Reading.{Table, Got, got, fault}
 use Rattle.scope.specs.Closing.{nodesLeft, hashesLeft}
 use Rattle.scope.specs.Bounds.{Bound}
 use Rattle.scope.specs.Run.{Left, leftWith, Ended, ended}
-use Rattle.exactness.specs.Checks.{clash}
+use Rattle.common.specs.Checks.{clash}
 use Rattle.bititer.specs.Answers.{naturalFault, gotNatural}
 use Rattle.bititer.specs.declared.NaturalFault.{NaturalFault}
 use Rattle.bititer.specs.declared.NaturalRead.{NaturalRead}

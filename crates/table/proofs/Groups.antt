@@ -12,7 +12,7 @@ use Rattle.report.specs.Canonical.{children}
 use Rattle.scope.specs.Numbers.{every}
 use Rattle.scope.specs.Nodes.{Kind, kComp, kCase, kPair, kDisconnect, kInjl, kInjr, kTake, kDrop, kIden, kUnit, kFail, kDisconnect1, kWitness, kHidden, kWord, kUnknown, kindOf, nodeOf, onHidden}
 use Rattle.scope.specs.Stages.{numbersRule}
-use Rattle.exactness.specs.Checks.{clash}
+use Rattle.common.specs.Checks.{clash}
 use Rattle.table.specs.Lent.{childCount, hiddenKind, hashIs}
 
 -- the children are the first numbers, as many as the kind has

@@ -10,7 +10,7 @@ use Rattle.scope.specs.Numbers.{same}
 use Rattle.scope.specs.Nodes.{kindOf, NodeRecord, nodeRecords}
 use Rattle.scope.specs.Walk.{hiddenAt}
 use Rattle.scope.specs.Stages.{counted, numbersRule, noRecord, walkStage}
-use Rattle.exactness.specs.Checks.{clash}
+use Rattle.common.specs.Checks.{clash}
 use Rattle.table.specs.declared.NodeRecord.{NodeRecord as Lent}
 use Rattle.table.specs.declared.Checked.{Checked}
 use Rattle.table.specs.declared.Checked.the-variants.{Passed, Refused}

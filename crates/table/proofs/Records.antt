@@ -15,7 +15,7 @@ use Rattle.scope.specs.Check.{Check, passed, refused, require}
 use Rattle.scope.specs.Numbers.{tabulateFrom, tabulate, every}
 use Rattle.scope.specs.Nodes.{kindOf, NodeRecord, nodeRecord, nodeRecords, nodeOf, nodesOf, nodeAt}
 use Rattle.scope.specs.Stages.{noRecord, counted}
-use Rattle.exactness.specs.Checks.{every-all, require-holds}
+use Rattle.common.specs.Checks.{every-all, require-holds}
 
 length-tabulateFrom : {X : Type 0} (i n : ℕ) (f : ℕ → X) → length (tabulateFrom i n f) ≡ n
 unfolding tabulateFrom

@@ -16,7 +16,7 @@ use Rattle.scope.specs.Numbers.{streamOf}
 use Rattle.scope.specs.Nodes.{kindOf, NodeRecord, nodeRecords, nodesOf}
 use Rattle.scope.specs.Walk.{hiddenAt, checkWalk}
 use Rattle.scope.specs.Stages.{counted, numbersRule, noRecord, recordRule, checkRecords, walkStage}
-use Rattle.exactness.specs.Checks.{both-passed}
+use Rattle.common.specs.Checks.{both-passed}
 use Rattle.exactness.specs.Walk.{walkCount, check-walk-count}
 use Rattle.table.specs.declared.Checked.{Checked}
 use Rattle.table.specs.declared.Checked.the-variants.{Refused}

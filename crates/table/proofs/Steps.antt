@@ -21,8 +21,8 @@ use Rattle.scope.specs.Numbers.{every}
 use Rattle.scope.specs.Nodes.{Kind, kindOf, NodeRecord, nodeRecords, nodeOf, nodeAt, onHidden}
 use Rattle.scope.specs.Walk.{hiddenAt, noneHidden, allowed, walkEach, walkMake, walkFrom, checkWalk}
 use Rattle.scope.specs.Stages.{noRecord}
-use Rattle.exactness.specs.Checks.{clash, require-holds, both-passed}
-use Rattle.exactness.specs.Table.{before-none}
+use Rattle.common.specs.Checks.{clash, require-holds, both-passed}
+use Rattle.common.specs.Tables.{before-none}
 use Rattle.exactness.specs.Walk.{length-upFrom, upFrom-more, done-below, arrive, arriveCount, count, walkCount, walksBefore, walkNode, walk-at, walk-is-count}
 use Rattle.table.specs.Lent.{lentNodes, nodeIs, hiddenKind, leftOf, rightOf}
 use Rattle.table.specs.Walking.{childrenRule, repeatRule, childWalk}

@@ -8,7 +8,7 @@ use contract.Lifetimes.{Lfts}
 use denote.Ref.{now}
 use denote.Triple.Clauses.{AtExit}
 use Rattle.bititer.proofs.Bits.{Bytes, bits-tell}
-use Rattle.types.proofs.Pins.{OneResult}
+use Rattle.common.specs.Answers.{OneResult}
 use Rattle.value.specs.Bits.{Padded, Unpadded}
 use Rattle.value.proofs.pad.Kinds as pad-kinds
 use Rattle.value.proofs.pad.Reads as pad-reads

@@ -1,11 +1,8 @@
 -- `common::first_refusal` meets its contract: the first check's refusal, or the second check.
 use Rattle.scope.specs.Check.{_>>=_}
-use mathlib.Core.Path.{sym, ap}
 use borrow.Author.Needs.{needs}
 use Rattle.common.proofs.first_refusal.Statement.{statement}
 use Rattle.common.proofs.first_refusal.Tie as tie
-use Rattle.common.proofs.first_refusal.Reads as reads
-use Rattle.common.proofs.first_refusal.Lts as lts
 
 enum-told : tie.Need-enum-told
 enum-told c = search needs

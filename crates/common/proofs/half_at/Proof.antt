@@ -1,12 +1,12 @@
--- `common::number16` meets its contract.
+-- `common::half_at` meets its contract.
 use mathlib.Core.Path.{sym}
 use borrow.Author.Needs.{needs}
-use Rattle.common.specs.Numbers.{past16}
-use Rattle.common.proofs.number16.Statement.{statement}
-use Rattle.common.proofs.number16.Tie as tie
+use Rattle.common.specs.Numbers.{half-past}
+use Rattle.common.proofs.half_at.Statement.{statement}
+use Rattle.common.proofs.half_at.Tie as tie
 
 returns : tie.Need-returns
-returns c = sym (past16 (c .before .before .args .bytes .now) _ (c .if1 .taken))
+returns c = sym (half-past (c .before .before .args .bytes .now) _ (c .if1 .taken))
 
 byte-at-requires : tie.Need-byte-at-requires
 byte-at-requires c κs = search needs
@@ -32,8 +32,8 @@ add-result c = search needs
 returns-2 : tie.Need-returns-2
 returns-2 c = search needs
 
-pub number16-spec : {M : Type 1} → statement M
-number16-spec =
+pub half-at-spec : {M : Type 1} → statement M
+half-at-spec =
     tie.close
     (tie.spec
     returns
