@@ -2,8 +2,8 @@
 use mathlib.Core.Path.{_≡_, sym, ap, _∙_}
 use Prim.Native.Nat.{ℕ}
 use Rattle.scope.specs.Bounds as scope
-use Rattle.common.specs.Checks.{clash}
-use Rattle.common.specs.Answers.{OneResult}
+use Rattle.exactness.specs.Checks.{clash}
+use Rattle.types.proofs.Pins.{OneResult}
 use Rattle.analysis.specs.Limits.{boundedOf}
 use Rattle.analysis.specs.declared.BoundsAnswer.{BoundsAnswer}
 use Rattle.analysis.specs.declared.BoundsAnswer.the-variants.{Bounded, Refused}

@@ -21,8 +21,8 @@ use Rattle.scope.specs.Arrows.{Arrow, source, target, arrowRule}
 use Rattle.scope.specs.Program.{Program, sourceTy, targetTy, caseTerm, termOf, termMake, termAt, last, whole, wholeSource, wholeTarget}
 use Rattle.scope.specs.Bounds.{Bound, bounds, compRow, pairRow, childRow, disconnectRow, copyRow, witnessRow, noRow, wholeCells, wholeFrames, wholeCost, checkBounds}
 use Rattle.scope.specs.Stages.{noRecord}
-use Rattle.common.specs.Tables.{entries-past}
-use Rattle.common.specs.Bits.{AllBelow}
+use Rattle.exactness.specs.Table.{entries-past}
+use Rattle.exactness.specs.Bits.{AllBelow}
 use Rattle.exactness.specs.Types.{TypesPass}
 use Rattle.exactness.specs.NodeTyping.{NodeTyped, Disconnect, fromTy, toTy}
 use Rattle.exactness.specs.Arrows.{arrow-typed}

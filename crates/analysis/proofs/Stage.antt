@@ -17,7 +17,7 @@ use Rattle.scope.specs.Program.{Program, termAt}
 use Rattle.scope.specs.Bounds.{Bound, bounds, wholeCells, wholeFrames, wholeCost, checkBounds}
 use Rattle.scope.specs.Run.{programOf}
 use Rattle.scope.specs.Stages.{counted, lent, arrowStage, boundsStage}
-use Rattle.common.specs.Checks.{clash, then-passes}
+use Rattle.exactness.specs.Checks.{clash, then-passes}
 use Rattle.exactness.specs.Types.{types-pass}
 use Rattle.types.specs.Table.{checkTable, typeWidths}
 use Rattle.types.proofs.Sound.{passed-table, widths-are}

@@ -15,7 +15,7 @@ use Rattle.scope.specs.Arrows.{Arrow}
 use Rattle.scope.specs.Bounds.{noRow}
 use Rattle.scope.specs.Bounds as scope
 use Rattle.scope.specs.Stages.{noRecord}
-use Rattle.common.specs.Tables.{length-entries, entries-at, entries-past}
+use Rattle.types.proofs.Tables.{length-entries, entries-at, entries-past}
 use Rattle.analysis.specs.Held.{held, plain}
 use Rattle.analysis.specs.Rows.{rowOf, rowMake, boundAt, belowOr}
 use Rattle.analysis.specs.declared.Bound.{Bound}

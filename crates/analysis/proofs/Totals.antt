@@ -18,7 +18,7 @@ use Rattle.scope.specs.Bounds.{Bound, checkLimits}
 use Rattle.table.specs.Answers.{checkOf}
 use Rattle.table.specs.declared.Checked.{Checked}
 use Rattle.table.specs.declared.Checked.the-variants.{Refused as Stopped}
-use Rattle.common.specs.Tables.{tabulate-at}
+use Rattle.types.proofs.Tables.{tabulate-at}
 use Rattle.analysis.specs.Held.{upTo}
 use Rattle.analysis.specs.Rows.{sourceWidth, targetWidth, boundAt}
 use Rattle.analysis.specs.Limits.{boundedOf, refusedOf, limited, lentTotals}

@@ -18,7 +18,7 @@ use Rattle.scope.specs.Stages.{noRecord}
 use Rattle.table.specs.Lent.{lentNodes, nodeIs}
 use Rattle.table.proofs.Records.{node-at}
 use Rattle.table.proofs.Groups.{by-kind, unknown}
-use Rattle.common.specs.Tables.{length-tabulate}
+use Rattle.types.proofs.Tables.{length-tabulate}
 
 pub length-arrows : (bytes : List ℕ) → length (arrowRecords bytes) ≡ length bytes / arrowBytes
 unfolding arrowRecords

@@ -18,7 +18,7 @@ use Rattle.scope.specs.Arrows.{arrowRecords, checkArrows}
 use Rattle.scope.specs.Hashes.{checkHashes}
 use Rattle.scope.specs.Run.{checkTables}
 use Rattle.scope.specs.Stages.{counted, checkRecords, lentTables, lent, arrowStage, hashStage}
-use Rattle.common.specs.Checks.{both-passed}
+use Rattle.exactness.specs.Checks.{both-passed}
 use Rattle.types.specs.Table.{checkTable, typeAnswer, typeTable}
 use Rattle.types.specs.declared.TypeTable.{TypeTable}
 use Rattle.table.specs.Answers.{checkOf}

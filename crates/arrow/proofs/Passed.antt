@@ -20,8 +20,8 @@ use Rattle.scope.specs.Walk.{checkWalk}
 use Rattle.scope.specs.Arrows.{arrowRecords, arrowRule, checkArrows}
 use Rattle.scope.specs.Hashes.{checkHashes}
 use Rattle.scope.specs.Stages.{counted, recordRule, checkRecords, lentTables, lent, arrowStage, hashStage}
-use Rattle.common.specs.Checks.{both-passed, require-holds, each-holds}
-use Rattle.common.specs.Bits.{AllBelow}
+use Rattle.exactness.specs.Checks.{both-passed, require-holds, each-holds}
+use Rattle.exactness.specs.Bits.{AllBelow}
 use Rattle.exactness.specs.Arrows.{arrows-pass}
 use Rattle.theory.specs.Records.{records-below}
 use Rattle.theory.specs.LentTables.{length-stream}

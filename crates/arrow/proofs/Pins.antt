@@ -1,7 +1,7 @@
 -- What each public call promises has one outcome: over the call's own promise, `Post`, two results are the same.
 use mathlib.Core.Path.{_≡_, sym, ap, _∙_}
 use Rattle.scope.specs.Arrows.{Arrow}
-use Rattle.common.specs.Answers.{OneResult}
+use Rattle.types.proofs.Pins.{OneResult}
 use Rattle.table.proofs.Pins.{check-tells}
 use Rattle.arrow.specs.Answers.{arrowOf}
 use Rattle.arrow.specs.declared.Arrow.{Arrow as Lent}

@@ -13,8 +13,8 @@ use Rattle.scope.specs.Types.{typeRecords}
 use Rattle.scope.specs.Nodes.{nodeRecords, nodeAt}
 use Rattle.scope.specs.Arrows.{arrowRecords, checkArrows}
 use Rattle.scope.specs.Stages.{lentTables, lent, arrowStage}
-use Rattle.common.specs.Checks.{then-passes}
-use Rattle.common.specs.Bits.{AllBelow}
+use Rattle.exactness.specs.Checks.{then-passes}
+use Rattle.exactness.specs.Bits.{AllBelow}
 use Rattle.exactness.specs.Types.{types-pass}
 use Rattle.exactness.specs.NodeTyping.{ArrowsTyped}
 use Rattle.exactness.specs.Arrows.{arrows-typed, typed-arrows}

@@ -5,7 +5,7 @@ use Prim.Native.Nat.{ℕ, zero, suc, _+_, _-_, _≤_}
 use native.Mathlib.Omega.{arith}
 use lib.ListN.{length, getD, set, take, drop, length-drop}
 use lib.Seq.{sets, length-take-le}
-use Rattle.common.specs.Cells.{copyBits, bitsFrom}
+use Rattle.cells.specs.Copying.{copyBits, bitsFrom}
 use Rattle.cells.proofs.Parts.{bits-within}
 use Rattle.layout.specs.Mach.{Mach, mach, activeWrite}
 use Rattle.layout.specs.Rules.{bitsPut, bitsCopied, bitsWritten, writeCursorAt, bitsCopied-first, bitsWritten-some}

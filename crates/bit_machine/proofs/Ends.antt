@@ -23,7 +23,7 @@ use Rattle.scope.specs.Bounds.{wholeCells, wholeFrames}
 use Rattle.scope.specs.Machine.{State, Step, machine}
 use Rattle.scope.specs.Run.{Left, programOf, cellsOf, packed, cleared, written, leftWith, ends, ran}
 use Rattle.scope.specs.Stages.{lent}
-use Rattle.common.specs.Checks.{clash}
+use Rattle.exactness.specs.Checks.{clash}
 use Rattle.layout.specs.Mach.{Mach, empty}
 use Rattle.layout.specs.Exec.{runWhole}
 use Rattle.layout.specs.Safe.{WholeOk, length-bitsOf}

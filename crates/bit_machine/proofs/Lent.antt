@@ -25,11 +25,11 @@ use Rattle.scope.specs.Hashes.{rights, whole, entry, entryFor, branchHash}
 use Rattle.scope.specs.Program.{Program, valueFrom, sourceTy, targetTy}
 use Rattle.scope.specs.Run.{programOf}
 use Rattle.scope.specs.Stages.{lent}
-use Rattle.common.specs.Bits.{AllBelow, AreBits, below-front, below-drop, are-bits}
+use Rattle.exactness.specs.Bits.{AllBelow, AreBits, below-front, below-drop, are-bits}
 use Rattle.exactness.specs.Values.{width-word}
-use Rattle.common.specs.Bits.{length-bits}
+use Rattle.bititer.proofs.Bits.{length-bits}
 use Rattle.value.proofs.Types.{read-fit}
-use Rattle.common.specs.Tables.{tabulate-at}
+use Rattle.types.proofs.Tables.{tabulate-at}
 use Rattle.branch.proofs.Hashes.{branch-bits}
 use Rattle.lookup.specs.Lookup.{paddingIn, recordAt}
 use Rattle.ready.specs.Lent.{programNodes, valueOf, programAt, Reads, TypesShown, Shown}

@@ -1,14 +1,16 @@
 -- Node records in a store, four numbers each: how many there are, which one stands where, and what node it stands for.
 -- The records of records' numbers are those records, and the numbers of a store's records are its numbers.
-use mathlib.Core.Path.{_≡_, refl, ap, ap₂, _∙_}
+use mathlib.Core.Path.{_≡_, refl, sym, ap, ap₂, _∙_}
 use mathlib.Core.List.{List, [], _∷_}
 use Prim.Native.Nat.{ℕ, zero, suc, _+_, _*_, _/_, _<_, _≤_}
 use native.Mathlib.Omega.{arith}
 use lib.ListN.{length, getD}
-use Rattle.limits.specs.Limits.{nodeNumbers}
+use Rattle.limits.specs.Limits.{nodeCount, nodeNumbers}
 use Rattle.scope.specs.Numbers.{tabulateFrom, tabulate}
 use Rattle.scope.specs.Nodes.{kindOf, NodeRecord, nodeRecord, nodeRecords, nodeNumbersOf, nodeOf, nodesOf, nodeAt}
-use Rattle.scope.specs.Stages.{noRecord}
+use Rattle.scope.specs.Check.{passed}
+use Rattle.scope.specs.Stages.{noRecord, counted}
+use Rattle.common.specs.Checks.{counted-passed}
 use Rattle.common.specs.Tables.{length-tabulate, tabulate-at, tabulate-past, tabulate-same, later-from}
 
 -- a record for every four numbers
@@ -24,6 +26,10 @@ record-in l i h = tabulate-at (nodeRecord l) (length l / nodeNumbers) i noRecord
 pub record-past : (l : List ℕ) (i : ℕ) → length l / nodeNumbers ≤ i → getD (nodeRecords l) i noRecord ≡ noRecord
 unfolding nodeRecords
 record-past l i h = tabulate-past (nodeRecord l) (length l / nodeNumbers) i noRecord h
+
+-- a table whose count is fine: its records are at least one, and not too many
+pub fine-records : (l : List ℕ) → counted (length (nodeRecords l)) nodeCount ≡ passed tt → (1 ≤ length l / nodeNumbers) × (length l / nodeNumbers ≤ nodeCount)
+fine-records l e = counted-passed (length l / nodeNumbers) nodeCount (ap (λ (n : ℕ). counted n nodeCount) (sym (length-records l)) ∙ e)
 
 -- a node for every record
 pub length-nodes : (bits hashes : List ℕ) (rs : List NodeRecord) → length (nodesOf bits hashes rs) ≡ length rs

@@ -8,7 +8,8 @@ use Rattle.scope.specs.Closing as Closing
 use Rattle.common.specs.Checks.{clash}
 use Rattle.decode.specs.declared.Decoded.{Decoded}
 use Rattle.decode.specs.Answers.{saidOf}
-use Rattle.decode.specs.Stores.{cleared, Left, left, leftBy}
+use Rattle.common.specs.Stores.{cleared}
+use Rattle.decode.specs.Stores.{Left, left, leftBy}
 
 -- what an answer says tells it
 pub answer-tells : (r q : Decoded) → saidOf r ≡ saidOf q → r ≡ q

@@ -16,7 +16,7 @@ use Rattle.decode.specs.declared.Sizes.{Sizes}
 use Rattle.decode.specs.declared.Decoded.{Decoded}
 use Rattle.decode.specs.Answers.{saidOf}
 use Rattle.decode.specs.Stores.{sizesWith, Left, left, tableSizes, leftBy}
-use Rattle.decode.proofs.Records.{records-back, length-numbers}
+use Rattle.common.specs.Nodes.{records-back, length-numbers}
 
 -- the front of a filled store is what it was filled with
 filled-front : (numbers store : List ℕ) (n : ℕ) → length numbers ≡ n → take n (filled numbers store) ≡ numbers

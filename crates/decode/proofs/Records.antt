@@ -9,7 +9,8 @@ use lib.Seq.{sets, sets-eq, take-at, take-all, length-take-le, paste, paste-zero
 use Rattle.limits.specs.Limits.{nodeNumbers}
 use Rattle.scope.specs.Numbers.{zeros, tabulateFrom, tabulate}
 use Rattle.scope.specs.Nodes.{NodeRecord, nodeRecord, nodeRecords, nodeNumbersOf}
-use Rattle.decode.specs.Stores.{recordPut, cleared}
+use Rattle.common.specs.Stores.{cleared}
+use Rattle.decode.specs.Stores.{recordPut}
 
 tabulate-later : {X : Type 0} (i n : ℕ) (f : ℕ → X) → tabulateFrom (suc i) n f ≡ tabulateFrom i n (λ k. f (suc k))
 unfolding tabulateFrom

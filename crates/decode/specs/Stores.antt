@@ -16,7 +16,7 @@ use Rattle.scope.specs.Walk.{checkWalk}
 use Rattle.scope.specs.Closing.{closes, nodesLeft, hashesLeft}
 use Rattle.bititer.specs.Answers.{placed}
 use Rattle.table.specs.Answers.{recordOf}
-use Rattle.table.specs.declared.Checked.{Checked}
+use Rattle.common.specs.declared.Checked.{Checked}
 use Rattle.decode.specs.declared.HeadRead.{HeadRead}
 use Rattle.decode.specs.declared.Progress.{Progress}
 use Rattle.decode.specs.declared.Progressed.{Progressed}

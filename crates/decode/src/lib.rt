@@ -8,7 +8,7 @@ use bititer::CodeRead;
 use bititer::NaturalFault;
 use bititer::NaturalRead;
 use refusal::Refusal;
-use table::Checked;
+use common::Checked;
 use table::NodeRecord;
 ghost use mathlib.Core.Path.{_≡_};
 ghost use mathlib.Core.List.{[]};
@@ -21,10 +21,12 @@ ghost use Rattle.scope.specs.Numbers.{streamOf};
 ghost use Rattle.scope.specs.Reading.{refusalAt, naturalUpTo, child, combinator as combinatorAt, wordItem, node as nodeAt, nodesFrom};
 ghost use Rattle.scope.specs.Closing.{closes, decode as decodeAll};
 ghost use Rattle.bititer.specs.Answers.{naturalFault, bytesFault, gotBytes, stored, storing};
-ghost use Rattle.table.specs.Answers.{recordOf, checkOf};
+ghost use Rattle.common.specs.Answers.{checkOf};
+ghost use Rattle.table.specs.Answers.{recordOf};
 ghost use Rattle.decode.specs.Answers.{numberOf, sizeOf, saidOf};
 ghost use Rattle.decode.specs.Heads.{atNode, bytesAfter, withOne, twoChildren, plain, third, last, wordFrom, headOf, countIn, begunOf};
-ghost use Rattle.decode.specs.Stores.{recordPut, NodeMeans, Room, StepMeans, ReadMeans, readAll, settledOf, stoppedOf, tableOf, JudgedMeans, DecodedMeans, sizesWith, sizesOf, cleared, left, leftBy};
+ghost use Rattle.common.specs.Stores.{cleared};
+ghost use Rattle.decode.specs.Stores.{recordPut, NodeMeans, Room, StepMeans, ReadMeans, readAll, settledOf, stoppedOf, tableOf, JudgedMeans, DecodedMeans, sizesWith, sizesOf, left, leftBy};
 
 // How many records and how many bytes of hashes were decoded.
 pub struct Sizes {

@@ -13,8 +13,8 @@ use Rattle.common.specs.Checks.{then-passes}
 use Rattle.header.specs.Answer.{headerAnswer}
 use Rattle.header.specs.declared.HeaderAnswer.{HeaderAnswer}
 use Rattle.header.specs.declared.HeaderAnswer.the-variants.{Passed, Refused}
-use Rattle.table.specs.Answers.{checkOf}
-use Rattle.table.specs.declared.Checked.{Checked}
+use Rattle.common.specs.Answers.{checkOf}
+use Rattle.common.specs.declared.Checked.{Checked}
 use Rattle.table.specs.declared.Checked.the-variants as Checked
 use Rattle.arrow.specs.Stage.{countedTypes}
 use Rattle.dossier.specs.Ends.{front}

@@ -7,7 +7,7 @@ use native.Mathlib.Omega.{arith}
 use lib.ListN.{length}
 use Rattle.refusal.specs.declared.Answer.{Answer}
 use Rattle.scope.specs.Numbers.{zeros}
-use Rattle.decode.specs.Stores.{cleared}
+use Rattle.common.specs.Stores.{cleared}
 use Rattle.dossier.specs.Ends.{keeps, settled}
 
 -- a store that is cleared from its start holds zeros alone

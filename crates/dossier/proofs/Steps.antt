@@ -19,14 +19,15 @@ use Rattle.scope.specs.Closing.{nodesLeft, hashesLeft}
 use Rattle.scope.specs.Stages.{runStage}
 use Rattle.scope.specs.Run.{checkTables, tablesOf, Left, leftWith, Ended, ended, run}
 use Rattle.common.specs.Checks.{clash, both-passed}
-use Rattle.table.specs.Answers.{checkOf}
-use Rattle.table.specs.declared.Checked.{Checked}
+use Rattle.common.specs.Answers.{checkOf}
+use Rattle.common.specs.declared.Checked.{Checked}
 use Rattle.table.specs.declared.Checked.the-variants as Checked
 use Rattle.decode.specs.declared.Sizes.{Sizes}
 use Rattle.decode.specs.declared.Decoded.{Decoded}
 use Rattle.decode.specs.declared.Decoded.the-variants as Decoded
 use Rattle.decode.specs.Answers.{saidOf}
-use Rattle.decode.specs.Stores.{cleared, left, tableSizes, leftBy}
+use Rattle.common.specs.Stores.{cleared}
+use Rattle.decode.specs.Stores.{left, tableSizes, leftBy}
 use Rattle.decode.specs.Stores as Stores
 use Rattle.dossier.specs.Ends.{front, settled, refusedOf, undecodedOf, sectionsRun}
 use Rattle.dossier.proofs.Records.{length-numbers}

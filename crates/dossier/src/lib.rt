@@ -4,11 +4,11 @@
 use decode::Decoded;
 use header::HeaderAnswer;
 use refusal::Answer;
-use table::Checked;
+use common::Checked;
 ghost use mathlib.Core.Path.{_≡_};
 ghost use Rattle.scope.specs.Header.{checkHeader};
 ghost use Rattle.scope.specs.Run.{leftWith, ended, run};
-ghost use Rattle.table.specs.Answers.{checkOf};
+ghost use Rattle.common.specs.Answers.{checkOf};
 ghost use Rattle.dossier.specs.Ends.{front, keeps, settled, refusedOf, undecodedOf, sectionsRun};
 
 // The sections of a dossier, by their places in the header.

@@ -6,7 +6,7 @@ use bititer::NaturalFault;
 use bititer::NaturalRead;
 use decode::Decoded;
 use refusal::Answer;
-use table::Checked;
+use common::Checked;
 ghost use mathlib.Core.Path.{_≡_};
 ghost use lib.ListN.{length};
 ghost use Prim.Native.Nat.{_/_};

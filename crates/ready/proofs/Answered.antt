@@ -18,7 +18,7 @@ use Rattle.scope.specs.Input.{checkInput}
 use Rattle.scope.specs.Stores.{checkStores}
 use Rattle.scope.specs.Run.{Tables, programOf, Ready, checkReady}
 use Rattle.scope.specs.Stages.{lent, arrowStage, hashStage}
-use Rattle.common.specs.Checks.{clash, then-passes}
+use Rattle.exactness.specs.Checks.{clash, then-passes}
 use Rattle.theory.specs.NodeTerms.{cells-alike, frames-alike}
 use Rattle.table.specs.declared.Checked.the-variants.{Passed, Refused}
 use Rattle.table.proofs.Stages.{first-refused}

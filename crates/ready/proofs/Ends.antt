@@ -19,7 +19,7 @@ use Rattle.scope.specs.Nodes.{Kind, kindOf, nodeOf, NodeRecord, nodesOf, nodeAt
 use Rattle.scope.specs.Arrows.{Arrow, noArrow, target}
 use Rattle.scope.specs.Stages.{noRecord}
 use Rattle.scope.specs.Closing.{closes}
-use Rattle.common.specs.Checks.{not-both}
+use Rattle.exactness.specs.Checks.{not-both}
 use Rattle.bititer.proofs.Closing.{closes-past}
 use Rattle.table.proofs.Records.{node-at}
 use Rattle.table.proofs.Groups.{by-kind, unknown}

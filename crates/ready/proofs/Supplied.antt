@@ -12,7 +12,7 @@ use Rattle.scope.specs.Types.{TypeRecord, tyAt}
 use Rattle.scope.specs.Arrows.{Arrow, noArrow, source, target}
 use Rattle.scope.specs.Witness.{checkWitness}
 use Rattle.scope.specs.Input.{checkInput}
-use Rattle.common.specs.Checks.{clash}
+use Rattle.exactness.specs.Checks.{clash}
 use Rattle.table.specs.declared.Checked.the-variants.{Passed, Refused}
 use Rattle.ready.specs.Positions.{positionsOf}
 use Rattle.ready.specs.Answers.{verdict, unreadOf, witnessTable, storesRule, supplied, suppliedTable}

@@ -1,31 +1,21 @@
 -- What each public call promises has one outcome: over a call's own promise, two results are the same.
-use mathlib.Core.Path.{_≡_, refl, sym, ap, ap₂, _∙_}
+use mathlib.Core.Path.{_≡_, sym, ap, _∙_}
 use mathlib.Core.Bool.{Bool}
 use mathlib.Core.List.{List, []}
 use Prim.Native.Nat.{ℕ, _*_}
 use lib.ListN.{length, getD}
 use Rattle.limits.specs.Limits.{nodeCount}
-use Rattle.scope.specs.Check.{Check, passed, refused}
-use Rattle.scope.specs.Numbers.{same}
 use Rattle.scope.specs.Nodes.{kindOf, NodeRecord, nodeRecords}
 use Rattle.scope.specs.Walk.{hiddenAt}
 use Rattle.scope.specs.Stages.{counted, numbersRule, noRecord, walkStage}
-use Rattle.common.specs.Checks.{clash}
 use Rattle.table.specs.declared.NodeRecord.{NodeRecord as Lent}
-use Rattle.table.specs.declared.Checked.{Checked}
-use Rattle.table.specs.declared.Checked.the-variants.{Passed, Refused}
-use Rattle.table.specs.Answers.{recordOf, checkOf}
+use Rattle.common.specs.declared.Checked.{Checked}
+use Rattle.common.specs.Answers.{checkOf, check-tells}
+use Rattle.table.specs.Answers.{recordOf}
 use Rattle.table.specs.Lent.{lentNodes}
-use Rattle.table.specs.Walking.{inTurn}
 use Rattle.table.specs.Stage.{countedRecords, countedWalk}
 
--- a check's answer tells it, and a record's numbers tell it
-pub check-tells : (c d : Checked) → checkOf c ≡ checkOf d → c ≡ d
-check-tells Passed Passed e = refl
-check-tells Passed (Refused why) e = clash (cc)
-check-tells (Refused why) Passed e = clash (cc)
-check-tells (Refused why) (Refused other) e = ap Refused (cc)
-
+-- a record's numbers tell it
 pub record-tells : (r q : Lent) → recordOf r ≡ recordOf q → r ≡ q
 record-tells r q e = ap (λ (x : NodeRecord). record { kind = x .kind; first = x .first; second = x .second; third = x .third }) e
 
@@ -50,9 +40,3 @@ walk-stage program hashes nodes r q d e = check-tells r q (d ∙ sym e)
 
 pub hidden-at : (nodes : List ℕ) (j : ℕ) (x y : Bool) → x ≡ hiddenAt (lentNodes [] nodes) j → y ≡ hiddenAt (lentNodes [] nodes) j → x ≡ y
 hidden-at nodes j x y d e = d ∙ sym e
-
-pub same-bytes : (a b : List ℕ) (x y : Bool) → x ≡ same a b → y ≡ same a b → x ≡ y
-same-bytes a b x y d e = d ∙ sym e
-
-pub first-refusal : (a b r q : Checked) → checkOf r ≡ inTurn (checkOf a) (checkOf b) → checkOf q ≡ inTurn (checkOf a) (checkOf b) → r ≡ q
-first-refusal a b r q d e = check-tells r q (d ∙ sym e)

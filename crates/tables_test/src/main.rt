@@ -4,7 +4,7 @@
 use decode::Decoded;
 use packed::Tally;
 use refusal::Refusal;
-use table::Checked;
+use common::Checked;
 
 // The numbers of a store of nodes, room for a record more than a table may have and for a part of one.
 const NUMBERS: usize = 8_200;

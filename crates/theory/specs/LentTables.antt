@@ -20,8 +20,8 @@ use Rattle.scope.specs.Walk.{checkWalk}
 use Rattle.scope.specs.Program.{whole}
 use Rattle.scope.specs.Run.{Tables, Ready, checkTables, checkReady, Left}
 use Rattle.scope.specs.Stages.{counted, recordRule, checkRecords, lentTables, lent, hashStage, runStage}
-use Rattle.common.specs.Checks.{every-all, both-passed, require-holds, each-holds}
-use Rattle.common.specs.Bits.{length-bits}
+use Rattle.exactness.specs.Checks.{every-all, both-passed, require-holds, each-holds}
+use Rattle.exactness.specs.Bits.{length-bits}
 use Rattle.theory.specs.Records.{length-nodes, records-below, records-word}
 use Rattle.theory.specs.Answers.{told, output}
 use Rattle.theory.specs.Accepted.{Checked, tables-say, tables-output}

@@ -18,8 +18,8 @@ use Rattle.report.specs.Canonical.{children}
 use Rattle.scope.specs.Numbers.{every}
 use Rattle.scope.specs.Nodes.{Kind, kComp, kCase, kPair, kDisconnect, kInjl, kInjr, kTake, kDrop, kIden, kUnit, kFail, kDisconnect1, kWitness, kHidden, kWord, kUnknown, kindOf, NodeRecord, nodeOf, nodesOf, nodeAt}
 use Rattle.scope.specs.Stages.{numbersRule, noRecord, recordRule}
-use Rattle.common.specs.Checks.{clash, not-both, every-all}
-use Rattle.common.specs.Bits.{AllBelow}
+use Rattle.exactness.specs.Checks.{clash, not-both, every-all}
+use Rattle.exactness.specs.Bits.{AllBelow}
 
 -- a table has a node for each record
 pub length-nodes : (bits : List Bit) (hashes : List ℕ) (records : List NodeRecord) → length (nodesOf bits hashes records) ≡ length records

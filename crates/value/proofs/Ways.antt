@@ -14,8 +14,7 @@ use Rattle.report.specs.Bits.{Bit, bitsOf}
 use Rattle.report.specs.Values.{Cells}
 use Rattle.scope.specs.Numbers.{zeros}
 use Rattle.scope.specs.Run.{cellsOf}
-use Rattle.common.specs.Checks.{every-all}
-use Rattle.common.specs.Checks.{every-failed}
+use Rattle.common.specs.Checks.{every-all, every-failed}
 use Rattle.types.proofs.Records.{every-both}
 use Rattle.value.specs.Bits.{Used, used, short, after, tagOf, skipShape, padShape, unpadShape, skipped, room, padding, padStage, unpadding, unpadStage}
 use Rattle.value.specs.Shapes.{Shape, nothing, plain, tag, both, part, stepAt, shapeAt}

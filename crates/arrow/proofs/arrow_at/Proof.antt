@@ -5,7 +5,7 @@ use lib.ListN.{length}
 use borrow.Author.Needs.{needs}
 use Rattle.limits.specs.Limits.{arrowBytes}
 use Rattle.scope.specs.Arrows.{noArrow, arrowRecord, arrowRecords}
-use Rattle.common.specs.Tables.{tabulate-at, tabulate-past}
+use Rattle.types.proofs.Tables.{tabulate-at, tabulate-past}
 use Rattle.arrow.proofs.arrow_at.Statement.{statement}
 use Rattle.arrow.proofs.arrow_at.Tie as tie
 

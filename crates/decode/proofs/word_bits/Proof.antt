@@ -1,6 +1,6 @@
 -- `decode::word_bits` meets its contract: the shift loses nothing.
 use borrow.Author.Needs.{needs}
-use Rattle.table.proofs.Tests.{word-exact, word-small}
+use Rattle.common.specs.Checks.{word-exact, word-small}
 use Rattle.decode.proofs.word_bits.Statement.{statement}
 use Rattle.decode.proofs.word_bits.Tie as tie
 
