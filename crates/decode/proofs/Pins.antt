@@ -8,7 +8,6 @@ use Rattle.scope.specs.Closing as Closing
 use Rattle.common.specs.Checks.{clash}
 use Rattle.decode.specs.declared.Decoded.{Decoded}
 use Rattle.decode.specs.Answers.{saidOf}
-use Rattle.common.specs.Stores.{cleared}
 use Rattle.decode.specs.Stores.{Left, left, leftBy}
 
 -- what an answer says tells it
@@ -25,10 +24,3 @@ pub decode : (program nodes hashes : List ℕ) (r q : Decoded) (n m h g : List �
 decode program nodes hashes r q n m h g d e =
     let same : left (saidOf r) n h ≡ left (saidOf q) m g = d ∙ sym e in
     (answer-tells r q (ap (λ (x : Left). x .says) same), ap (λ (x : Left). x .nodes) same, ap (λ (x : Left). x .hashes) same)
-
--- clearing a store, of numbers or of bytes
-pub clear-numbers : (store : List ℕ) (from : ℕ) (n m : List ℕ) → n ≡ cleared store from → m ≡ cleared store from → n ≡ m
-clear-numbers store from n m d e = d ∙ sym e
-
-pub clear-bytes : (store : List ℕ) (from : ℕ) (n m : List ℕ) → n ≡ cleared store from → m ≡ cleared store from → n ≡ m
-clear-bytes store from n m d e = d ∙ sym e

@@ -18,7 +18,7 @@ use Rattle.scope.specs.Nodes.{NodeRecord, nodeRecords, nodeNumbersOf, nodesOf}
 use Rattle.scope.specs.Reading.{Got, got, fault, refusalAt, Item, naturalUpTo, nodeIn, Table, nodesFrom, readNodes}
 use Rattle.scope.specs.Walk.{checkWalk}
 use Rattle.scope.specs.Closing.{closes, decode, nodesLeft, hashesLeft}
-use Rattle.common.specs.Checks.{clash, count-fine, then-then, then-refuses, then-passes}
+use Rattle.common.specs.Checks.{clash, counted-fine, then-then, then-refuses, then-passes}
 use Rattle.bititer.specs.Answers.{placed}
 use Rattle.bititer.proofs.Naturals.{up-to-got}
 use Rattle.common.specs.Answers.{checkOf}
@@ -257,7 +257,7 @@ module _ (program nodes hashes : List ℕ) (n at : ℕ) (whole : length nodes �
 
   walk-is : countedWalk hashes nodes ≡ checkWalk (nodesOf (streamOf program) hashes (nodeRecords nodes))
   walk-is =
-      walk-then hashes nodes (sym (count-fine (length (nodeRecords nodes)) nodeCount (omega (arith, count-is)) (omega (arith, count-is))))
+      walk-then hashes nodes (counted-fine (length (nodeRecords nodes)) nodeCount (omega (arith, count-is)) (omega (arith, count-is)))
       ∙ sym (walk-any-bits (streamOf program) hashes (nodeRecords nodes))
 
   abbrev closing : Unit {0} → Check Table

@@ -3,10 +3,9 @@
 // Places go by the sections: each has to start where the one before it ends, which the check carries along.
 ghost use mathlib.Core.Path.{_≡_};
 ghost use Prim.Native.Nat.{_+_, _*_, _^_, _≤_, _<_};
-ghost use lib.ListN.{length, getD};
+ghost use lib.ListN.{length};
 ghost use Rattle.limits.specs.Limits.{dossierBytes};
 ghost use Rattle.scope.specs.Check.{firstFailing};
-ghost use Rattle.scope.specs.Numbers.{be16};
 ghost use Rattle.scope.specs.Header.{number, count, size, start, headerRule, checkHeader, section, opened};
 ghost use Rattle.header.specs.Answer.{headerAnswer};
 use refusal::Refusal;
@@ -23,32 +22,6 @@ const SECTIONS: usize = 6;
 // The header's numbers: the version, a count and an offset for each section, and the total.
 const NUMBERS: usize = 14;
 
-// A byte as a number with room for four of them.
-fn wide(b: u8) -> u32
-    ensures { λ r. ⌜ (r ≡ b) × (r < 256) ⌝ }
-{
-    b as u32
-}
-
-// The byte at a place; 0 past the end.
-fn byte_at(dossier: &[u8], at: usize) -> u32
-    ensures { λ r. ⌜ (r ≡ getD (now (dossier .entry)) at 0) × (r < 256) ⌝ }
-{
-    if at < dossier.len() {
-        wide(dossier[at])
-    } else {
-        0
-    }
-}
-
-// The 16-bit number at a place, with 0 for bytes past the end.
-fn half_at(dossier: &[u8], at: usize) -> u32
-    requires { ⌜ at + 1 < 2 ^ 64 ⌝ }
-    ensures { λ r. ⌜ (r ≡ be16 (now (dossier .entry)) at) × (r < 65536) ⌝ }
-{
-    byte_at(dossier, at) * 256 + byte_at(dossier, at + 1)
-}
-
 // Number j of the header, with 0 for bytes past the end.
 fn number(dossier: &[u8], j: usize) -> u32
     ensures { λ r. ⌜ r ≡ number (now (dossier .entry)) j ⌝ }
@@ -56,8 +29,7 @@ fn number(dossier: &[u8], j: usize) -> u32
     if dossier.len() / 4 < j {
         return 0;
     }
-    let at = 4 * j;
-    half_at(dossier, at) * 65536 + half_at(dossier, at + 2)
+    common::number_at(dossier, 4 * j)
 }
 
 // The count of section k: bytes of the program, bits of witness and input, else records; 0 past the dossier's end.
@@ -167,16 +139,9 @@ pub fn section(dossier: &[u8], k: usize) -> &[u8]
     if SECTIONS <= k {
         return &dossier[..0];
     }
-    let from = start(dossier, k);
-    let to = from + size(dossier, k);
-    let length = dossier.len() as u64;
-    if length < from {
-        return &dossier[..0];
-    }
-    if length < to {
-        return &dossier[from as usize..];
-    }
-    &dossier[from as usize..to as usize]
+    let from = start(dossier, k) as usize;
+    let bytes = size(dossier, k) as usize;
+    common::part(dossier, from, bytes)
 }
 
 // Section k, as that part of the dossier; empty where the header is refused or there is no such section.
