@@ -3,21 +3,11 @@ use mathlib.Core.Path.{_≡_, refl, sym, _∙_}
 use mathlib.Core.Bool.{Bool}
 use mathlib.Core.List.{List}
 use Prim.Native.Nat.{ℕ}
-use lib.ListN.{take, drop, getD}
-use Rattle.scope.specs.Numbers.{be16, be32}
+use lib.ListN.{take, drop}
 use Rattle.packed.specs.Lists.{unpacked, holdsNumbers, laid}
 use Rattle.packed.specs.Records.{number, part, firstRecord, afterFirst, tells}
 use Rattle.packed.specs.Tallies.{counted}
 use Rattle.packed.specs.declared.Tally.{Tally}
-
-pub byte : (v : List ℕ) (at r q : ℕ) → r ≡ getD v at 0 → q ≡ getD v at 0 → r ≡ q
-byte v at r q e f = e ∙ sym f
-
-pub number16 : (v : List ℕ) (at r q : ℕ) → r ≡ be16 v at → q ≡ be16 v at → r ≡ q
-number16 v at r q e f = e ∙ sym f
-
-pub number32 : (v : List ℕ) (at r q : ℕ) → r ≡ be32 v at → q ≡ be32 v at → r ≡ q
-number32 v at r q e f = e ∙ sym f
 
 pub number-of : (v : List ℕ) (k r q : ℕ) → r ≡ number v k → q ≡ number v k → r ≡ q
 number-of v k r q e f = e ∙ sym f
