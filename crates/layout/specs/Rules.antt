@@ -9,8 +9,8 @@ use native.Mathlib.Nat.{add-zero}
 use native.Mathlib.Numerals.{add-one}
 use lib.ListN.{length, getD, set, replicate, length-set}
 use Rattle.report.specs.Bits.{Bit}
-use Rattle.scope.specs.Machine.{Frame}
-use Rattle.layout.specs.Mach.{Mach, mach, frame, noFrame, writePlace, readPlace, activeWrite, activeRead}
+use Rattle.scope.specs.Machine.{Frame, frameFrom, forward, backward, reset}
+use Rattle.layout.specs.Mach.{Mach, mach, noFrame, writePlace, readPlace, activeWrite, activeRead}
 
 -- a list of cells with bits from a place on, one after the other
 unfoldable pub bitsPut : List ℕ → (to : ℕ) → List Bit → List ℕ
@@ -24,24 +24,23 @@ bitsCopied l from to (suc n) =
     let before = bitsCopied l from to n in
     set before (to + n) (getD before (from + n) 0)
 
--- the records with the cursor of the active write frame, or of the active read frame, at a place
-abbrev pub writeCursorAt : ℕ → Mach → List Frame
-writeCursorAt c m = set (m .records) (writePlace m) (frame c (activeWrite m .start) (activeWrite m .len))
+-- the records with the cursor of the active write frame moved, or with that of the active read frame
+abbrev pub writeMoved : (Frame → Frame) → Mach → List Frame
+writeMoved move m = set (m .records) (writePlace m) (move (activeWrite m))
 
-abbrev pub readCursorAt : ℕ → Mach → List Frame
-readCursorAt c m = set (m .records) (readPlace m) (frame c (activeRead m .start) (activeRead m .len))
+abbrev pub readMoved : (Frame → Frame) → Mach → List Frame
+readMoved move m = set (m .records) (readPlace m) (move (activeRead m))
 
 -- a write frame of n cells above all frames; its cells keep their old bits
 unfoldable pub pushed : ℕ → Mach → Mach
 pushed n m =
-    mach (m .bits) (set (m .records) (m .writeFrames) (frame (m .next) (m .next) n)) (m .writeFrames + 1) (m .readFrames) (m .next + n)
+    mach (m .bits) (set (m .records) (m .writeFrames) (frameFrom (m .next) n)) (m .writeFrames + 1) (m .readFrames) (m .next + n)
 
 -- the active write frame becomes the active read frame, its cursor at its start
 unfoldable pub moved : Mach → Mach
 moved m =
     mach (m .bits)
-    (set (set (m .records) (writePlace m) noFrame) (length (m .records) - (m .readFrames + 1))
-    (frame (activeWrite m .start) (activeWrite m .start) (activeWrite m .len)))
+    (set (set (m .records) (writePlace m) noFrame) (length (m .records) - (m .readFrames + 1)) (reset (activeWrite m)))
     (m .writeFrames - 1) (m .readFrames + 1) (m .next)
 
 -- the active read frame, which is the uppermost, goes
@@ -51,35 +50,35 @@ dropped m = mach (m .bits) (set (m .records) (readPlace m) noFrame) (m .writeFra
 -- a bit at the write cursor, which goes one cell on
 unfoldable pub bitWritten : Bit → Mach → Mach
 bitWritten b m =
-    mach (set (m .bits) (activeWrite m .cursor) b) (writeCursorAt (activeWrite m .cursor + 1) m) (m .writeFrames) (m .readFrames) (m .next)
+    mach (set (m .bits) (activeWrite m .cursor) b) (writeMoved (forward 1) m) (m .writeFrames) (m .readFrames) (m .next)
 
 -- bits from the write cursor on, which goes behind them
 unfoldable pub bitsWritten : List Bit → Mach → Mach
 bitsWritten [] m = m
 bitsWritten (b ∷ bs) m =
-    mach (bitsPut (m .bits) (activeWrite m .cursor) (b ∷ bs)) (writeCursorAt (activeWrite m .cursor + length (b ∷ bs)) m) (m .writeFrames)
+    mach (bitsPut (m .bits) (activeWrite m .cursor) (b ∷ bs)) (writeMoved (forward (length (b ∷ bs))) m) (m .writeFrames)
     (m .readFrames) (m .next)
 
 -- the write cursor n cells on, which keep their old bits
 unfoldable pub skipped : ℕ → Mach → Mach
 skipped zero m = m
-skipped (suc n) m = mach (m .bits) (writeCursorAt (activeWrite m .cursor + suc n) m) (m .writeFrames) (m .readFrames) (m .next)
+skipped (suc n) m = mach (m .bits) (writeMoved (forward (suc n)) m) (m .writeFrames) (m .readFrames) (m .next)
 
 -- n cells from the read cursor on to the write cursor, which goes behind them
 unfoldable pub copied : ℕ → Mach → Mach
 copied zero m = m
 copied (suc n) m =
-    mach (bitsCopied (m .bits) (activeRead m .cursor) (activeWrite m .cursor) (suc n)) (writeCursorAt (activeWrite m .cursor + suc n) m)
+    mach (bitsCopied (m .bits) (activeRead m .cursor) (activeWrite m .cursor) (suc n)) (writeMoved (forward (suc n)) m)
     (m .writeFrames) (m .readFrames) (m .next)
 
 -- the read cursor n cells on, and n cells back
 unfoldable pub forwarded : ℕ → Mach → Mach
 forwarded zero m = m
-forwarded (suc n) m = mach (m .bits) (readCursorAt (activeRead m .cursor + suc n) m) (m .writeFrames) (m .readFrames) (m .next)
+forwarded (suc n) m = mach (m .bits) (readMoved (forward (suc n)) m) (m .writeFrames) (m .readFrames) (m .next)
 
 unfoldable pub backed : ℕ → Mach → Mach
 backed zero m = m
-backed (suc n) m = mach (m .bits) (readCursorAt (activeRead m .cursor - suc n) m) (m .writeFrames) (m .readFrames) (m .next)
+backed (suc n) m = mach (m .bits) (readMoved (backward (suc n)) m) (m .writeFrames) (m .readFrames) (m .next)
 
 -- the bit at the read cursor
 abbrev pub peeked : Mach → Bit
@@ -132,7 +131,7 @@ unfolding skipped
 skipped-zero n m e = rw e
 
 pub skipped-some : (n : ℕ) (m : Mach) → (n ≡ 0 → ⊥)
-    → skipped n m ≡ mach (m .bits) (writeCursorAt (activeWrite m .cursor + n) m) (m .writeFrames) (m .readFrames) (m .next)
+    → skipped n m ≡ mach (m .bits) (writeMoved (forward n) m) (m .writeFrames) (m .readFrames) (m .next)
 unfolding skipped
 skipped-some zero m h = absurd (h refl)
 skipped-some (suc n) m h = refl
@@ -142,7 +141,7 @@ unfolding forwarded
 forwarded-zero n m e = rw e
 
 pub forwarded-some : (n : ℕ) (m : Mach) → (n ≡ 0 → ⊥)
-    → forwarded n m ≡ mach (m .bits) (readCursorAt (activeRead m .cursor + n) m) (m .writeFrames) (m .readFrames) (m .next)
+    → forwarded n m ≡ mach (m .bits) (readMoved (forward n) m) (m .writeFrames) (m .readFrames) (m .next)
 unfolding forwarded
 forwarded-some zero m h = absurd (h refl)
 forwarded-some (suc n) m h = refl
@@ -152,7 +151,7 @@ unfolding backed
 backed-zero n m e = rw e
 
 pub backed-some : (n : ℕ) (m : Mach) → (n ≡ 0 → ⊥)
-    → backed n m ≡ mach (m .bits) (readCursorAt (activeRead m .cursor - n) m) (m .writeFrames) (m .readFrames) (m .next)
+    → backed n m ≡ mach (m .bits) (readMoved (backward n) m) (m .writeFrames) (m .readFrames) (m .next)
 unfolding backed
 backed-some zero m h = absurd (h refl)
 backed-some (suc n) m h = refl
@@ -163,7 +162,7 @@ copied-zero n m e = rw e
 
 pub copied-some : (n : ℕ) (m : Mach) → (n ≡ 0 → ⊥)
     → copied n m
-    ≡ mach (bitsCopied (m .bits) (activeRead m .cursor) (activeWrite m .cursor) n) (writeCursorAt (activeWrite m .cursor + n) m) (m .writeFrames)
+    ≡ mach (bitsCopied (m .bits) (activeRead m .cursor) (activeWrite m .cursor) n) (writeMoved (forward n) m) (m .writeFrames)
     (m .readFrames) (m .next)
 unfolding copied
 copied-some zero m h = absurd (h refl)
@@ -171,7 +170,7 @@ copied-some (suc n) m h = refl
 
 pub bitsWritten-some : (bs : List Bit) (m : Mach) → (length bs ≡ 0 → ⊥)
     → bitsWritten bs m
-    ≡ mach (bitsPut (m .bits) (activeWrite m .cursor) bs) (writeCursorAt (activeWrite m .cursor + length bs) m) (m .writeFrames) (m .readFrames)
+    ≡ mach (bitsPut (m .bits) (activeWrite m .cursor) bs) (writeMoved (forward (length bs)) m) (m .writeFrames) (m .readFrames)
     (m .next)
 unfolding bitsWritten
 bitsWritten-some [] m h = absurd (h refl)

@@ -1,4 +1,4 @@
--- The lent stores themselves, bytes of cells and numbers of frames: a part of them is handed to the machine, and the rest is as it was.
+-- The lent cells themselves, in bytes: a part of them is handed to the machine, and the rest is as it was.
 -- The bits of the part are the list of the machine's cells, before the run and after it.
 use mathlib.Core.Path.{_≡_, refl, sym, ap, _∙_}
 use mathlib.Core.List.{List, [], _∷_, _++_}
@@ -7,12 +7,10 @@ use native.Mathlib.Omega.{arith}
 use native.Mathlib.Decide.{decLt}
 use lib.ListN.{length, getD, take, drop, length-append, length-take, length-drop, take-append-drop, List·getD-append}
 use lib.Seq.{getD-append-add}
-use Rattle.limits.specs.Limits.{frameNumbers}
 use Rattle.report.specs.Bits.{byteBits, bitsOf}
 use Rattle.report.specs.Values.{Cells}
 use Rattle.scope.specs.Numbers.{tabulate}
 use Rattle.scope.specs.Run.{cellsOf}
-use Rattle.layout.specs.Mach.{recordsOf, length-recordsOf}
 use Rattle.layout.specs.Safe.{length-bitsOf}
 use Rattle.layout.specs.Layout.{same-tabulate, tabulate-list, length-tabulate, get-tabulate}
 use Rattle.layout.specs.Follow.{KeptFrom}
@@ -66,7 +64,3 @@ module _ (bytes : List ℕ) (b : ℕ) (held : b ≤ length bytes) where
             ∙ ap (λ k. getD (bitsOf (drop b bytes)) (p - 8 * k) 0) (length-part ∙ sym as-long)
             ∙ sym (cell-behind part (drop b bytes) p (omega (arith, as-long)))
       ]
-
--- the part of the frame store that holds `most` records
-pub records-lent : (numbers : List ℕ) (most : ℕ) → frameNumbers * most ≤ length numbers → length (recordsOf (take (frameNumbers * most) numbers)) ≡ most
-records-lent numbers most h = omega (arith, length-recordsOf (take (frameNumbers * most) numbers), length-take (frameNumbers * most) numbers)
