@@ -16,9 +16,9 @@ use Rattle.scope.specs.Reading.{Got, got, fault, streamEnded, hashesShort, octe
 use Rattle.bititer.specs.Answers.{Stored, stored, placed, storing}
 use Rattle.common.specs.Lists.{drop-take}
 use Rattle.common.specs.Numbers.{double, shift-in}
-use Rattle.common.specs.Bits.{bits-of-byte, length-bytes}
+use Rattle.common.specs.Bits.{bits-of-byte, length-bytes, stream-within}
 use Rattle.bititer.proofs.Bits.{below-eight, bits-from, byte-at}
-use Rattle.bititer.proofs.Streams.{stream-within, stream-some, octets-within, octets-past}
+use Rattle.bititer.proofs.Streams.{stream-some, octets-within, octets-past}
 
 -- a number from two parts of its bits
 number-append : (n : ℕ) (l r : List Bit) → numberFrom n (l ++ r) ≡ numberFrom (numberFrom n l) r

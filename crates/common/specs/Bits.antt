@@ -1,10 +1,13 @@
 -- Lists that hold bits alone: each number is 0 or 1.
 -- Every string of bytes is such a list, and so is each part of one; whole bytes and their bits are two spellings of one thing.
-use mathlib.Core.Path.{_≡_, refl, ap, ap₂}
+use mathlib.Core.Path.{_≡_, refl, ap, ap₂, _∙_}
 use mathlib.Core.List.{List, [], _∷_, _++_}
-use Prim.Native.Nat.{ℕ, zero, suc, _+_, _*_, _/_, _%_, _<_}
+use Prim.Native.Nat.{ℕ, zero, suc, _+_, _*_, _/_, _%_, _≤_, _<_}
 use native.Mathlib.Omega.{arith}
 use lib.ListN.{length, getD, drop}
+use borrow.Author.Tests.{lt-ltb, le-ltb}
+use Rattle.limits.specs.Limits.{dossierBytes}
+use Rattle.scope.specs.Numbers.{streamOf}
 use Rattle.report.specs.Bits.{Bit, byteBits, bitsOf, numberFrom, bytesOf}
 
 -- every number of the list is below the bound
@@ -48,6 +51,18 @@ pub bits-append : (xs ys : List ℕ) → bitsOf (xs ++ ys) ≡ bitsOf xs ++ bits
 unfolding bitsOf
 bits-append [] ys = refl
 bits-append (x ∷ xs) ys = ap (λ l. byteBits x ++ l) (bits-append xs ys)
+
+-- a slice's stream: its bits within the limit of a dossier, and none above it
+pub stream-within : (bytes : List ℕ) → length bytes ≤ dossierBytes → streamOf bytes ≡ bitsOf bytes
+unfolding streamOf
+stream-within bytes h = rw (le-ltb dossierBytes (length bytes) h, streamOf)
+
+pub stream-over : (bytes : List ℕ) → dossierBytes < length bytes → streamOf bytes ≡ []
+unfolding streamOf
+stream-over bytes h = rw (lt-ltb dossierBytes (length bytes) h, streamOf)
+
+pub length-within : (bytes : List ℕ) → length bytes ≤ dossierBytes → length (streamOf bytes) ≡ 8 * length bytes
+length-within bytes h = ap length (stream-within bytes h) ∙ length-bits bytes
 
 pub are-bits : (bytes : List ℕ) → AreBits (bitsOf bytes)
 unfolding bitsOf

@@ -11,6 +11,10 @@ use Rattle.scope.specs.Numbers.{zeros}
 abbrev pub cleared : (store : List ℕ) → (from : ℕ) → List ℕ
 cleared store from = take from store ++ zeros (length store - from)
 
+-- cleared from its start on, it holds zeros alone
+pub all-cleared : (store : List ℕ) → cleared store 0 ≡ zeros (length store)
+all-cleared store = ap zeros (let e : length store - 0 ≡ length store = omega arith in e)
+
 module _ (store : List ℕ) (from : ℕ) where
   -- the store with zeros from the index up to j
   abbrev pub clearedTo : (j : ℕ) → List ℕ

@@ -37,7 +37,7 @@ use Rattle.decode.specs.declared.Decoded.{Decoded}
 use Rattle.decode.specs.Answers.{sizeOf, saidOf}
 use Rattle.decode.specs.declared.NumberRead.{NumberRead}
 use Rattle.decode.specs.Heads.{atNode, countIn, begunOf}
-use Rattle.common.specs.Stores.{cleared}
+use Rattle.common.specs.Stores.{cleared, all-cleared}
 use Rattle.decode.specs.Stores.{recordPut, NodeMeans, Room, tableIn, tableOf, more, StepMeans, readAll, judging, ReadMeans, JudgedMeans, DecodedMeans, settledOf, stoppedOf, sizesOf, left, tableSizes, leftBy}
 use Rattle.decode.proofs.Records.{put-records}
 
@@ -317,7 +317,7 @@ cleared-filled store store₀ n numbers h l e =
     ap₂ (λ (x : List ℕ) (y : ℕ). x ++ zeros y) (sym e) (let z : length store - n ≡ length store₀ - length numbers = omega arith in z)
 
 cleared-whole : (store store₀ : List ℕ) → length store ≡ length store₀ → cleared store 0 ≡ zeros (length store₀)
-cleared-whole store store₀ l = ap zeros (let z : length store - 0 ≡ length store₀ = omega arith in z)
+cleared-whole store store₀ l = all-cleared store ∙ ap zeros l
 
 pub decode-leaves : (wanted : Check Table) (r : Decoded) (nodes hashes nodes₀ hashes₀ : List ℕ) → DecodedMeans wanted r nodes hashes
     → length nodes ≡ length nodes₀ → length hashes ≡ length hashes₀

@@ -35,7 +35,7 @@ use Rattle.exactness.specs.Programs.{IsProgram}
 use Rattle.exactness.specs.Canonical.{canonical-walk}
 use Rattle.exactness.specs.Decoding.{decoded-is-program, decoded-nodes, program-table}
 use Rattle.theory.specs.Job.{decoded}
-use Rattle.theory.specs.LentTables.{length-stream}
+use Rattle.common.specs.Bits.{length-within}
 use Rattle.header.specs.Answer.{headerAnswer}
 use Rattle.header.specs.declared.HeaderAnswer.the-variants.{Passed}
 use Rattle.header.proofs.Rules.{passes-all, section-end}
@@ -86,7 +86,7 @@ module _ (program : List ℕ) (records bytes : ℕ) (t : Table) (read : decode p
       let ns : List Node = p .0 in
       let h = program-table program records bytes ns (p .1) in
       let bits : List Bit = streamOf program in
-      let long : length bits ≡ 8 * length program = length-stream program (p .1 .within) in
+      let long : length bits ≡ 8 * length program = length-within program (p .1 .within) in
       let s = stands-split bits 0 (length (codeProgram ns)) (codeNatural (length ns)) (codeNodes 0 ns) (h .stands) in
       let front : Stands bits (length (codeNatural (length ns))) (length (codeProgram ns)) (codeNodes 0 ns) =
       subst (λ (k : ℕ). Stands bits k (length (codeProgram ns)) (codeNodes 0 ns)) (zero-add (length (codeNatural (length ns)))) (s .1) in

@@ -26,13 +26,12 @@ use Rattle.decode.specs.declared.Sizes.{Sizes}
 use Rattle.decode.specs.declared.Decoded.{Decoded}
 use Rattle.decode.specs.declared.Decoded.the-variants as Decoded
 use Rattle.decode.specs.Answers.{saidOf}
-use Rattle.common.specs.Stores.{cleared}
+use Rattle.common.specs.Stores.{cleared, all-cleared}
 use Rattle.decode.specs.Stores.{left, tableSizes, leftBy}
 use Rattle.decode.specs.Stores as Stores
 use Rattle.dossier.specs.Ends.{front, settled, refusedOf, undecodedOf, sectionsRun}
 use Rattle.dossier.proofs.Records.{length-numbers}
 use Rattle.dossier.proofs.Decoded.{stage, stage-own}
-use Rattle.dossier.proofs.Settled.{all-cleared}
 use Rattle.dossier.proofs.Job.{nodes-fit, hashes-fit, job-front, job-read, job-ran}
 
 -- the run stage on slices that are the sections of a dossier

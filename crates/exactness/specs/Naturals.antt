@@ -8,27 +8,17 @@ use native.Mathlib.Omega.{arith}
 use native.Mathlib.Decide.{decLt}
 use lib.Pow.{pow-pos, pow-mono, pow-add, mod-pow-add, split, shr-lt, high}
 use lib.ListN.{length}
-use borrow.Author.Tests.{le-leb, lt-leb}
 use Rattle.limits.specs.Limits.{naturalLength}
 use Rattle.report.specs.Bits.{Bit}
 use Rattle.report.specs.Naturals.{lowBits, log2By, log2, codeBy, codeNatural}
 use Rattle.scope.specs.Naturals.{Natural, natural, ended, tooLong, moreBits, ofLength, readNatural}
-use Rattle.common.specs.Numbers.{double, shift-in}
+use Rattle.common.specs.Numbers.{double, shift-in, length-fits, length-too-long}
 use Rattle.common.specs.Checks.{clash}
 use Rattle.common.specs.Bits.{AreBits}
 
 -- one more than the largest natural that can be read
 abbrev pub naturalBound : ℕ
 naturalBound = 2 ^ suc naturalLength
-
--- a length within the limit is followed by its bits, a longer one is refused
-pub length-fits : (n : ℕ) (rest : List Bit) → n ≤ naturalLength → ofLength (natural n rest) ≡ moreBits n 1 rest
-unfolding ofLength
-length-fits n rest h = rw (le-leb n naturalLength h, ofLength)
-
-pub length-too-long : (n : ℕ) (rest : List Bit) → naturalLength < n → ofLength (natural n rest) ≡ tooLong
-unfolding ofLength
-length-too-long n rest h = rw (lt-leb n naturalLength h, ofLength)
 
 -- log2 n counts the bits of n below the top one
 log2By-between : (f n : ℕ) → n ≤ f → 1 ≤ n → (2 ^ log2By f n ≤ n) × (n < 2 ^ suc (log2By f n))

@@ -1,30 +1,27 @@
 -- Hidden nodes and their hashes in a lent table: which nodes are hidden, what a hash is, and how two are compared.
-use mathlib.Core.Path.{_≡_, refl, ap, _∙_}
-use mathlib.Core.Bool.{Bool, true, false}
+use mathlib.Core.Path.{_≡_, ap, _∙_}
+use mathlib.Core.Bool.{true, false}
 use mathlib.Core.List.{List, []}
 use Prim.Native.Nat.{ℕ}
 use lib.ListN.{getD, take, drop}
 use Rattle.limits.specs.Limits.{hashBytes}
 use Rattle.report.specs.Nodes.{Node}
-use Rattle.scope.specs.Numbers.{same}
+use Rattle.scope.specs.Numbers.{same, every}
 use Rattle.scope.specs.Nodes.{kindOf, NodeRecord, nodeOf, nodesOf, onHidden}
 use Rattle.scope.specs.Walk.{hiddenAt, hides}
 use Rattle.scope.specs.Stages.{noRecord}
+use Rattle.common.specs.Checks.{every-one}
 use Rattle.table.specs.Lent.{nodeIs, hiddenKind, hashIs}
 use Rattle.common.specs.Nodes.{node-at}
 use Rattle.table.proofs.Groups.{by-hidden}
 
-itself : (b : Bool) → elim b [ true ↦ true | false ↦ false ] ≡ b
-itself true = refl
-itself false = refl
-
 -- a node of a table is hidden where its record's kind is
 pub hidden-kind : (bits hashes : List ℕ) (rs : List NodeRecord) (j : ℕ) → hiddenAt (nodesOf bits hashes rs) j ≡ hiddenKind (getD rs j noRecord .kind)
-unfolding hiddenAt hiddenKind
+unfolding hiddenAt hiddenKind every
 hidden-kind bits hashes rs j =
     ap (λ (n : Node). onHidden n (λ hash. true) false) (node-at bits hashes rs j)
     ∙ by-hidden bits hashes (kindOf (getD rs j noRecord .kind)) (getD rs j noRecord .first) (getD rs j noRecord .second) (λ hash. true) false
-    ∙ itself (hiddenKind (getD rs j noRecord .kind))
+    ∙ every-one (hiddenKind (getD rs j noRecord .kind))
 
 -- and it has a hash where its record's bytes are that hash
 pub hides-kind : (bits hashes : List ℕ) (rs : List NodeRecord) (hash : List ℕ) (j : ℕ) → hides (nodesOf bits hashes rs) hash j

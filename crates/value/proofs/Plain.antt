@@ -8,7 +8,8 @@ use lib.ListN.{length, getD, take, drop, length-drop}
 use lib.Seq.{sets, length-take-le}
 use borrow.Author.Tests.{le-leb, lt-leb}
 use Rattle.bititer.proofs.Bits.{bit-small}
-use Rattle.bititer.proofs.Streams.{stream-some, stream-within}
+use Rattle.common.specs.Bits.{stream-within}
+use Rattle.bititer.proofs.Streams.{stream-some}
 use Rattle.cells.proofs.Parts.{bits-within}
 use Rattle.common.specs.Cells.{bitsFrom}
 use Rattle.report.specs.Bits.{Bit, bitsOf}

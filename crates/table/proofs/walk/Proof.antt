@@ -1,7 +1,6 @@
 -- `table::walk` meets its contract: the count, then the walk from the last node, which is not hidden.
 use Rattle.table.proofs.Stages.{count-refuses-walk, walk-stops, walk-ends}
-use Rattle.common.specs.Nodes.{length-records}
-use Rattle.common.specs.Nodes.{fine-records}
+use Rattle.common.specs.Nodes.{length-records, fine-records}
 use Rattle.common.specs.Answers.{checkOf}
 use Rattle.table.specs.Answers.{walkedOf, finishOf}
 use Rattle.scope.specs.Check.{require}
