@@ -28,11 +28,14 @@ extern "C" {
 /* Stack that is enough for any call. */
 #define DREVALOCI_STACK_BYTES (4u << 20)
 
+/* Numbers of a frame's record. */
+#define DREVALOCI_FRAME_RECORD 3
+
 /* Store sizes, in elements, that are enough for every dossier. */
 #define DREVALOCI_NODE_NUMBERS (4 * 2048)
 #define DREVALOCI_HASH_BYTES 32768
 #define DREVALOCI_CELL_BYTES (262144 / 8)
-#define DREVALOCI_FRAME_NUMBERS (3 * 1024)
+#define DREVALOCI_FRAME_NUMBERS (DREVALOCI_FRAME_RECORD * 1024)
 #define DREVALOCI_ANSWER_BYTES (32768 / 8)
 
 /* The whole job. 0: the output's bits stand in answer from the top bit of its first byte, *place is their count.

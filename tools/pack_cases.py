@@ -6,11 +6,14 @@ import sys
 
 from parts import write_parts
 
+# Numbers of a node's record and of a frame's.
+NODE_NUMBERS, FRAME_NUMBERS = 4, 3
+# The most cells, frames and cost.
+LIMITS = (262144, 1024, 50000000)
 # The most of each store that a run may ask: node numbers, hash bytes, cell bytes, frame numbers, answer bytes.
-LARGEST = [8192, 32768, 32768, 3072, 4096]
+LARGEST = [NODE_NUMBERS * 2048, 32768, LIMITS[0] // 8, FRAME_NUMBERS * LIMITS[1], 32768 // 8]
 NOT_TOLD = 255
 NO_ANSWER, NO_BOUNDS = [NOT_TOLD, 0], [NOT_TOLD, 0, 0, 0]
-LIMITS = (262144, 1024, 50000000)
 
 
 def rows(path):
@@ -88,7 +91,7 @@ def with_stores(row):
     node_records, hash_bytes, cell_bytes, frame_records, answer_bytes, fill = map(int, sizes.split())
     said, output = answer(line)
     stores = [number_list(nodes), from_hex(hashes), from_hex(cells), number_list(frames), from_hex(left)]
-    lent_sizes = [4 * node_records, hash_bytes, cell_bytes, 3 * frame_records, answer_bytes]
+    lent_sizes = [NODE_NUMBERS * node_records, hash_bytes, cell_bytes, FRAME_NUMBERS * frame_records, answer_bytes]
     return [lent(name, said, fill, lent_sizes, output, from_hex(dossier), stores)]
 
 

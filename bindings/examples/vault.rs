@@ -62,8 +62,8 @@ fn main() {
     }
     let (cells, frames) = needs(&dossier).expect("a program that was just accepted");
     let mut cells = vec![0; (cells as usize).div_ceil(8)];
-    let mut frames = vec![0; 3 * frames as usize];
-    println!("lent: {} bytes of cells, {} frame records", cells.len(), frames.len() / 3);
+    let mut frames = vec![0; drevaloci::FRAME_RECORD * frames as usize];
+    println!("lent: {} bytes of cells, {} frame records", cells.len(), frames.len() / drevaloci::FRAME_RECORD);
     let stores = Stores { cells: &mut cells, frames: &mut frames, answer: &mut answer };
     let second = drevaloci::run(&dossier, &mut nodes, &mut hashes, stores);
     print(second, &answer);

@@ -9,6 +9,8 @@ from parts import write_parts
 
 COMP, CASE, PAIR, DISCONNECT, INJL, INJR, TAKE, DROP, IDEN, UNIT, FAIL, DISCONNECT1, WITNESS, HIDDEN, WORD = range(15)
 FILLS = (0x00, 0xFF, 0xA5)
+# Numbers of a frame's record.
+FRAME_NUMBERS = 3
 
 
 class Stopped(Exception):
@@ -277,7 +279,7 @@ def outcome(p, given, fill, sizes):
     cells, frames, _ = bounds(p)
     source, target = p.widths[p.source(-1)], p.widths[p.target(-1)]
     old = [bytes([fill] * sizes[0]), [fill * 0x01010101] * sizes[1], bytes([fill] * sizes[2])]
-    for place, need in enumerate(((cells + 7) // 8, 3 * frames, (target + 7) // 8)):
+    for place, need in enumerate(((cells + 7) // 8, FRAME_NUMBERS * frames, (target + 7) // 8)):
         if sizes[place] < need:
             return f"refused 17 {place}", *old
     machine = Machine(p, [int(c) for c in f"{fill:08b}"] * sizes[0])
@@ -295,7 +297,7 @@ def outcome(p, given, fill, sizes):
         left = bytes_of(bits) + left[len(bytes_of(bits)):]
     except Stopped as why:
         said = "refused %d %d" % why.args
-    return said, bytes_of(machine.cells), [0] * (3 * frames) + old[1][3 * frames:], left
+    return said, bytes_of(machine.cells), [0] * (FRAME_NUMBERS * frames) + old[1][FRAME_NUMBERS * frames:], left
 
 
 # A list in hexadecimal, a run of equal numbers as the number, a star and the count.
@@ -472,7 +474,7 @@ def largest():
 # Each program in stores of just the right size with each filling, in larger ones, and with each store one short.
 def trials(p, small):
     cells, frames, _ = bounds(p)
-    sizes = [(cells + 7) // 8, 3 * frames, (p.widths[p.target(-1)] + 7) // 8]
+    sizes = [(cells + 7) // 8, FRAME_NUMBERS * frames, (p.widths[p.target(-1)] + 7) // 8]
     if not small:
         return [(0xA5, sizes)]
     short = [sizes[:k] + [sizes[k] - 1] + sizes[k + 1:] for k in range(3) if sizes[k]]

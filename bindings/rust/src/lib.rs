@@ -23,7 +23,9 @@ pub const NODE_NUMBERS: usize = 4 * 2048;
 pub const HASH_BYTES: usize = 32_768;
 /// Bytes of a cell store that is enough for every dossier.
 pub const CELL_BYTES: usize = 262_144 / 8;
+/// Numbers of a frame's record.
+pub const FRAME_RECORD: usize = 3;
 /// Numbers of a frame store that is enough for every dossier.
-pub const FRAME_NUMBERS: usize = 3 * 1024;
+pub const FRAME_NUMBERS: usize = FRAME_RECORD * 1024;
 /// Bytes of an answer store that is enough for every dossier.
 pub const ANSWER_BYTES: usize = 32_768 / 8;

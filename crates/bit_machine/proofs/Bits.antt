@@ -5,10 +5,11 @@ use Prim.Native.Nat.{ℕ, zero, suc, _+_, _-_, _≤_}
 use native.Mathlib.Omega.{arith}
 use lib.ListN.{length, getD, set, take, drop, length-drop}
 use lib.Seq.{sets, length-take-le}
+use Rattle.scope.specs.Machine.{forward}
 use Rattle.cells.specs.Copying.{copyBits, bitsFrom}
 use Rattle.cells.proofs.Parts.{bits-within}
 use Rattle.layout.specs.Mach.{Mach, mach, activeWrite}
-use Rattle.layout.specs.Rules.{bitsPut, bitsCopied, bitsWritten, writeCursorAt, bitsCopied-first, bitsWritten-some}
+use Rattle.layout.specs.Rules.{bitsPut, bitsCopied, bitsWritten, writeMoved, bitsCopied-first, bitsWritten-some}
 
 -- a copy from the front on is a copy up to the end
 pub copy-alike : (l : List ℕ) (from to n : ℕ) → copyBits l from to n ≡ bitsCopied l from to n
@@ -32,9 +33,9 @@ none-written bits p n e = rw e
 
 pub some-written : (bits : List ℕ) (p n : ℕ) (m : Mach) → p + n ≤ length bits → (n ≡ 0 → ⊥)
     → bitsWritten (take n (drop p bits)) m
-    ≡ mach (bitsPut (m .bits) (activeWrite m .cursor) (take n (drop p bits))) (writeCursorAt (activeWrite m .cursor + n) m) (m .writeFrames) (m .readFrames) (m .next)
+    ≡ mach (bitsPut (m .bits) (activeWrite m .cursor) (take n (drop p bits))) (writeMoved (forward n) m) (m .writeFrames) (m .readFrames) (m .next)
 some-written bits p n m fits some =
     let size : length (drop p bits) ≡ length bits - p = length-drop p bits in
     let long : length (take n (drop p bits)) ≡ n = length-take-le n (drop p bits) (omega arith) in
     bitsWritten-some (take n (drop p bits)) m (λ e. some (sym long ∙ e))
-    ∙ ap (λ (k : ℕ). mach (bitsPut (m .bits) (activeWrite m .cursor) (take n (drop p bits))) (writeCursorAt (activeWrite m .cursor + k) m) (m .writeFrames) (m .readFrames) (m .next)) long
+    ∙ ap (λ (k : ℕ). mach (bitsPut (m .bits) (activeWrite m .cursor) (take n (drop p bits))) (writeMoved (forward k) m) (m .writeFrames) (m .readFrames) (m .next)) long

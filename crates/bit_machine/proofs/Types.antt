@@ -18,7 +18,6 @@ use Rattle.scope.specs.Program.{valueFrom}
 use Rattle.types.proofs.Laws.{every-true, parts-below, type-past, type-step, Parts}
 use Rattle.types.proofs.Sound.{Sound, Passed, passed-table, parts-of, widths-are}
 use Rattle.layout.specs.Mach.{Mach, mach, activeWrite}
-use Rattle.layout.specs.Rules.{bitsPut, bitsWritten, writeCursorAt, bitsWritten-some}
 use Rattle.ready.specs.Lent.{TypesShown}
 
 module _ (types widths next : List ℕ) (shown : TypesShown types widths next) where

@@ -16,7 +16,7 @@ use Rattle.scope.specs.Program.{Program, valueFrom, sourceTy, targetTy, termAt}
 use Rattle.scope.specs.Run.{programOf}
 use Rattle.scope.specs.Stages.{lent}
 use Rattle.scope.specs.Machine.{Frame}
-use Rattle.layout.specs.Mach.{Mach, mach, noFrame, empty, recordsOf}
+use Rattle.layout.specs.Mach.{Mach, mach, empty, recordsOf, records-zero}
 use Rattle.layout.specs.Rules.{pushed, moved, bitsWritten}
 use Rattle.layout.specs.Exec.{Outcome, runTerm, withInput, withOutput, runWhole}
 use Rattle.layout.specs.Safe.{PushOk, MoveOk, WriteOk, InputOk, WholeOk, Safe}
@@ -69,19 +69,9 @@ module _ {n k : ℕ} (bits : List Bit) (m : Mach) (e : n ≡ k) (some : n ≡ 0 
   opened-is m1 m2 m3 a b c =
       c ∙ ap moved (b ∙ ap (bitsWritten bits) (a ∙ ap (λ (n : ℕ). pushed n m) e)) ∙ some-input k bits m (λ z. some (e ∙ z))
 
--- numbers that are all zero hold free records
-free-records : (n : ℕ) → recordsOf (zeros n) ≡ replicate (n / frameNumbers) noFrame
-unfolding recordsOf
-free-records zero = refl
-free-records (suc zero) = refl
-free-records (suc (suc zero)) = refl
-free-records (suc (suc (suc n))) =
-    let e : suc (suc (suc n)) / frameNumbers ≡ suc (n / frameNumbers) = omega arith in
-    rw e (ap (λ (rs : List Frame). noFrame ∷ rs) (free-records n))
-
 -- no frame, in cleared records
 pub none-open : (bits numbers : List ℕ) (n : ℕ) → numbers ≡ zeros n → mach bits (recordsOf numbers) 0 0 0 ≡ empty bits (n / frameNumbers)
-none-open bits numbers n e = ap (λ (rs : List Frame). mach bits rs 0 0 0) (ap recordsOf e ∙ free-records n)
+none-open bits numbers n e = ap (λ (rs : List Frame). mach bits rs 0 0 0) (ap recordsOf e ∙ records-zero n)
 
 -- the same machine needs the same
 pub input-as : {n : ℕ} {bits : List Bit} {m m′ : Mach} → m′ ≡ m → InputOk n bits m → InputOk n bits m′

@@ -14,7 +14,7 @@ use Rattle.report.specs.Bits.{Bit, bitsOf}
 use Rattle.report.specs.Types.{Ty, width}
 use Rattle.report.specs.Values.{Val, compact, padded, Read, value, short, readValue}
 use Rattle.report.specs.Nodes.{Node}
-use Rattle.scope.specs.Machine.{Frame}
+use Rattle.scope.specs.Machine.{Frame, forward}
 use Rattle.scope.specs.Types.{typeRecords, tyAt}
 use Rattle.scope.specs.Hashes.{branchHash}
 use Rattle.scope.specs.Program.{valueFrom}
@@ -29,7 +29,7 @@ use Rattle.value.proofs.Types.{read-fit}
 use Rattle.value.proofs.Sound.{paddedTo, pad-is}
 use Rattle.bititer.proofs.Bits.{length-bits}
 use Rattle.layout.specs.Mach.{Mach, mach, activeWrite}
-use Rattle.layout.specs.Rules.{bitsPut, bitsWritten, skipped, writeCursorAt, bitsWritten-some, skipped-some}
+use Rattle.layout.specs.Rules.{bitsPut, bitsWritten, skipped, writeMoved, bitsWritten-some, skipped-some}
 use Rattle.layout.specs.Safe.{WriteOk}
 use Rattle.ready.specs.Lent.{Reads, TypesShown}
 use Rattle.bit_machine.proofs.Types.{width-found}
@@ -66,8 +66,8 @@ put-written : (bits bs : List ℕ) (rs : List Frame) (w r x n : ℕ) → length 
     → bits′ ≡ bitsPut bits (activeWrite (mach bits rs w r x) .cursor) bs → skipped n (mach bits′ rs w r x) ≡ bitsWritten bs (mach bits rs w r x)
 put-written bits bs rs w r x n e some bits′ eb =
     skipped-some n (mach bits′ rs w r x) some
-    ∙ ap (λ (b : List ℕ). mach b (writeCursorAt (activeWrite (mach bits rs w r x) .cursor + n) (mach bits rs w r x)) w r x) eb
-    ∙ ap (λ (k : ℕ). mach (bitsPut bits (activeWrite (mach bits rs w r x) .cursor) bs) (writeCursorAt (activeWrite (mach bits rs w r x) .cursor + k) (mach bits rs w r x)) w r x) (sym e)
+    ∙ ap (λ (b : List ℕ). mach b (writeMoved (forward n) (mach bits rs w r x)) w r x) eb
+    ∙ ap (λ (k : ℕ). mach (bitsPut bits (activeWrite (mach bits rs w r x) .cursor) bs) (writeMoved (forward k) (mach bits rs w r x)) w r x) (sym e)
     ∙ sym (bitsWritten-some bs (mach bits rs w r x) (λ z. some (sym e ∙ z)))
 
 -- the value of type k that stands at bit p of a stream

@@ -31,7 +31,7 @@ use Rattle.scope.specs.Input.{checkInput}
 use Rattle.scope.specs.Stores.{checkStores}
 use Rattle.scope.specs.Machine.{Step, machine}
 use Rattle.scope.specs.Run.{Tables, Ready, programOf, checkTables, checkReady, Left, leftWith, cellsOf, ends, ran, runTables}
-use Rattle.exactness.specs.Checks as Checks
+use Rattle.common.specs.Checks as Checks
 
 -- while the tables are checked, and after
 abbrev pub Early : Refusal → Type 0

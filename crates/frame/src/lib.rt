@@ -1,11 +1,11 @@
-// A frame of the machine as three numbers: its cursor, its first cell and its length; cursor and start are absolute places.
+// A frame of the machine: its cursor, its first cell and its length; cursor and start are absolute places.
 // A cursor moves by value, or in place where the frame is lent, and a frame is read from and written to its record in a lent store.
 // Every move is defined: a cursor that would pass the largest number is held there, and one that would pass 0 is held at 0.
 ghost use mathlib.Core.Path.{_≡_};
 ghost use Prim.Native.Nat.{_+_, _-_, min};
 ghost use lib.ListN.{getD, set};
-ghost use Rattle.scope.specs.Machine.{forward, backward, reset};
-ghost use Rattle.layout.specs.Mach.{frame, noFrame, recordsOf};
+ghost use Rattle.scope.specs.Machine.{frameFrom, forward, backward, reset};
+ghost use Rattle.layout.specs.Mach.{noFrame, recordsOf};
 ghost use Rattle.frame.specs.Cursor.{frameOf, largest, held};
 ghost use Rattle.frame.specs.Store.{withRecords};
 
@@ -40,7 +40,7 @@ fn cursor_back(cursor: u32, n: u32) -> u32
 impl Frame {
     // A frame of so many cells from a place on, its cursor at its start.
     pub fn new(start: u32, len: u32) -> Self
-        ensures { λ r. ⌜ frameOf r ≡ frame start start len ⌝ }
+        ensures { λ r. ⌜ frameOf r ≡ frameFrom start len ⌝ }
     {
         Frame {
             cursor: start,
@@ -49,37 +49,35 @@ impl Frame {
         }
     }
 
+    // What a free record holds: zeros.
+    pub fn none() -> Self
+        ensures { λ r. ⌜ frameOf r ≡ noFrame ⌝ }
+    {
+        Frame::new(0, 0)
+    }
+
     // The frame with its cursor n cells on.
-    pub fn forwarded(self, n: u32) -> Self
+    pub fn forwarded(mut self, n: u32) -> Self
         ensures { λ r. ⌜ frameOf r ≡ held (forward n (frameOf self)) ⌝ }
     {
-        Frame {
-            cursor: cursor_on(self.cursor, n),
-            start: self.start,
-            len: self.len,
-        }
+        self.cursor = cursor_on(self.cursor, n);
+        self
     }
 
     // The frame with its cursor n cells back.
-    pub fn backed(self, n: u32) -> Self
+    pub fn backed(mut self, n: u32) -> Self
         ensures { λ r. ⌜ frameOf r ≡ backward n (frameOf self) ⌝ }
     {
-        Frame {
-            cursor: cursor_back(self.cursor, n),
-            start: self.start,
-            len: self.len,
-        }
+        self.cursor = cursor_back(self.cursor, n);
+        self
     }
 
     // The frame with its cursor at its start.
-    pub fn at_start(self) -> Self
+    pub fn at_start(mut self) -> Self
         ensures { λ r. ⌜ frameOf r ≡ reset (frameOf self) ⌝ }
     {
-        Frame {
-            cursor: self.start,
-            start: self.start,
-            len: self.len,
-        }
+        self.cursor = self.start;
+        self
     }
 }
 
@@ -106,7 +104,7 @@ pub fn reset(f: &mut Frame)
 
 // The cursor of a new frame after a move on and a move back, both in place.
 pub fn cursor_after(start: u32, len: u32, on: u32, back: u32) -> u32
-    ensures { λ r. ⌜ r ≡ (backward back (held (forward on (frame start start len)))) .cursor ⌝ }
+    ensures { λ r. ⌜ r ≡ (backward back (held (forward on (frameFrom start len)))) .cursor ⌝ }
 {
     let mut f = Frame::new(start, len);
     forward(&mut f, on);
@@ -119,11 +117,7 @@ pub fn record_at(frames: &[u32], k: usize) -> Frame
     ensures { λ r. ⌜ frameOf r ≡ getD (recordsOf (now (frames .entry))) k noFrame ⌝ }
 {
     if frames.len() / limits::FRAME_NUMBERS <= k {
-        return Frame {
-            cursor: 0,
-            start: 0,
-            len: 0,
-        };
+        return Frame::none();
     }
     let at = limits::FRAME_NUMBERS * k;
     Frame {

@@ -12,11 +12,13 @@ use Rattle.report.specs.Bits.{Bit}
 use Rattle.report.specs.Values.{Cells}
 use Rattle.report.specs.Meaning.{Out, done, failed, pruned, stuck}
 use Rattle.scope.specs.Numbers.{tabulate}
-use Rattle.scope.specs.Machine.{Frame, State, Step, setCell, putBits, copyCells, need, newFrame, moveFrame, dropFrame, writeBits, skip, copy, fwd, back, peek}
-use Rattle.layout.specs.Mach.{Mach, mach-eq, frame}
+use Rattle.scope.specs.Machine.{Frame, frameFrom, forward, backward, reset, State, Step, setCell, putBits, copyCells, need, newFrame, moveFrame, dropFrame, writeBits, skip, copy, fwd, back, peek}
+use Rattle.layout.specs.Mach.{Mach, mach-eq}
 use Rattle.layout.specs.Rules.{pushed, moved, dropped, bitWritten, bitsWritten, bitWritten-list, skipped, copied, forwarded, backed, peeked}
 use Rattle.layout.specs.Safe.{PushOk, MoveOk, DropOk, WriteOk, ReadOk, BackOk, CopyOk}
-use Rattle.layout.specs.Layout.{stateOf, arranged, layout, length-tabulate, get-tabulate, put-tabulate, copy-tabulate, setCell-other, arranged-length, write-get, write-set, read-get, read-set, push-set, move-set, drop-set}
+use Rattle.common.specs.Tables.{length-tabulate, tabulate-at}
+use Rattle.common.specs.Cells.{sets-tabulate, copy-tabulate, setCell-other}
+use Rattle.layout.specs.Layout.{stateOf, arranged, layout, arranged-length, write-get, write-set, read-get, read-set, push-set, move-set, drop-set}
 
 -- the machine is not stuck
 abbrev pub Goes : {Y X : Type 0} → Out Y X → Type 0
@@ -86,7 +88,7 @@ copy-kept c from to (suc n) size h p l =
 
 -- the layout of a state that fits has as many cells and records as are lent
 pub layout-cells : (lent most : ℕ) (s : State) → length (layout lent most s .bits) ≡ lent
-layout-cells lent most s = length-tabulate lent (s .cells)
+layout-cells lent most s = length-tabulate (s .cells) lent
 
 pub layout-records : (lent size most : ℕ) (s : State) → Fits size most s → length (layout lent most s .records) ≡ most
 layout-records lent size most s h =
@@ -114,7 +116,7 @@ module _ (lent size most : ℕ) (le : size ≤ lent) where
       let rs : List Frame = s .reads in
       let ws : List Frame = s .writes in
       let z : ℕ = most - (length rs + suc (length ws)) in
-      let to : State = stateOf (s .cells) rs (frame nx nx n ∷ ws) (nx + n) in
+      let to : State = stateOf (s .cells) rs (frameFrom nx n ∷ ws) (nx + n) in
       let cells : nx + n ≤ size = leb-true _ _ (need-true (leb (nx + n) size) (need (ltb (length rs + length ws) most) (done to)) g) in
       let g′ = need-goes (leb (nx + n) size) (need (ltb (length rs + length ws) most) (done to)) g in
       let room : length rs + length ws < most = ltb-true _ _ (need-true (ltb (length rs + length ws) most) (done to) g′) in
@@ -122,7 +124,7 @@ module _ (lent size most : ℕ) (le : size ≤ lent) where
       record {
         to = to;
         does = need-is (leb (nx + n) size) (need (ltb (length rs + length ws) most) (done to)) g ∙ need-is (ltb (length rs + length ws) most) (done to) g′;
-        same = mach-eq refl (ap (λ z. set (arranged z ws rs) (length ws) (frame nx nx n)) e ∙ push-set z (frame nx nx n) ws rs) (omega arith) refl refl;
+        same = mach-eq refl (ap (λ z. set (arranged z ws rs) (length ws) (frameFrom nx n)) e ∙ push-set z (frameFrom nx n) ws rs) (omega arith) refl refl;
         fits = record { room = omega arith; cells = cells; reads = h .reads; writes = (cells, h .writes) };
         kept = λ p l. refl;
         ok = record { room = omega (arith, arranged-length (most - (length rs + length ws)) ws rs); fits = omega arith };
@@ -137,11 +139,11 @@ module _ (lent size most : ℕ) (le : size ≤ lent) where
       let inside = h .writes in
       let room = h .room in
       record {
-        to = stateOf c (frame (f .start) (f .start) (f .len) ∷ rs) ws nx;
+        to = stateOf c (reset f ∷ rs) ws nx;
         does = refl;
         same = rw (write-get z f ws rs)
             (mach-eq refl
-            (move-set z f ws rs (frame (f .start) (f .start) (f .len)) ∙ ap (λ z. arranged z ws (frame (f .start) (f .start) (f .len) ∷ rs)) (sym e))
+            (move-set z f ws rs (reset f) ∙ ap (λ z. arranged z ws (reset f ∷ rs)) (sym e))
             (omega arith) (omega arith) refl);
         fits = record { room = omega arith; cells = h .cells; reads = (inside .0, h .reads); writes = inside .1 };
         kept = λ p l. refl;
@@ -182,14 +184,14 @@ module _ (lent size most : ℕ) (le : size ≤ lent) where
   write-from (b ∷ bs) c rs (f ∷ ws) nx h g =
       let z : ℕ = most - (length rs + suc (length ws)) in
       let n : ℕ = suc (length bs) in
-      let to : State = stateOf (putBits c (f .cursor) (b ∷ bs)) rs (frame (f .cursor + n) (f .start) (f .len) ∷ ws) nx in
+      let to : State = stateOf (putBits c (f .cursor) (b ∷ bs)) rs (forward n f ∷ ws) nx in
       let fits : f .cursor + n ≤ f .start + f .len = leb-true _ _ (need-true (leb (f .cursor + n) (f .start + f .len)) (done to) g) in
       let inside = h .writes in
       record {
         to = to;
         does = need-is (leb (f .cursor + n) (f .start + f .len)) (done to) g;
         same = rw (write-get z f ws rs)
-            (mach-eq (put-tabulate lent c (f .cursor) (b ∷ bs)) (write-set z f ws rs (frame (f .cursor + n) (f .start) (f .len))) refl refl refl);
+            (mach-eq (sets-tabulate lent c (f .cursor) (b ∷ bs)) (write-set z f ws rs (forward n f)) refl refl refl);
         fits = record { room = h .room; cells = h .cells; reads = h .reads; writes = inside };
         kept = put-kept c (f .cursor) (b ∷ bs) size (omega (arith, inside .0));
         ok = λ pos. record {
@@ -216,13 +218,13 @@ module _ (lent size most : ℕ) (le : size ≤ lent) where
   skip-from (suc n) c rs [] nx h g = absurd g
   skip-from (suc n) c rs (f ∷ ws) nx h g =
       let z : ℕ = most - (length rs + suc (length ws)) in
-      let to : State = stateOf c rs (frame (f .cursor + suc n) (f .start) (f .len) ∷ ws) nx in
+      let to : State = stateOf c rs (forward (suc n) f ∷ ws) nx in
       let fits : f .cursor + suc n ≤ f .start + f .len = leb-true _ _ (need-true (leb (f .cursor + suc n) (f .start + f .len)) (done to) g) in
       let inside = h .writes in
       record {
         to = to;
         does = need-is (leb (f .cursor + suc n) (f .start + f .len)) (done to) g;
-        same = rw (write-get z f ws rs) (mach-eq refl (write-set z f ws rs (frame (f .cursor + suc n) (f .start) (f .len))) refl refl refl);
+        same = rw (write-get z f ws rs) (mach-eq refl (write-set z f ws rs (forward (suc n) f)) refl refl refl);
         fits = record { room = h .room; cells = h .cells; reads = h .reads; writes = inside };
         kept = λ p l. refl;
         ok = λ pos. record {
@@ -243,13 +245,13 @@ module _ (lent size most : ℕ) (le : size ≤ lent) where
   forward-from (suc n) c [] ws nx h g = absurd g
   forward-from (suc n) c (f ∷ rs) ws nx h g =
       let z : ℕ = most - (suc (length rs) + length ws) in
-      let to : State = stateOf c (frame (f .cursor + suc n) (f .start) (f .len) ∷ rs) ws nx in
+      let to : State = stateOf c (forward (suc n) f ∷ rs) ws nx in
       let fits : f .cursor + suc n ≤ f .start + f .len = leb-true _ _ (need-true (leb (f .cursor + suc n) (f .start + f .len)) (done to) g) in
       let inside = h .reads in
       record {
         to = to;
         does = need-is (leb (f .cursor + suc n) (f .start + f .len)) (done to) g;
-        same = rw (read-get z f ws rs) (mach-eq refl (read-set z f ws rs (frame (f .cursor + suc n) (f .start) (f .len))) refl refl refl);
+        same = rw (read-get z f ws rs) (mach-eq refl (read-set z f ws rs (forward (suc n) f)) refl refl refl);
         fits = record { room = h .room; cells = h .cells; reads = inside; writes = h .writes };
         kept = λ p l. refl;
         ok = λ pos. record {
@@ -269,12 +271,12 @@ module _ (lent size most : ℕ) (le : size ≤ lent) where
   back-from (suc n) c [] ws nx h g = absurd g
   back-from (suc n) c (f ∷ rs) ws nx h g =
       let z : ℕ = most - (suc (length rs) + length ws) in
-      let to : State = stateOf c (frame (f .cursor - suc n) (f .start) (f .len) ∷ rs) ws nx in
+      let to : State = stateOf c (backward (suc n) f ∷ rs) ws nx in
       let fits : f .start + suc n ≤ f .cursor = leb-true _ _ (need-true (leb (f .start + suc n) (f .cursor)) (done to) g) in
       record {
         to = to;
         does = need-is (leb (f .start + suc n) (f .cursor)) (done to) g;
-        same = rw (read-get z f ws rs) (mach-eq refl (read-set z f ws rs (frame (f .cursor - suc n) (f .start) (f .len))) refl refl refl);
+        same = rw (read-get z f ws rs) (mach-eq refl (read-set z f ws rs (backward (suc n) f)) refl refl refl);
         fits = record { room = h .room; cells = h .cells; reads = h .reads; writes = h .writes };
         kept = λ p l. refl;
         ok = λ pos. record {
@@ -296,7 +298,7 @@ module _ (lent size most : ℕ) (le : size ≤ lent) where
   copy-from (suc n) c (f ∷ rs) [] nx h g = absurd g
   copy-from (suc n) c (f ∷ rs) (e ∷ ws) nx h g =
       let z : ℕ = most - (suc (length rs) + suc (length ws)) in
-      let to : State = stateOf (copyCells c (f .cursor) (e .cursor) (suc n)) (f ∷ rs) (frame (e .cursor + suc n) (e .start) (e .len) ∷ ws) nx in
+      let to : State = stateOf (copyCells c (f .cursor) (e .cursor) (suc n)) (f ∷ rs) (forward (suc n) e ∷ ws) nx in
       let from : Bool = leb (f .cursor + suc n) (f .start + f .len) in
       let into : Bool = leb (e .cursor + suc n) (e .start + e .len) in
       let g′ = need-goes from (need into (done to)) g in
@@ -310,7 +312,7 @@ module _ (lent size most : ℕ) (le : size ≤ lent) where
         does = need-is from (need into (done to)) g ∙ need-is into (done to) g′;
         same = rw (write-get z e ws (f ∷ rs), read-get z f (e ∷ ws) rs)
             (mach-eq (copy-tabulate lent c (f .cursor) (e .cursor) (suc n) low)
-            (write-set z e ws (f ∷ rs) (frame (e .cursor + suc n) (e .start) (e .len))) refl refl refl);
+            (write-set z e ws (f ∷ rs) (forward (suc n) e)) refl refl refl);
         fits = record { room = h .room; cells = h .cells; reads = inside; writes = within };
         kept = copy-kept c (f .cursor) (e .cursor) (suc n) size (omega (arith, within .0));
         ok = λ pos. record {
@@ -341,7 +343,7 @@ module _ (lent size most : ℕ) (le : size ≤ lent) where
       let inside = h .reads in
       record {
         does = need-is (leb (f .cursor + 1) (f .start + f .len)) (done (c (f .cursor))) g
-            ∙ ap done (sym (ap (λ f. getD (tabulate lent c) (f .cursor) 0) (read-get z f ws rs) ∙ get-tabulate lent c (f .cursor) (omega (arith, inside .0))));
+            ∙ ap done (sym (ap (λ f. getD (tabulate lent c) (f .cursor) 0) (read-get z f ws rs) ∙ tabulate-at c lent (f .cursor) 0 (omega (arith, inside .0))));
         ok = record { some = omega arith; held = omega (arith, arranged-length z ws (f ∷ rs)); fits = rw (read-get z f ws rs) (omega (arith, inside .0)) };
       }
 

@@ -1,28 +1,31 @@
 -- The machine as the code holds it: a list of bits, a list of frame records, and three numbers by value.
 -- Write frames stand in records 0, 1, .. upwards, read frames from the last record downwards, and the free records between are zero.
--- A record is three numbers of the lent frame store; the laws say where record k stands in it.
-use mathlib.Core.Path.{_≡_, refl, ap}
+-- A record is `frameNumbers` numbers of the lent frame store; the laws say where record k stands in it.
+use mathlib.Core.Path.{_≡_, refl, ap, ap₂, _∙_}
 use mathlib.Core.List.{List, [], _∷_}
 use Prim.Native.Nat.{ℕ, zero, suc, _+_, _-_, _*_, _/_, _<_}
 use native.Mathlib.Omega.{arith}
-use lib.ListN.{length, getD, set, replicate}
+use native.Mathlib.Nat.{add-assoc}
+use lib.ListN.{length, getD, drop, replicate, length-replicate}
+use lib.Seq.{getD-drop, drop-drop}
 use Rattle.limits.specs.Limits.{frameNumbers}
-use Rattle.scope.specs.Machine.{Frame}
-
--- a frame by its three numbers
-abbrev pub frame : (cursor start len : ℕ) → Frame
-frame c s l = record { cursor = c; start = s; len = l }
+use Rattle.scope.specs.Numbers.{zeros}
+use Rattle.scope.specs.Machine.{Frame, frameAt}
+use Rattle.common.specs.Lists.{replicate-at}
 
 -- what a free record holds
 abbrev pub noFrame : Frame
-noFrame = frame 0 0 0
+noFrame = frameAt [] 0
 
--- the records of the frame store's numbers; numbers that make no whole record are left out
+-- the first n records of the frame store's numbers
+unfoldable pub firstRecords : (n : ℕ) → (numbers : List ℕ) → List Frame
+firstRecords zero ns = []
+firstRecords (suc n) ns = frameAt ns 0 ∷ firstRecords n (drop frameNumbers ns)
+
+-- all of them; numbers that make no whole record are left out
 unfoldable pub recordsOf : List ℕ → List Frame
-recordsOf [] = []
-recordsOf (c ∷ []) = []
-recordsOf (c ∷ s ∷ []) = []
-recordsOf (c ∷ s ∷ l ∷ ns) = frame c s l ∷ recordsOf ns
+unfolding firstRecords
+recordsOf ns = firstRecords (length ns / frameNumbers) ns
 
 -- the machine: the cells lent, a bit each; the records; how many write frames and read frames stand; the first cell above all frames
 pub record Mach : Type 0 where
@@ -59,49 +62,40 @@ pub mach-eq : {b b′ : List ℕ} {rs rs′ : List Frame} {w w′ r r′ x x′ 
 mach-eq p q s t u = λ i. mach (p i) (q i) (s i) (t i) (u i)
 
 -- as many records as the numbers hold whole ones
+length-first : (n : ℕ) (ns : List ℕ) → length (firstRecords n ns) ≡ n
+unfolding firstRecords
+length-first zero ns = refl
+length-first (suc n) ns = ap suc (length-first n _)
+
 pub length-recordsOf : (ns : List ℕ) → length (recordsOf ns) ≡ length ns / frameNumbers
 unfolding recordsOf
-length-recordsOf [] = refl
-length-recordsOf (c ∷ []) = refl
-length-recordsOf (c ∷ s ∷ []) = refl
-length-recordsOf (c ∷ s ∷ l ∷ ns) = omega (arith, length-recordsOf ns)
+length-recordsOf ns = length-first (length ns / frameNumbers) ns
 
--- the numbers of record k stand in the store
-pub record-inside : (ns : List ℕ) (k : ℕ) → k < length (recordsOf ns) → frameNumbers * k + 2 < length ns
-record-inside ns k h = omega (arith, length-recordsOf ns)
-
--- the numbers of record k + 1 stand one record further
-next0 : (k : ℕ) → frameNumbers * suc k ≡ suc (suc (suc (frameNumbers * k)))
-next0 k = omega arith
-
-next1 : (k : ℕ) → frameNumbers * suc k + 1 ≡ suc (suc (suc (frameNumbers * k + 1)))
-next1 k = omega arith
-
-next2 : (k : ℕ) → frameNumbers * suc k + 2 ≡ suc (suc (suc (frameNumbers * k + 2)))
-next2 k = omega arith
+-- a record behind others
+frameAt-drop : (j : ℕ) (ns : List ℕ) (at : ℕ) → frameAt (drop j ns) at ≡ frameAt ns (j + at)
+frameAt-drop j ns at = simp (getD-drop, add-assoc)
 
 -- record k, read from its numbers
-pub record-get : (ns : List ℕ) (k : ℕ) → k < length (recordsOf ns)
-    → frame (getD ns (frameNumbers * k) 0) (getD ns (frameNumbers * k + 1) 0) (getD ns (frameNumbers * k + 2) 0) ≡ getD (recordsOf ns) k noFrame
-unfolding recordsOf
-record-get [] k h = absurd (omega arith)
-record-get (c ∷ []) k h = absurd (omega arith)
-record-get (c ∷ s ∷ []) k h = absurd (omega arith)
-record-get (c ∷ s ∷ l ∷ ns) zero h = refl
-record-get (c ∷ s ∷ l ∷ ns) (suc k) h = rw (next2 k, next1 k, next0 k) (record-get ns k (omega arith))
+first-get : (n : ℕ) (ns : List ℕ) (k : ℕ) → k < n → getD (firstRecords n ns) k noFrame ≡ frameAt ns (frameNumbers * k)
+unfolding firstRecords
+first-get zero ns k h = absurd (omega arith)
+first-get (suc n) ns zero h = refl
+first-get (suc n) ns (suc k) h =
+    let e : frameNumbers + frameNumbers * k ≡ frameNumbers * suc k = omega arith in
+    first-get n (drop frameNumbers ns) k (omega arith) ∙ frameAt-drop frameNumbers ns (frameNumbers * k) ∙ ap (frameAt ns) e
 
--- record k, written to its numbers
-pub record-set : (ns : List ℕ) (k c s l : ℕ) → k < length (recordsOf ns)
-    → recordsOf (set (set (set ns (frameNumbers * k) c) (frameNumbers * k + 1) s) (frameNumbers * k + 2) l) ≡ set (recordsOf ns) k (frame c s l)
+pub record-get : (ns : List ℕ) (k : ℕ) → k < length ns / frameNumbers → getD (recordsOf ns) k noFrame ≡ frameAt ns (frameNumbers * k)
 unfolding recordsOf
-record-set [] k c s l h = absurd (omega arith)
-record-set (x ∷ []) k c s l h = absurd (omega arith)
-record-set (x ∷ y ∷ []) k c s l h = absurd (omega arith)
-record-set (x ∷ y ∷ z ∷ ns) zero c s l h = refl
-record-set (x ∷ y ∷ z ∷ ns) (suc k) c s l h = rw (next2 k, next1 k, next0 k) (ap (λ r. frame x y z ∷ r) (record-set ns k c s l (omega arith)))
+record-get ns k h = first-get (length ns / frameNumbers) ns k h
 
 -- numbers that are all zero hold free records
-pub records-zero : (k : ℕ) → recordsOf (replicate (frameNumbers * k) 0) ≡ replicate k noFrame
+first-zeros : (n m j : ℕ) → firstRecords n (drop j (zeros m)) ≡ replicate n noFrame
+unfolding firstRecords
+first-zeros zero m j = refl
+first-zeros (suc n) m j =
+    ap₂ (λ f fs. f ∷ fs) (frameAt-drop j (zeros m) 0 ∙ simp replicate-at)
+    (ap (firstRecords n) (drop-drop frameNumbers j (zeros m)) ∙ first-zeros n m (j + frameNumbers))
+
+pub records-zero : (n : ℕ) → recordsOf (zeros n) ≡ replicate (n / frameNumbers) noFrame
 unfolding recordsOf
-records-zero zero = refl
-records-zero (suc k) = rw (next0 k) (ap (λ r. noFrame ∷ r) (records-zero k))
+records-zero n = ap (λ k. firstRecords (k / frameNumbers) (zeros n)) (length-replicate n 0) ∙ first-zeros (n / frameNumbers) n 0

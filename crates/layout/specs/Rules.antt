@@ -1,47 +1,33 @@
 -- The machine's rules over its stores, as the code does them: total functions from machine to machine, with `getD` and `set` on the two lists.
 -- A frame that is moved or dropped leaves a free record behind. A rule for 0 cells looks at no frame.
 -- What a rule needs is said apart, in Safe; where that fails a rule here still has a value, of no meaning.
-use mathlib.Core.Path.{_≡_, refl, ap, _∙_}
-use mathlib.Core.List.{List, [], _∷_, _++_}
+use mathlib.Core.Path.{_≡_, refl}
+use mathlib.Core.List.{List, [], _∷_}
 use Prim.Native.Nat.{ℕ, zero, suc, _+_, _-_}
-use native.Mathlib.Omega.{arith}
-use native.Mathlib.Nat.{add-zero}
-use native.Mathlib.Numerals.{add-one}
-use lib.ListN.{length, getD, set, replicate, length-set}
+use lib.ListN.{length, getD, set, replicate}
+use lib.Seq.{sets}
 use Rattle.report.specs.Bits.{Bit}
-use Rattle.scope.specs.Machine.{Frame}
-use Rattle.layout.specs.Mach.{Mach, mach, frame, noFrame, writePlace, readPlace, activeWrite, activeRead}
+use Rattle.scope.specs.Machine.{Frame, frameFrom, forward, backward, reset}
+use Rattle.common.specs.Cells.{copyBits}
+use Rattle.layout.specs.Mach.{Mach, mach, noFrame, writePlace, readPlace, activeWrite, activeRead}
 
--- a list of cells with bits from a place on, one after the other
-unfoldable pub bitsPut : List ℕ → (to : ℕ) → List Bit → List ℕ
-bitsPut l to [] = l
-bitsPut l to (b ∷ bs) = bitsPut (set l to b) (suc to) bs
+-- the records with the cursor of the active write frame moved, or with that of the active read frame
+abbrev pub writeMoved : (Frame → Frame) → Mach → List Frame
+writeMoved move m = set (m .records) (writePlace m) (move (activeWrite m))
 
--- n cells of a list copied one after the other, each read from the list as it is then
-unfoldable pub bitsCopied : List ℕ → (from to n : ℕ) → List ℕ
-bitsCopied l from to zero = l
-bitsCopied l from to (suc n) =
-    let before = bitsCopied l from to n in
-    set before (to + n) (getD before (from + n) 0)
-
--- the records with the cursor of the active write frame, or of the active read frame, at a place
-abbrev pub writeCursorAt : ℕ → Mach → List Frame
-writeCursorAt c m = set (m .records) (writePlace m) (frame c (activeWrite m .start) (activeWrite m .len))
-
-abbrev pub readCursorAt : ℕ → Mach → List Frame
-readCursorAt c m = set (m .records) (readPlace m) (frame c (activeRead m .start) (activeRead m .len))
+abbrev pub readMoved : (Frame → Frame) → Mach → List Frame
+readMoved move m = set (m .records) (readPlace m) (move (activeRead m))
 
 -- a write frame of n cells above all frames; its cells keep their old bits
 unfoldable pub pushed : ℕ → Mach → Mach
 pushed n m =
-    mach (m .bits) (set (m .records) (m .writeFrames) (frame (m .next) (m .next) n)) (m .writeFrames + 1) (m .readFrames) (m .next + n)
+    mach (m .bits) (set (m .records) (m .writeFrames) (frameFrom (m .next) n)) (m .writeFrames + 1) (m .readFrames) (m .next + n)
 
 -- the active write frame becomes the active read frame, its cursor at its start
 unfoldable pub moved : Mach → Mach
 moved m =
     mach (m .bits)
-    (set (set (m .records) (writePlace m) noFrame) (length (m .records) - (m .readFrames + 1))
-    (frame (activeWrite m .start) (activeWrite m .start) (activeWrite m .len)))
+    (set (set (m .records) (writePlace m) noFrame) (length (m .records) - (m .readFrames + 1)) (reset (activeWrite m)))
     (m .writeFrames - 1) (m .readFrames + 1) (m .next)
 
 -- the active read frame, which is the uppermost, goes
@@ -51,35 +37,35 @@ dropped m = mach (m .bits) (set (m .records) (readPlace m) noFrame) (m .writeFra
 -- a bit at the write cursor, which goes one cell on
 unfoldable pub bitWritten : Bit → Mach → Mach
 bitWritten b m =
-    mach (set (m .bits) (activeWrite m .cursor) b) (writeCursorAt (activeWrite m .cursor + 1) m) (m .writeFrames) (m .readFrames) (m .next)
+    mach (set (m .bits) (activeWrite m .cursor) b) (writeMoved (forward 1) m) (m .writeFrames) (m .readFrames) (m .next)
 
 -- bits from the write cursor on, which goes behind them
 unfoldable pub bitsWritten : List Bit → Mach → Mach
 bitsWritten [] m = m
 bitsWritten (b ∷ bs) m =
-    mach (bitsPut (m .bits) (activeWrite m .cursor) (b ∷ bs)) (writeCursorAt (activeWrite m .cursor + length (b ∷ bs)) m) (m .writeFrames)
+    mach (sets (m .bits) (activeWrite m .cursor) (b ∷ bs)) (writeMoved (forward (length (b ∷ bs))) m) (m .writeFrames)
     (m .readFrames) (m .next)
 
 -- the write cursor n cells on, which keep their old bits
 unfoldable pub skipped : ℕ → Mach → Mach
 skipped zero m = m
-skipped (suc n) m = mach (m .bits) (writeCursorAt (activeWrite m .cursor + suc n) m) (m .writeFrames) (m .readFrames) (m .next)
+skipped (suc n) m = mach (m .bits) (writeMoved (forward (suc n)) m) (m .writeFrames) (m .readFrames) (m .next)
 
 -- n cells from the read cursor on to the write cursor, which goes behind them
 unfoldable pub copied : ℕ → Mach → Mach
 copied zero m = m
 copied (suc n) m =
-    mach (bitsCopied (m .bits) (activeRead m .cursor) (activeWrite m .cursor) (suc n)) (writeCursorAt (activeWrite m .cursor + suc n) m)
+    mach (copyBits (m .bits) (activeRead m .cursor) (activeWrite m .cursor) (suc n)) (writeMoved (forward (suc n)) m)
     (m .writeFrames) (m .readFrames) (m .next)
 
 -- the read cursor n cells on, and n cells back
 unfoldable pub forwarded : ℕ → Mach → Mach
 forwarded zero m = m
-forwarded (suc n) m = mach (m .bits) (readCursorAt (activeRead m .cursor + suc n) m) (m .writeFrames) (m .readFrames) (m .next)
+forwarded (suc n) m = mach (m .bits) (readMoved (forward (suc n)) m) (m .writeFrames) (m .readFrames) (m .next)
 
 unfoldable pub backed : ℕ → Mach → Mach
 backed zero m = m
-backed (suc n) m = mach (m .bits) (readCursorAt (activeRead m .cursor - suc n) m) (m .writeFrames) (m .readFrames) (m .next)
+backed (suc n) m = mach (m .bits) (readMoved (backward (suc n)) m) (m .writeFrames) (m .readFrames) (m .next)
 
 -- the bit at the read cursor
 abbrev pub peeked : Mach → Bit
@@ -89,50 +75,13 @@ peeked m = getD (m .bits) (activeRead m .cursor) 0
 unfoldable pub allFree : Mach → Mach
 allFree m = mach (m .bits) (replicate (length (m .records)) noFrame) 0 0 0
 
--- bits put: as many cells as before, one list after another, and one more bit
-pub length-bitsPut : (l : List ℕ) (to : ℕ) (bs : List Bit) → length (bitsPut l to bs) ≡ length l
-unfolding bitsPut
-length-bitsPut l to [] = refl
-length-bitsPut l to (b ∷ bs) = length-bitsPut (set l to b) (suc to) bs ∙ length-set l to b
-
-pub bitsPut-append : (l : List ℕ) (to : ℕ) (bs cs : List Bit) → bitsPut l to (bs ++ cs) ≡ bitsPut (bitsPut l to bs) (to + length bs) cs
-unfolding bitsPut
-bitsPut-append l to [] cs = rw add-zero
-bitsPut-append l to (b ∷ bs) cs =
-    let e : to + suc (length bs) ≡ suc to + length bs = omega arith in
-    rw e (bitsPut-append (set l to b) (suc to) bs cs)
-
-pub bitsPut-last : (l : List ℕ) (to : ℕ) (bs : List Bit) (b : Bit) → bitsPut l to (bs ++ b ∷ []) ≡ set (bitsPut l to bs) (to + length bs) b
-unfolding bitsPut
-bitsPut-last l to bs b = bitsPut-append l to bs (b ∷ [])
-
--- bits copied: as many cells as before, one more at the end, and one at the front
-pub length-bitsCopied : (l : List ℕ) (from to n : ℕ) → length (bitsCopied l from to n) ≡ length l
-unfolding bitsCopied
-length-bitsCopied l from to zero = refl
-length-bitsCopied l from to (suc n) =
-    length-set (bitsCopied l from to n) (to + n) (getD (bitsCopied l from to n) (from + n) 0) ∙ length-bitsCopied l from to n
-
-pub bitsCopied-last : (l : List ℕ) (from to n : ℕ)
-    → bitsCopied l from to (n + 1) ≡ set (bitsCopied l from to n) (to + n) (getD (bitsCopied l from to n) (from + n) 0)
-unfolding bitsCopied
-bitsCopied-last l from to n = rw add-one
-
-pub bitsCopied-first : (l : List ℕ) (from to n : ℕ) → bitsCopied l from to (suc n) ≡ bitsCopied (set l to (getD l from 0)) (suc from) (suc to) n
-unfolding bitsCopied
-bitsCopied-first l from to zero = rw (add-zero to, add-zero from)
-bitsCopied-first l from to (suc n) =
-    let e : to + suc n ≡ suc to + n = omega arith in
-    let g : from + suc n ≡ suc from + n = omega arith in
-    rw (e, g) (ap (λ x. set x (suc to + n) (getD x (suc from + n) 0)) (bitsCopied-first l from to n))
-
 -- rules for 0 cells, and for more
 pub skipped-zero : (n : ℕ) (m : Mach) → n ≡ 0 → skipped n m ≡ m
 unfolding skipped
 skipped-zero n m e = rw e
 
 pub skipped-some : (n : ℕ) (m : Mach) → (n ≡ 0 → ⊥)
-    → skipped n m ≡ mach (m .bits) (writeCursorAt (activeWrite m .cursor + n) m) (m .writeFrames) (m .readFrames) (m .next)
+    → skipped n m ≡ mach (m .bits) (writeMoved (forward n) m) (m .writeFrames) (m .readFrames) (m .next)
 unfolding skipped
 skipped-some zero m h = absurd (h refl)
 skipped-some (suc n) m h = refl
@@ -142,7 +91,7 @@ unfolding forwarded
 forwarded-zero n m e = rw e
 
 pub forwarded-some : (n : ℕ) (m : Mach) → (n ≡ 0 → ⊥)
-    → forwarded n m ≡ mach (m .bits) (readCursorAt (activeRead m .cursor + n) m) (m .writeFrames) (m .readFrames) (m .next)
+    → forwarded n m ≡ mach (m .bits) (readMoved (forward n) m) (m .writeFrames) (m .readFrames) (m .next)
 unfolding forwarded
 forwarded-some zero m h = absurd (h refl)
 forwarded-some (suc n) m h = refl
@@ -152,7 +101,7 @@ unfolding backed
 backed-zero n m e = rw e
 
 pub backed-some : (n : ℕ) (m : Mach) → (n ≡ 0 → ⊥)
-    → backed n m ≡ mach (m .bits) (readCursorAt (activeRead m .cursor - n) m) (m .writeFrames) (m .readFrames) (m .next)
+    → backed n m ≡ mach (m .bits) (readMoved (backward n) m) (m .writeFrames) (m .readFrames) (m .next)
 unfolding backed
 backed-some zero m h = absurd (h refl)
 backed-some (suc n) m h = refl
@@ -163,7 +112,7 @@ copied-zero n m e = rw e
 
 pub copied-some : (n : ℕ) (m : Mach) → (n ≡ 0 → ⊥)
     → copied n m
-    ≡ mach (bitsCopied (m .bits) (activeRead m .cursor) (activeWrite m .cursor) n) (writeCursorAt (activeWrite m .cursor + n) m) (m .writeFrames)
+    ≡ mach (copyBits (m .bits) (activeRead m .cursor) (activeWrite m .cursor) n) (writeMoved (forward n) m) (m .writeFrames)
     (m .readFrames) (m .next)
 unfolding copied
 copied-some zero m h = absurd (h refl)
@@ -171,7 +120,7 @@ copied-some (suc n) m h = refl
 
 pub bitsWritten-some : (bs : List Bit) (m : Mach) → (length bs ≡ 0 → ⊥)
     → bitsWritten bs m
-    ≡ mach (bitsPut (m .bits) (activeWrite m .cursor) bs) (writeCursorAt (activeWrite m .cursor + length bs) m) (m .writeFrames) (m .readFrames)
+    ≡ mach (sets (m .bits) (activeWrite m .cursor) bs) (writeMoved (forward (length bs)) m) (m .writeFrames) (m .readFrames)
     (m .next)
 unfolding bitsWritten
 bitsWritten-some [] m h = absurd (h refl)
@@ -179,5 +128,5 @@ bitsWritten-some (b ∷ bs) m h = refl
 
 -- one bit is a list of one
 pub bitWritten-list : (b : Bit) (m : Mach) → bitWritten b m ≡ bitsWritten (b ∷ []) m
-unfolding bitWritten bitsWritten bitsPut
+unfolding bitWritten bitsWritten
 bitWritten-list b m = refl

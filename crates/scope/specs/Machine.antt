@@ -1,11 +1,13 @@
 -- The Bit Machine: cells, two stacks of frames, its rules, and how each term is run.
 -- A run ends with its last state, or stops at a fail node (18) or a pruned branch (19) with the state at the stop.
 -- It would be stuck where no rule applies: past a frame, past the cells or the frames that the bounds give. That it never is, is a theorem.
+use mathlib.Core.Path.{_≡_, refl}
 use mathlib.Core.Bool.{Bool, true, false}
 use mathlib.Core.List.{List, [], _∷_, _++_}
 use Prim.Native.Nat.{ℕ, zero, suc, _+_, _-_}
 use lib.Dec.{leb, ltb, eqb}
 use lib.ListN.{length, getD}
+use Rattle.limits.specs.Limits.{frameNumbers}
 use Rattle.report.specs.Bits.{Bit}
 use Rattle.report.specs.Types.{Ty, width, padL, padR, wordTy}
 use Rattle.report.specs.Values.{Val, Cells, padded, valueAt}
@@ -17,6 +19,31 @@ pub record Frame : Type 0 where
   pub cursor : ℕ
   pub start : ℕ
   pub len : ℕ
+
+abbrev pub frame : (cursor start len : ℕ) → Frame
+frame c s l = record { cursor = c; start = s; len = l }
+
+-- a frame of so many cells from a place on, its cursor at its start
+abbrev pub frameFrom : (start len : ℕ) → Frame
+frameFrom s l = frame s s l
+
+-- a frame with its cursor elsewhere
+abbrev pub cursorAt : ℕ → Frame → Frame
+cursorAt c f = frame c (f .start) (f .len)
+
+-- the numbers of a frame's record, and the frame whose record begins at a place of a store
+abbrev pub frameNumbersOf : Frame → List ℕ
+frameNumbersOf f = f .cursor ∷ f .start ∷ f .len ∷ []
+
+abbrev pub frameAt : List ℕ → (at : ℕ) → Frame
+frameAt numbers at = frame (getD numbers at 0) (getD numbers (at + 1) 0) (getD numbers (at + 2) 0)
+
+-- a record has as many numbers as the limits say, and what was written is read
+pub frame-size : (f : Frame) → length (frameNumbersOf f) ≡ frameNumbers
+frame-size f = refl
+
+pub frame-back : (f : Frame) (numbers : List ℕ) → frameAt (frameNumbersOf f ++ numbers) 0 ≡ f
+frame-back f numbers = refl
 
 -- the active frame of a stack is the head of its list; `next` is the first cell above all frames
 pub record State : Type 0 where
@@ -54,13 +81,13 @@ need false o = stuck
 
 -- the frame with its cursor so many cells on, so many cells back, at its start
 unfoldable pub forward : ℕ → Frame → Frame
-forward n f = record { cursor = f .cursor + n; start = f .start; len = f .len }
+forward n f = cursorAt (f .cursor + n) f
 
 unfoldable pub backward : ℕ → Frame → Frame
-backward n f = record { cursor = f .cursor - n; start = f .start; len = f .len }
+backward n f = cursorAt (f .cursor - n) f
 
 unfoldable pub reset : Frame → Frame
-reset f = record { cursor = f .start; start = f .start; len = f .len }
+reset f = cursorAt (f .start) f
 
 -- n cells from the cursor on lie in the frame
 unfoldable pub inFrame : ℕ → Frame → Bool
@@ -72,7 +99,7 @@ unfolding need state
 newFrame size most n s =
     need (leb (s .next + n) size)
     (need (ltb (length (s .reads) + length (s .writes)) most)
-    (done (state (s .cells) (s .reads) (record { cursor = s .next; start = s .next; len = n } ∷ s .writes) (s .next + n))))
+    (done (state (s .cells) (s .reads) (frameFrom (s .next) n ∷ s .writes) (s .next + n))))
 
 -- the active write frame becomes the active read frame, its cursor at its start
 unfoldable pub moveFrame : State → Step

@@ -11,8 +11,8 @@ use Rattle.report.specs.Types.{Ty, width, padL, padR, leftOf, rightOf, wordTy}
 use Rattle.report.specs.Values.{Val, ⟨⟩, inl, inr, _&_, Cells, padded}
 use Rattle.report.specs.Terms.{Term, iden, comp, unit, injl, injr, case, pair, take, drop, assertl, assertr, fail, witness, word, disconnect, bad}
 use Rattle.report.specs.Meaning.{Out, done, failed, pruned, stuck, _>>=_}
-use Rattle.scope.specs.Machine.{Frame, State, Step, state, need, reset, setCell, putBits, copyCells, forward, backward, inFrame, newFrame, moveFrame, dropFrame, writeBits, skip, copy, fwd, back, peek, exec, input, output, machine}
-use Rattle.exactness.specs.Bits.{AreBits, below-append}
+use Rattle.scope.specs.Machine.{Frame, frameFrom, State, Step, state, need, reset, setCell, putBits, copyCells, forward, backward, inFrame, newFrame, moveFrame, dropFrame, writeBits, skip, copy, fwd, back, peek, exec, input, output, machine}
+use Rattle.common.specs.Bits.{AreBits, below-append}
 
 -- every cell is 0 or 1
 abbrev pub BitCells : Cells → Type 0
@@ -82,7 +82,7 @@ module _ (s : State) (h : BitCells (s .cells)) where
   unfolding newFrame state
   after-newFrame size most n =
       after-need (leb (s .next + n) size) _ (after-need (ltb (length (s .reads) + length (s .writes)) most)
-      (done (state (s .cells) (s .reads) (record { cursor = s .next; start = s .next; len = n } ∷ s .writes) (s .next + n))) (BitsDone h))
+      (done (state (s .cells) (s .reads) (frameFrom (s .next) n ∷ s .writes) (s .next + n))) (BitsDone h))
 
   after-moveFrame : BitsAfter (moveFrame s)
   unfolding moveFrame state

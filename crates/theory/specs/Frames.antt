@@ -12,8 +12,9 @@ use Rattle.report.specs.Values.{Val, HasTy, Cells, padded}
 use Rattle.report.specs.Terms.{Term, iden, comp, unit, injl, injr, case, pair, take, drop, assertl, assertr, disconnect}
 use Rattle.report.specs.Typing.{Typed, Iden, Comp, Unit·, Injl, Injr, Case, Pair, Take, Drop, Assertl, Assertr, Fail, Witness, Word, Disconnect}
 use Rattle.report.specs.Meaning.{Out, done, failed, pruned, stuck, _>>=_}
-use Rattle.scope.specs.Machine.{Frame, State, state, forward, reset, putBits, copyCells, moveFrame, writeBits, skip, fwd, back, exec}
+use Rattle.scope.specs.Machine.{Frame, frameFrom, State, state, forward, reset, putBits, copyCells, moveFrame, writeBits, skip, fwd, back, exec}
 use Rattle.scope.specs.Bounds.{Bound, bounds}
+use Rattle.layout.specs.Match.{bind-bind}
 use Rattle.theory.specs.Room.{tightCells, extraFrames}
 use Rattle.theory.specs.Cursors.{onCells}
 use Rattle.theory.specs.Instructions.{At, advance, advance-none, advance-advance, length-advance, at-less, at-advance, newFrame-does, writeBits-does, skip-does, copy-does, fwd-does, back-does, peek-does, dropFrame-does, value-does}
@@ -25,14 +26,6 @@ bind-last (done x) f k g h = h x
 bind-last (failed p y) f k g h = refl
 bind-last (pruned p y) f k g h = refl
 bind-last stuck f k g h = refl
-
--- brackets do not matter
-bind-bind : {W X Y Z : Type 0} (o : Out W X) (f : X → Out W Y) (g : Y → Out W Z) → ((o >>= f) >>= g) ≡ (o >>= λ x. f x >>= g)
-unfolding _>>=_
-bind-bind (done x) f g = refl
-bind-bind (failed p y) f g = refl
-bind-bind (pruned p y) f g = refl
-bind-bind stuck f g = refl
 
 -- of a run that stopped, the cells alone
 unfoldable pub bare : {X : Type 0} → Out State X → Out Cells X
@@ -77,7 +70,7 @@ bind-then o f k g j h = bind-last o f k (λ x. g x >>= j) h ∙ sym (bind-bind o
 does-comp : (s t : Term) (B : Ty) (n m : ℕ) → Does s n (width B) → Does t (width B) m → Does (comp B s t) n m
 unfolding bare exec onCells _>>=_ tightCells bounds At advance forward moveFrame reset state
 does-comp s t B n m hs ht size most rs ws rd wr nx c hr hw hc hf =
-    let fr : Frame = record { cursor = nx; start = nx; len = width B } in
+    let fr : Frame = frameFrom nx (width B) in
     rw (
       newFrame-does size most c rs ws nx (width B) (omega arith) (omega arith),
       bare-bind (exec size most s (state c rs (fr ∷ ws) (nx + width B))),
@@ -218,8 +211,8 @@ does-disconnect s t h A B C m hh hs ht size most rs ws rd wr nx c hr hw hc hf =
     let W : ℕ = width (wordTy 8) in
     let e₁ : ℕ = nx + (W + width A) in
     let e₂ : ℕ = e₁ + (width B + width C) in
-    let f₁ : Frame = record { cursor = nx; start = nx; len = W + width A } in
-    let f₂ : Frame = record { cursor = e₁; start = e₁; len = width B + width C } in
+    let f₁ : Frame = frameFrom nx (W + width A) in
+    let f₂ : Frame = frameFrom e₁ (width B + width C) in
     let c₀ : Cells = putBits c nx (padded (wordTy 8) h) in
     let c₁ : Cells = copyCells c₀ rd (nx + W) (width A) in
     rw (

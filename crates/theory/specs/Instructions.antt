@@ -11,7 +11,7 @@ use Rattle.report.specs.Bits.{Bit}
 use Rattle.report.specs.Types.{Ty, width}
 use Rattle.report.specs.Values.{Val, HasTy, Cells, padded}
 use Rattle.report.specs.Meaning.{done}
-use Rattle.scope.specs.Machine.{Frame, State, state, need, forward, backward, inFrame, putBits, copyCells, newFrame, dropFrame, writeBits, skip, copy, fwd, back, peek}
+use Rattle.scope.specs.Machine.{Frame, frameFrom, State, state, need, forward, backward, inFrame, putBits, copyCells, newFrame, dropFrame, writeBits, skip, copy, fwd, back, peek}
 use Rattle.exactness.specs.Values.{length-padded}
 
 -- n cells can be read or written at the cursor `at` of the active frame; where n is 0 there need be no frame
@@ -67,7 +67,7 @@ at-advance (f ∷ fs) at m n h = (omega arith, omega arith, omega arith)
 
 -- a new write frame of n cells
 pub newFrame-does : (size most : ℕ) (c : Cells) (rs ws : List Frame) (nx n : ℕ) → nx + n ≤ size → length rs + length ws < most
-    → newFrame size most n (state c rs ws nx) ≡ done (state c rs (record { cursor = nx; start = nx; len = n } ∷ ws) (nx + n))
+    → newFrame size most n (state c rs ws nx) ≡ done (state c rs (frameFrom nx n ∷ ws) (nx + n))
 unfolding newFrame need state
 newFrame-does size most c rs ws nx n h k = rw (le-leb (nx + n) size h, lt-ltb (length rs + length ws) most k)
 

@@ -12,7 +12,7 @@ use Rattle.report.specs.Values.{Val, HasTy, Cells, padded, valueAt}
 use Rattle.report.specs.Terms.{Term}
 use Rattle.report.specs.Typing.{Typed}
 use Rattle.report.specs.Meaning.{done, failed, pruned, _>>=_, Means, eval}
-use Rattle.scope.specs.Machine.{Frame, State, Step, state, forward, reset, putBits, writeBits, moveFrame, exec, input, output, machine, answer}
+use Rattle.scope.specs.Machine.{Frame, frameFrom, State, Step, state, forward, reset, putBits, writeBits, moveFrame, exec, input, output, machine, answer}
 use Rattle.scope.specs.Bounds.{Bound, bounds}
 use Rattle.exactness.specs.Values.{length-padded}
 use Rattle.theory.specs.Room.{tightCells, tight-within}
@@ -27,7 +27,7 @@ unfolding input At putBits writeBits _>>=_ moveFrame reset advance forward state
 input-does size most zero [] c e l f = ([], refl, omega arith, omega arith)
 input-does size most zero (b ∷ bs) c e l f = absurd (omega arith)
 input-does size most (suc n) bits c e l f =
-    let fr : Frame = record { cursor = 0; start = 0; len = suc n } in (
+    let fr : Frame = frameFrom 0 (suc n) in (
       fr ∷ [],
       rw (
         newFrame-does size most c [] [] 0 (suc n) (omega arith) (omega arith),
@@ -44,7 +44,7 @@ output-does : (size most n : ℕ) (c : Cells) (rs : List Frame) (nx : ℕ) → n
 unfolding output At
 output-does size most zero c rs nx l f = ([], rw (add-zero nx), omega arith, omega arith)
 output-does size most (suc n) c rs nx l f =
-    (record { cursor = nx; start = nx; len = suc n } ∷ [], newFrame-does size most c rs [] nx (suc n) l (omega arith), (refl, omega arith, omega arith), omega arith)
+    (frameFrom nx (suc n) ∷ [], newFrame-does size most c rs [] nx (suc n) l (omega arith), (refl, omega arith, omega arith), omega arith)
 
 -- How a whole run to B ends, with its output at a place and old cells c: as the meaning does, and every cell at or past `total` keeps its old bit.
 -- It never ends stuck.

@@ -11,6 +11,7 @@ use crate::original::nodes::{self, Needs};
 use crate::original::typing;
 use crate::row::Row;
 use crate::tally::Rests;
+use drevaloci::FRAME_RECORD;
 use simplicity::types::arrow::FinalArrow;
 
 /// Why a run was not made on the original.
@@ -150,7 +151,7 @@ impl<'a> Facts<'a> {
             nodes: 4 * decoding.read.count,
             hashes: self.table.hashes.len(),
             cells: needs.cells.div_ceil(8).min(AMPLE.cells),
-            frames: (3 * needs.frames).min(AMPLE.frames),
+            frames: (FRAME_RECORD * needs.frames).min(AMPLE.frames),
             answer: self.answer_bytes,
         }
     }
@@ -173,8 +174,11 @@ impl<'a> Facts<'a> {
     /// Refusal 17 at 0, 1 or 2.
     pub fn store_short(&self, room: &Room) -> Option<Verdict> {
         let needs = self.needs?;
-        let short =
-            [room.cells < needs.cells.div_ceil(8), room.frames / 3 < needs.frames, room.answer < self.answer_bytes];
+        let short = [
+            room.cells < needs.cells.div_ceil(8),
+            room.frames / FRAME_RECORD < needs.frames,
+            room.answer < self.answer_bytes,
+        ];
         let place = short.iter().position(|short| *short)?;
         Some(Verdict::document((17, place as u32)))
     }
@@ -207,7 +211,7 @@ impl<'a> Facts<'a> {
     pub fn put_run(&self, left: &mut Contents) -> Option<(Option<Verdict>, Option<Vec<bool>>)> {
         let (ended, needs) = (self.ended.as_ref()?, self.needs?);
         left.cells[..ended.cells.len()].copy_from_slice(&ended.cells);
-        left.frames[..3 * needs.frames].fill(0);
+        left.frames[..FRAME_RECORD * needs.frames].fill(0);
         match &ended.result {
             Ok(output) => {
                 let packed = bits::pack(output);

@@ -1,9 +1,12 @@
 -- `frame::put_record` meets its contract.
+use mathlib.Core.Path.{_∙_}
+use Prim.Native.Nat.{_*_}
 use native.Mathlib.Omega.{arith}
 use lib.ListN.{length-set}
 use borrow.Author.Needs.{needs}
+use Rattle.limits.specs.Limits.{frameNumbers}
 use Rattle.frame.specs.Cursor.{frameOf}
-use Rattle.frame.proofs.Records.{put-in, put-past}
+use Rattle.frame.proofs.Records.{numbers-set, put-in, put-past}
 use Rattle.frame.proofs.put_record.Statement.{statement}
 use Rattle.frame.proofs.put_record.Tie as tie
 
@@ -41,7 +44,9 @@ same-length : tie.Need-same-length
 same-length c = search needs
 
 returns-2 : tie.Need-returns-2
-returns-2 c = put-in _ _ (frameOf (c .before .args .f)) (c .if1 .left)
+returns-2 c =
+    let args = c .before .args in
+    numbers-set (args .frames .now) (frameNumbers * args .k) (frameOf (args .f)) ∙ put-in _ (args .k) (frameOf (args .f)) (c .if1 .left)
 
 pub put-record-spec : {M : Type 1} → statement M
 put-record-spec =

@@ -1,11 +1,15 @@
 -- `frame::record_at` meets its contract.
+use mathlib.Core.Path.{_∙_}
 use borrow.Author.Needs.{needs}
 use Rattle.frame.proofs.Records.{record-in, record-past}
 use Rattle.frame.proofs.record_at.Statement.{statement}
 use Rattle.frame.proofs.record_at.Tie as tie
 
+none-requires : tie.Need-none-requires
+none-requires c κs = search needs
+
 returns : tie.Need-returns
-returns c = record-past _ _ (c .if1 .taken)
+returns c = c .none .ensures ∙ record-past _ _ (c .before .if1 .taken)
 
 mul-at : tie.Need-mul-at
 mul-at c = search needs
@@ -41,6 +45,7 @@ pub record-at-spec : {M : Type 1} → statement M
 record-at-spec =
     tie.close
     (tie.spec
+    none-requires
     returns
     mul-at
     mul-t4

@@ -1,14 +1,12 @@
+-- `bit_machine::rules::back` meets its contract.
 use borrow.Author.Needs.{needs}
-use Rattle.bit_machine.proofs.rules.back.Statement.{statement}
-use Rattle.bit_machine.proofs.rules.back.Tie as tie
-use Rattle.bit_machine.proofs.rules.back.Reads as reads
-use Rattle.bit_machine.proofs.rules.back.Lts as lts
-use Rattle.bit_machine.proofs.rules.cursor_at.Reads as cursor-at-reads
-use Rattle.bit_machine.proofs.rules.records.Reads as records-reads
-use Rattle.bit_machine.proofs.rules.set_cursor.Reads as set-cursor-reads
 use native.Mathlib.Omega.{arith}
 use mathlib.Core.Path.{_≡_, refl, sym, ap, _∙_}
+use Rattle.scope.specs.Machine.{backward}
 use Rattle.layout.specs.Rules.{backed-zero, backed-some}
+use Rattle.bit_machine.proofs.Frames.{stored}
+use Rattle.bit_machine.proofs.rules.back.Statement.{statement}
+use Rattle.bit_machine.proofs.rules.back.Tie as tie
 
 returns : tie.Need-returns
 returns c = λ b. sym (backed-zero _ _ (c .if1 .taken))
@@ -21,27 +19,23 @@ sub-k c =
     let h = c .before .before .before .before .before .pre (omega arith) in
     omega (arith, c .before .records .ensures)
 
-cursor-at-requires : tie.Need-cursor-at-requires
-cursor-at-requires c κs =
-    let h = c .before .before .before .before .before .before .pre (omega arith) in
-    omega (arith, c .before .before .records .ensures)
+record-at-requires : tie.Need-record-at-requires
+record-at-requires c κs = search needs
 
-sub-set-cursor : tie.Need-sub-set-cursor
-sub-set-cursor c =
-    let h = c .before .before .before .before .before .before .before .before .pre (omega arith) in
-    let e = rw (c .before .before .before .before .records .ensures) at (c .before .cursor-at .ensures) in
-    omega arith
+backed-requires : tie.Need-backed-requires
+backed-requires c κs = search needs
 
-set-cursor-requires : tie.Need-set-cursor-requires
-set-cursor-requires c κs =
-    let h = c .before .before .before .before .before .before .before .before .pre (omega arith) in
-    omega (arith, c .before .before .before .before .records .ensures)
+put-record-requires : tie.Need-put-record-requires
+put-record-requires c κs = search needs
 
 same-length : tie.Need-same-length
 same-length c = search needs
 
 returns-2 : tie.Need-returns-2
-returns-2 c = λ b. rw (c .before .before .set-cursor .ensures, c .before .before .before .before .cursor-at .ensures, c .before .before .before .before .before .before .before .records .ensures, backed-some _ _ (c .before .before .before .before .before .before .before .before .before .if1 .left))
+returns-2 c =
+    let moved = c .before .before .before .backed .ensures ∙ ap (backward _) (c .before .before .before .before .before .record-at .ensures) in
+    let records = c .before .before .before .before .before .before .before .before .records .ensures in
+    λ b. rw (stored _ _ _ (c .before .before .put-record .ensures) moved, records, backed-some _ _ (c .before .before .before .before .before .before .before .before .before .before .if1 .left))
 
 pub back-spec : {M : Type 1} → statement M
 back-spec =
@@ -50,8 +44,8 @@ back-spec =
     returns
     records-requires
     sub-k
-    cursor-at-requires
-    sub-set-cursor
-    set-cursor-requires
+    record-at-requires
+    backed-requires
+    put-record-requires
     same-length
     returns-2)

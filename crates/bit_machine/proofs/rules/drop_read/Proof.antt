@@ -1,16 +1,10 @@
+-- `bit_machine::rules::drop_read` meets its contract.
+use borrow.Author.Needs.{needs}
+use mathlib.Core.Path.{_≡_, refl, sym, ap, _∙_}
 use Rattle.layout.specs.Rules.{dropped}
 use Rattle.bit_machine.proofs.Frames.{stored}
-use mathlib.Core.Path.{_≡_, refl, sym, ap, _∙_}
-use native.Mathlib.Omega.{arith}
-use borrow.Author.Needs.{needs}
 use Rattle.bit_machine.proofs.rules.drop_read.Statement.{statement}
 use Rattle.bit_machine.proofs.rules.drop_read.Tie as tie
-use Rattle.bit_machine.proofs.rules.drop_read.Reads as reads
-use Rattle.bit_machine.proofs.rules.drop_read.Lts as lts
-use Rattle.bit_machine.proofs.rules.records.Reads as records-reads
-use Rattle.frame.proofs.Frame.new.Reads as new-reads
-use Rattle.frame.proofs.put_record.Reads as put-record-reads
-use Rattle.frame.proofs.record_at.Reads as record-at-reads
 
 records-requires : tie.Need-records-requires
 records-requires c κs = search needs
@@ -21,8 +15,8 @@ sub-k c = search needs
 record-at-requires : tie.Need-record-at-requires
 record-at-requires c κs = search needs
 
-new-requires : tie.Need-new-requires
-new-requires c κs = search needs
+none-requires : tie.Need-none-requires
+none-requires c κs = search needs
 
 put-record-requires : tie.Need-put-record-requires
 put-record-requires c κs = search needs
@@ -35,7 +29,9 @@ same-length c = search needs
 
 returns : tie.Need-returns
 unfolding dropped
-returns c = λ b. rw (stored _ _ _ (c .before .before .put-record .ensures) (c .before .before .before .new .ensures), ← (c .before .before .before .before .before .before .before .records .ensures), ← (c .before .before .before .before .before .record-at .ensures))
+returns c =
+    let freed = stored _ _ _ (c .before .before .put-record .ensures) (c .before .before .before .none .ensures) in
+    λ b. rw (freed, ← (c .before .before .before .before .before .before .before .records .ensures), ← (c .before .before .before .before .before .record-at .ensures))
 
 pub drop-read-spec : {M : Type 1} → statement M
 drop-read-spec =
@@ -44,7 +40,7 @@ drop-read-spec =
     records-requires
     sub-k
     record-at-requires
-    new-requires
+    none-requires
     put-record-requires
     sub-t6
     same-length

@@ -1,19 +1,13 @@
+-- `bit_machine::rules::move_to_read` meets its contract.
+use borrow.Author.Needs.{needs}
+use native.Mathlib.Omega.{arith}
+use mathlib.Core.Path.{_≡_, refl, sym, ap, _∙_}
 use Rattle.scope.specs.Machine.{reset}
 use Rattle.layout.specs.Rules.{moved}
 use Rattle.layout.specs.Mach.{length-recordsOf}
 use Rattle.bit_machine.proofs.Frames.{stored}
-use mathlib.Core.Path.{_≡_, refl, sym, ap, _∙_}
-use native.Mathlib.Omega.{arith}
-use borrow.Author.Needs.{needs}
 use Rattle.bit_machine.proofs.rules.move_to_read.Statement.{statement}
 use Rattle.bit_machine.proofs.rules.move_to_read.Tie as tie
-use Rattle.bit_machine.proofs.rules.move_to_read.Reads as reads
-use Rattle.bit_machine.proofs.rules.move_to_read.Lts as lts
-use Rattle.bit_machine.proofs.rules.records.Reads as records-reads
-use Rattle.frame.proofs.Frame.at_start.Reads as at-start-reads
-use Rattle.frame.proofs.Frame.new.Reads as new-reads
-use Rattle.frame.proofs.put_record.Reads as put-record-reads
-use Rattle.frame.proofs.record_at.Reads as record-at-reads
 
 sub-writes : tie.Need-sub-writes
 sub-writes c = search needs
@@ -30,8 +24,8 @@ sub-to c = search needs
 record-at-requires : tie.Need-record-at-requires
 record-at-requires c κs = search needs
 
-new-requires : tie.Need-new-requires
-new-requires c κs = search needs
+none-requires : tie.Need-none-requires
+none-requires c κs = search needs
 
 put-record-requires : tie.Need-put-record-requires
 put-record-requires c κs = search needs
@@ -46,8 +40,11 @@ same-length : tie.Need-same-length
 same-length c = search needs
 
 returns : tie.Need-returns
-unfolding moved reset
-returns c = λ b. rw (stored _ _ _ (c .before .before .put-record2 .ensures) (c .before .before .before .at-start .ensures), stored _ _ _ (c .before .before .before .before .before .before .before .put-record .ensures) (c .before .before .before .before .before .before .before .before .new .ensures), ← (c .before .before .before .before .before .before .before .before .before .before .record-at .ensures), c .before .before .before .before .before .before .before .before .before .before .before .before .records .ensures)
+unfolding moved
+returns c =
+    let freed = stored _ _ _ (c .before .before .before .before .before .before .before .put-record .ensures) (c .before .before .before .before .before .before .before .before .none .ensures) in
+    let put = stored _ _ _ (c .before .before .put-record2 .ensures) (c .before .before .before .at-start .ensures) in
+    λ b. rw (put, freed, ← (c .before .before .before .before .before .before .before .before .before .before .record-at .ensures), c .before .before .before .before .before .before .before .before .before .before .before .before .records .ensures)
 
 pub move-to-read-spec : {M : Type 1} → statement M
 move-to-read-spec =
@@ -58,7 +55,7 @@ move-to-read-spec =
     records-requires
     sub-to
     record-at-requires
-    new-requires
+    none-requires
     put-record-requires
     at-start-requires
     put-record-requires-2

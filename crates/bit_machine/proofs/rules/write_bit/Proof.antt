@@ -1,33 +1,27 @@
+-- `bit_machine::rules::write_bit` meets its contract.
 use borrow.Author.Needs.{needs}
-use Rattle.bit_machine.proofs.rules.write_bit.Statement.{statement}
-use Rattle.bit_machine.proofs.rules.write_bit.Tie as tie
-use Rattle.bit_machine.proofs.rules.write_bit.Reads as reads
-use Rattle.bit_machine.proofs.rules.write_bit.Lts as lts
-use Rattle.bit_machine.proofs.rules.cursor_at.Reads as cursor-at-reads
-use Rattle.bit_machine.proofs.rules.set_cursor.Reads as set-cursor-reads
-use Rattle.cells.proofs.write_cell.Reads as write-cell-reads
 use native.Mathlib.Omega.{arith}
 use mathlib.Core.Path.{_≡_, refl, sym, ap, _∙_}
 use Prim.Native.Nat.{_%_}
 use Rattle.layout.specs.Safe.{fed-bits}
 use Rattle.layout.specs.Rules.{bitWritten}
+use Rattle.bit_machine.proofs.rules.write_bit.Statement.{statement}
+use Rattle.bit_machine.proofs.rules.write_bit.Tie as tie
 
 sub-k : tie.Need-sub-k
 sub-k c = search needs
 
-cursor-at-requires : tie.Need-cursor-at-requires
-cursor-at-requires c κs = search needs
+record-at-requires : tie.Need-record-at-requires
+record-at-requires c κs = search needs
 
 write-cell-requires : tie.Need-write-cell-requires
 write-cell-requires c κs = search needs
 
-add-set-cursor : tie.Need-add-set-cursor
-add-set-cursor c =
+advance-requires : tie.Need-advance-requires
+advance-requires c κs =
     let start = c .before .before .before .before .before .before .before .before .before .before in
-    omega (arith, c .before .before .before .before .before .cursor-at .ensures, fed-bits (start .pre .0), start .pre .1 .1 .fits)
-
-set-cursor-requires : tie.Need-set-cursor-requires
-set-cursor-requires c κs = search needs
+    let cursor = ap (λ f. f .cursor) (c .before .before .before .before .before .record-at .ensures) in
+    (c .before .before .before .before .before .record-at .ensures, omega (arith, fed-bits (start .pre .0), start .pre .1 .1 .fits))
 
 same-length : tie.Need-same-length
 same-length c = search needs
@@ -40,17 +34,17 @@ unfolding bitWritten
 returns c =
     let start = c .before .before .before .before .before .before .before .before .before .before .before .before .before in
     let e : start .args .bit % 2 ≡ start .args .bit = omega (arith, start .pre .1 .0) in
-    rw (c .before .before .set-cursor .ensures, c .before .before .before .before .before .before .write-cell .ensures, c .before .before .before .before .before .before .before .before .cursor-at .ensures, e)
+    let cursor = ap (λ f. f .cursor) (c .before .before .before .before .before .before .before .before .record-at .ensures) in
+    rw (c .before .before .advance .ensures, c .before .before .before .before .before .before .write-cell .ensures, cursor, e)
 
 pub write-bit-spec : {M : Type 1} → statement M
 write-bit-spec =
     tie.close
     (tie.spec
     sub-k
-    cursor-at-requires
+    record-at-requires
     write-cell-requires
-    add-set-cursor
-    set-cursor-requires
+    advance-requires
     same-length
     same-length-2
     returns)
