@@ -1,6 +1,6 @@
 -- The bits of a string of bytes: how many there are, which bits stand from a position on, and that bytes are told by their bits.
 -- What is true of single bytes is one test, computed over all of them at every bit position.
-use mathlib.Core.Path.{_≡_, refl, ap, ap₂, sym, subst, _∙_}
+use mathlib.Core.Path.{_≡_, refl, ap, ap₂, sym, _∙_}
 use mathlib.Core.Bool.{Bool}
 use mathlib.Core.List.{List, [], _∷_, _++_}
 use Prim.Native.Nat.{ℕ, zero, suc, _+_, _*_, _-_, _/_, _%_, _^_, _≤_, _<_}
@@ -8,16 +8,12 @@ use native.Mathlib.Nat.{not-suc-le-zero}
 use native.Mathlib.Omega.{arith}
 use lib.Dec.{T, leb, ltb, eqb, leb→le, ltb→lt, eqb→eq, lit<}
 use native.Mathlib.Decide.{decLt}
-use lib.ListN.{length, getD, take, drop, length-drop, take-append-drop, drop-of-length-le, List·getD-eq-default}
+use lib.ListN.{length, getD, take, drop, drop-of-length-le, List·getD-eq-default}
 use lib.Seq.{drop-append-le, drop-append-add, getD-drop}
 use Rattle.report.specs.Bits.{byteBits, bitsOf, numberFrom, bytesOf}
 use Rattle.scope.specs.Numbers.{allZero}
+use Rattle.common.specs.Bits.{length-bits, each-below, bytes-of-bits, bits-of-bytes}
 use Rattle.bititer.proofs.Tests.{both, both-left, both-right, agree, agree-eq, below, below-at}
-
-pub length-bits : (s : List ℕ) → length (bitsOf s) ≡ 8 * length s
-unfolding bitsOf
-length-bits [] = refl
-length-bits (b ∷ s) = let h : length (bitsOf s) ≡ 8 * length s = length-bits s in omega arith
 
 -- from bit k of byte i on: the rest of that byte, then the bytes after it
 pub bits-from : (s : List ℕ) (i k : ℕ) → i < length s → k ≤ 8
@@ -126,17 +122,9 @@ byte-at k x hk hx =
       low-zero = agree-eq _ _ (both-right d e w);
     }
 
--- a byte is the number of its bits
-pub byte-number : (x : ℕ) → x < 256 → numberFrom 0 (byteBits x) ≡ x
-byte-number x h =
-    let l : numberFrom 0 (byteBits x) * 1 ≡ x * 1 % 256 = byte-at 0 x (lit< tt) h .low in
-    omega arith
-
 -- bytes are packed again from their bits
 pub packing : (s : List ℕ) → Bytes s → bytesOf (length s) (bitsOf s) ≡ s
-unfolding bitsOf bytesOf
-packing [] h = refl
-packing (x ∷ s) h = ap₂ _∷_ (byte-number x (h 0)) (packing s (λ i. h (suc i)))
+packing s h = bytes-of-bits s (each-below 256 s (λ i l. h i))
 
 -- so two strings of bytes with the same bits are the same
 pub bits-tell : (s t : List ℕ) → Bytes s → Bytes t → bitsOf s ≡ bitsOf t → s ≡ t
@@ -145,32 +133,5 @@ bits-tell s t hs ht e =
     sym (packing s hs) ∙ ap₂ bytesOf n e ∙ packing t ht
 
 -- bits that fill whole bytes are those of the bytes that they are packed in
-eight-bits : (a b c d e f g h : ℕ) → a < 2 → b < 2 → c < 2 → d < 2 → e < 2 → f < 2 → g < 2 → h < 2
-    → byteBits (numberFrom 0 (a ∷ b ∷ c ∷ d ∷ e ∷ f ∷ g ∷ h ∷ [])) ≡ a ∷ b ∷ c ∷ d ∷ e ∷ f ∷ g ∷ h ∷ []
-unfolding numberFrom
-eight-bits a b c d e f g h ha hb hc hd he hf hg hh =
-    listed (omega arith) (omega arith) (omega arith) (omega arith) (omega arith) (omega arith) (omega arith) (omega arith)
-  where
-    listed : {t u v w x y z o t′ u′ v′ w′ x′ y′ z′ o′ : ℕ} → t ≡ t′ → u ≡ u′ → v ≡ v′ → w ≡ w′ → x ≡ x′ → y ≡ y′ → z ≡ z′ → o ≡ o′
-        → t ∷ u ∷ v ∷ w ∷ x ∷ y ∷ z ∷ o ∷ [] ≡ t′ ∷ u′ ∷ v′ ∷ w′ ∷ x′ ∷ y′ ∷ z′ ∷ o′ ∷ []
-    listed p q r s t u v w = λ i. p i ∷ q i ∷ r i ∷ s i ∷ t i ∷ u i ∷ v i ∷ w i ∷ []
-
-first-eight : (l : List ℕ) → 8 ≤ length l → ((i : ℕ) → getD l i 0 < 2) → byteBits (numberFrom 0 (take 8 l)) ≡ take 8 l
-first-eight [] n h = absurd (omega arith)
-first-eight (a ∷ []) n h = absurd (omega arith)
-first-eight (a ∷ b ∷ []) n h = absurd (omega arith)
-first-eight (a ∷ b ∷ c ∷ []) n h = absurd (omega arith)
-first-eight (a ∷ b ∷ c ∷ d ∷ []) n h = absurd (omega arith)
-first-eight (a ∷ b ∷ c ∷ d ∷ e ∷ []) n h = absurd (omega arith)
-first-eight (a ∷ b ∷ c ∷ d ∷ e ∷ f ∷ []) n h = absurd (omega arith)
-first-eight (a ∷ b ∷ c ∷ d ∷ e ∷ f ∷ g ∷ []) n h = absurd (omega arith)
-first-eight (a ∷ b ∷ c ∷ d ∷ e ∷ f ∷ g ∷ o ∷ l) n h = eight-bits a b c d e f g o (h 0) (h 1) (h 2) (h 3) (h 4) (h 5) (h 6) (h 7)
-
 pub unpacking : (k : ℕ) (l : List ℕ) → length l ≡ 8 * k → ((i : ℕ) → getD l i 0 < 2) → bitsOf (bytesOf k l) ≡ l
-unfolding bitsOf bytesOf
-unpacking zero [] n h = refl
-unpacking zero (b ∷ l) n h = absurd (omega arith)
-unpacking (suc k) l n h =
-    ap₂ _++_ (first-eight l (omega arith) h)
-    (unpacking k (drop 8 l) (omega (arith, length-drop 8 l)) (λ i. subst (λ (b : ℕ). b < 2) (sym (getD-drop 8 l i 0)) (h (8 + i))))
-    ∙ take-append-drop 8 l
+unpacking k l n h = bits-of-bytes k l n (each-below 2 l (λ i m. h i)) .0

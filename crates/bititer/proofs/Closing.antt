@@ -1,5 +1,5 @@
 -- Closing: when a slice's stream ends at a position, but for fewer than eight zeros, as code tests it.
-use mathlib.Core.Path.{_≡_, refl, ap, _∙_}
+use mathlib.Core.Path.{_≡_, ap, _∙_}
 use mathlib.Core.Bool.{Bool, true, false}
 use mathlib.Core.List.{List, [], _++_, append-nil}
 use Prim.Native.Nat.{ℕ, suc, _+_, _*_, _-_, _/_, _%_, _^_, _≤_, _<_}
@@ -10,8 +10,10 @@ use lib.ListN.{length, getD, drop, drop-of-length-le}
 use Rattle.report.specs.Bits.{Bit, byteBits, bitsOf}
 use Rattle.scope.specs.Numbers.{streamOf, every, allZero}
 use Rattle.scope.specs.Closing.{closes}
+use Rattle.common.specs.Checks.{every-one}
 use Rattle.bititer.proofs.Bits.{bits-from, byte-at}
-use Rattle.bititer.proofs.Streams.{stream-within, stream-some, length-within}
+use Rattle.common.specs.Bits.{stream-within, length-within}
+use Rattle.bititer.proofs.Streams.{stream-some}
 
 pub closes-past : (bits : List Bit) (p : ℕ) → length bits < p → closes bits p ≡ false
 unfolding closes every
@@ -24,11 +26,7 @@ closes-long bits p h k = rw (le-leb p (length bits) h, le-ltb (length bits - p) 
 -- what is left decides where it is short
 closes-short : (bits : List Bit) (p : ℕ) (r : Bool) → p ≤ length bits → length bits - p < 8 → allZero (drop p bits) ≡ r → closes bits p ≡ r
 unfolding closes every
-closes-short bits p r h k e = rw (le-leb p (length bits) h, lt-ltb (length bits - p) 8 k, e, closes, every) (go r)
-  where
-    go : (r : Bool) → elim r [ true ↦ true | false ↦ false ] ≡ r
-    go true = refl
-    go false = refl
+closes-short bits p r h k e = rw (le-leb p (length bits) h, lt-ltb (length bits - p) 8 k, e, closes, every) (every-one r)
 
 pub closes-end : (bits : List Bit) (p : ℕ) → length bits ≡ p → closes bits p ≡ true
 unfolding allZero

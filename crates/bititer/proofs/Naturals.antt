@@ -16,6 +16,7 @@ use Rattle.report.specs.Bits.{Bit}
 use Rattle.scope.specs.Naturals.{Natural, natural, ended, tooLong, moreBits, ofLength, readNatural}
 use Rattle.scope.specs.Reading.{got, fault, streamEnded, lengthTooLong, overBound, bounded, naturalUpTo}
 use Rattle.scope.specs.Numbers.{streamOf}
+use Rattle.common.specs.Numbers.{length-fits, length-too-long}
 use Rattle.bititer.specs.Parts.{ofLengths}
 use Rattle.bititer.proofs.Streams.{length-stream}
 
@@ -55,26 +56,18 @@ unfolding ofLengths ofLength
 lengths-long zero = refl
 lengths-long (suc k) = lengths-long k
 
-pub length-fine : (n : ℕ) (r : List Bit) → n ≤ naturalLength → ofLength (natural n r) ≡ moreBits n 1 r
-unfolding ofLength
-length-fine n r h = rw (le-leb n naturalLength h, ofLength)
-
-pub length-long : (n : ℕ) (r : List Bit) → naturalLength < n → ofLength (natural n r) ≡ tooLong
-unfolding ofLength
-length-long n r h = rw (lt-leb n naturalLength h, ofLength)
-
 -- one length less, of which there are some
 lengths-less : (k : ℕ) (x : Natural) → 0 < k → ofLengths k x ≡ ofLengths (k - 1) (ofLength x)
 lengths-less k x h = let e : k ≡ k - 1 + 1 = omega arith in ap (λ (j : ℕ). ofLengths j x) e ∙ lengths-more (k - 1) x
 
 pub lengths-turn : (k n : ℕ) (l : List Bit) (y : Natural) → 0 < k → n ≤ naturalLength → moreBits n 1 l ≡ y → ofLengths k (natural n l) ≡ ofLengths (k - 1) y
-lengths-turn k n l y h f e = lengths-less k (natural n l) h ∙ ap (ofLengths (k - 1)) (length-fine n l f ∙ e)
+lengths-turn k n l y h f e = lengths-less k (natural n l) h ∙ ap (ofLengths (k - 1)) (length-fits n l f ∙ e)
 
 pub lengths-cut : (k n : ℕ) (l : List Bit) → 0 < k → n ≤ naturalLength → moreBits n 1 l ≡ ended → ofLengths k (natural n l) ≡ ended
 lengths-cut k n l h f e = lengths-turn k n l ended h f e ∙ lengths-ended (k - 1)
 
 pub lengths-stop : (k n : ℕ) (l : List Bit) → 0 < k → naturalLength < n → ofLengths k (natural n l) ≡ tooLong
-lengths-stop k n l h f = lengths-less k (natural n l) h ∙ ap (ofLengths (k - 1)) (length-long n l f) ∙ lengths-long (k - 1)
+lengths-stop k n l h f = lengths-less k (natural n l) h ∙ ap (ofLengths (k - 1)) (length-too-long n l f) ∙ lengths-long (k - 1)
 
 pub lengths-done : (k : ℕ) (x : Natural) → k ≡ 0 → ofLengths k x ≡ x
 lengths-done k x e = ap (λ (j : ℕ). ofLengths j x) e ∙ lengths-none x
@@ -125,12 +118,12 @@ natural-told (zero ∷ l) n r e =
 natural-told (suc b ∷ l) n r e = go (readNatural l) (λ m t f. natural-told l m t f) e
   where
     long : (m : ℕ) (t : List Bit) → ofLength (natural m t) ≡ natural n r → naturalLength < m → ⊥
-    long m t e h = let c : natural n r ≡ tooLong = sym e ∙ length-long m t h in let z : _≡_ {A = ℕ} 0 1 = cc in omega arith
+    long m t e h = let c : natural n r ≡ tooLong = sym e ∙ length-too-long m t h in let z : _≡_ {A = ℕ} 0 1 = cc in omega arith
 
     fine : (m : ℕ) (t : List Bit) → (1 ≤ m) × (length t < length l) × (t ≡ drop (length l - length t) l) → ofLength (natural m t) ≡ natural n r → m ≤ naturalLength
         → (1 ≤ n) × (length r < length (suc b ∷ l)) × (r ≡ drop (length (suc b ∷ l) - length r) (suc b ∷ l))
     fine m t i e h =
-        let g = bits-got m 1 n t r (sym (length-fine m t h) ∙ e) in
+        let g = bits-got m 1 n t r (sym (length-fits m t h) ∙ e) in
         let a : length r ≡ length t - m = ap length (g .1) ∙ length-drop m t in
         let d : r ≡ drop (length l - length t + m) l = g .1 ∙ ap (drop m) (i .2) ∙ drop-drop m (length l - length t) l in
         let p : suc (length l) - length r ≡ suc (length l - length t + m) = omega arith in

@@ -4,20 +4,21 @@ use mathlib.Core.Path.{_≡_, refl, ap, ap₂, sym, _∙_}
 use mathlib.Core.Bool.{true, false}
 use mathlib.Core.List.{List, [], _∷_, _++_, append-assoc}
 use Prim.Native.Nat.{ℕ, zero, suc, _+_, _*_, _-_, _/_, _%_, _^_, _≤_, _<_}
-use native.Mathlib.Nat.{mul-assoc, add-mul}
 use native.Mathlib.Omega.{arith}
 use native.Mathlib.Decide.{decLt}
 use borrow.Author.Tests.{le-leb, lt-leb}
 use lib.Dec.{leb}
 use lib.ListN.{length, getD, take, drop, length-take, length-drop, length-append}
-use lib.Pow.{pow-add}
-use lib.Seq.{paste, take-length, take-take, take-nil, take-at, take-append-seam, drop-at, drop-append-seam, drop-cons, drop-drop, length-take-le}
+use lib.Seq.{paste, take-length, take-take, take-at, take-append-seam, drop-at, drop-append-seam, drop-cons, drop-drop, length-take-le}
 use Rattle.report.specs.Bits.{Bit, byteBits, bitsOf, numberFrom, bytesOf}
 use Rattle.scope.specs.Numbers.{streamOf}
 use Rattle.scope.specs.Reading.{Got, got, fault, streamEnded, hashesShort, octets}
 use Rattle.bititer.specs.Answers.{Stored, stored, placed, storing}
-use Rattle.bititer.proofs.Bits.{below-eight, bits-from, byte-at, byte-number}
-use Rattle.bititer.proofs.Streams.{stream-within, stream-some, octets-within, octets-past}
+use Rattle.common.specs.Lists.{drop-take}
+use Rattle.common.specs.Numbers.{double, shift-in}
+use Rattle.common.specs.Bits.{bits-of-byte, length-bytes, stream-within}
+use Rattle.bititer.proofs.Bits.{below-eight, bits-from, byte-at}
+use Rattle.bititer.proofs.Streams.{stream-some, octets-within, octets-past}
 
 -- a number from two parts of its bits
 number-append : (n : ℕ) (l r : List Bit) → numberFrom n (l ++ r) ≡ numberFrom (numberFrom n l) r
@@ -29,17 +30,10 @@ number-scaled : (n : ℕ) (l : List Bit) → numberFrom n l ≡ n * 2 ^ length l
 unfolding numberFrom
 number-scaled n [] = omega arith
 number-scaled n (b ∷ l) =
-    let k = 2 ^ length l in
     let x = number-scaled (n * 2 + b) l in
     let y = number-scaled (0 * 2 + b) l in
     let u : n * 2 ^ suc (length l) ≡ n * (2 * 2 ^ length l) = ap (λ (i : ℕ). n * i) (double (length l)) in
-    omega (arith, shifted n b (2 ^ length l), shifted 0 b (2 ^ length l))
-  where
-    double : (j : ℕ) → 2 ^ suc j ≡ 2 * 2 ^ j
-    double j = ap (λ (i : ℕ). 2 ^ i) (let e : suc j ≡ 1 + j = omega arith in e) ∙ pow-add 2 1 j
-
-    shifted : (a c p : ℕ) → (a * 2 + c) * p ≡ a * (2 * p) + c * p
-    shifted a c p = add-mul (a * 2) c p ∙ rw mul-assoc
+    omega (arith, shift-in n b (2 ^ length l), shift-in 0 b (2 ^ length l))
 
 -- eight bits from bit k of one byte on, which end in the next
 eight-across : (x y : ℕ) (r : List Bit) (k : ℕ) → k < 8 → take 8 (drop k (byteBits x) ++ (byteBits y ++ r)) ≡ drop k (byteBits x) ++ take k (byteBits y)
@@ -62,7 +56,7 @@ byte-across x y k r h hx hy =
 pub byte-whole : (s : List ℕ) (i k : ℕ) → k ≡ 0 → i < length s → getD s i 0 < 256 → numberFrom 0 (take 8 (drop (8 * i + k) (bitsOf s))) ≡ getD s i 0
 byte-whole s i k e h hx =
     ap (λ (l : List ℕ). numberFrom 0 (take 8 l)) (ap (λ (j : ℕ). drop (8 * i + j) (bitsOf s)) e ∙ bits-from s i 0 h (omega arith))
-    ∙ byte-number (getD s i 0) hx
+    ∙ bits-of-byte (getD s i 0) hx
 
 pub byte-split : (s : List ℕ) (i k : ℕ) → k < 8 → i + 1 < length s → getD s i 0 < 256 → getD s (i + 1) 0 < 256
     → numberFrom 0 (take 8 (drop (8 * i + k) (bitsOf s))) ≡ getD s i 0 * 2 ^ k % 256 + getD s (i + 1) 0 / 2 ^ (8 - k)
@@ -74,11 +68,6 @@ byte-split s i k hk h hx hy =
     ∙ byte-across (getD s i 0) (getD s (i + 1) 0) k (bitsOf (drop (suc (i + 1)) s)) hk hx hy
 
 -- k bytes of a stream
-pub length-bytes : (k : ℕ) (l : List Bit) → length (bytesOf k l) ≡ k
-unfolding bytesOf
-length-bytes zero l = refl
-length-bytes (suc k) l = ap suc (length-bytes k (drop 8 l))
-
 pub byte-in : (k j : ℕ) (l : List Bit) → j < k → getD (bytesOf k l) j 0 ≡ numberFrom 0 (take 8 (drop (8 * j) l))
 unfolding bytesOf
 byte-in zero j l h = absurd (omega arith)
@@ -87,19 +76,14 @@ byte-in (suc k) (suc j) l h =
     byte-in k j (drop 8 l) (omega arith)
     ∙ ap (λ (r : List Bit). numberFrom 0 (take 8 r)) (drop-drop (8 * j) 8 l ∙ ap (λ (i : ℕ). drop i l) (let e : 8 + 8 * j ≡ 8 * suc j = omega arith in e))
 
-drop-take : (n k : ℕ) (l : List Bit) → drop n (take (n + k) l) ≡ take k (drop n l)
-drop-take zero k l = ap (λ (j : ℕ). take j l) (let e : 0 + k ≡ k = omega arith in e)
-drop-take (suc n) k [] = ap (drop (suc n)) (take-nil (suc n + k)) ∙ sym (take-nil k)
-drop-take (suc n) k (b ∷ l) = ap (λ (j : ℕ). drop (suc n) (take j (b ∷ l))) (let e : suc n + k ≡ suc (n + k) = omega arith in e) ∙ drop-take n k l
-
 -- only their own bits count
 pub bytes-taken : (k : ℕ) (l : List Bit) → bytesOf k (take (8 * k) l) ≡ bytesOf k l
 unfolding bytesOf
 bytes-taken zero l = refl
 bytes-taken (suc k) l =
-    let e : 8 * suc k ≡ 8 + 8 * k = omega arith in
+    let e : 8 * suc k - 8 ≡ 8 * k = omega arith in
     ap₂ _∷_ (ap (numberFrom 0) (take-take 8 (8 * suc k) l (omega arith)))
-    (ap (bytesOf k) (ap (λ (j : ℕ). drop 8 (take j l)) e ∙ drop-take 8 (8 * k) l) ∙ bytes-taken k (drop 8 l))
+    (ap (bytesOf k) (drop-take 8 (8 * suc k) l ∙ ap (λ (j : ℕ). take j (drop 8 l)) e) ∙ bytes-taken k (drop 8 l))
 
 -- a store with bytes put at their place: they stand there, and before and after them it is as it was
 module _ (store bytes : List ℕ) (at : ℕ) (room : at + length bytes ≤ length store) where

@@ -5,25 +5,15 @@ use mathlib.Core.List.{List, [], _∷_}
 use Prim.Native.Nat.{ℕ, suc, _+_, _*_, _/_, _≤_, _<_}
 use native.Mathlib.Omega.{arith}
 use native.Mathlib.Decide.{decLt}
-use borrow.Author.Tests.{lt-ltb, le-ltb, le-leb, lt-leb}
+use borrow.Author.Tests.{le-leb, lt-leb}
 use lib.ListN.{length, getD, take, drop, drop-of-length-le}
 use lib.Seq.{drop-cons}
 use Rattle.limits.specs.Limits.{dossierBytes}
-use Rattle.report.specs.Bits.{Bit, bitsOf, numberFrom, bytesOf}
+use Rattle.report.specs.Bits.{Bit, numberFrom, bytesOf}
 use Rattle.scope.specs.Numbers.{streamOf}
 use Rattle.scope.specs.Reading.{got, fault, streamEnded, _>>=_, give, next, code, octets}
-use Rattle.bititer.proofs.Bits.{length-bits, bitAt, bit-from}
-
-pub stream-within : (s : List ℕ) → length s ≤ dossierBytes → streamOf s ≡ bitsOf s
-unfolding streamOf
-stream-within s h = rw (le-ltb dossierBytes (length s) h, streamOf)
-
-pub stream-over : (s : List ℕ) → dossierBytes < length s → streamOf s ≡ []
-unfolding streamOf
-stream-over s h = rw (lt-ltb dossierBytes (length s) h, streamOf)
-
-pub length-within : (s : List ℕ) → length s ≤ dossierBytes → length (streamOf s) ≡ 8 * length s
-length-within s h = ap length (stream-within s h) ∙ length-bits s
+use Rattle.common.specs.Bits.{length-within, stream-over, stream-within}
+use Rattle.bititer.proofs.Bits.{bitAt, bit-from}
 
 pub length-over : (s : List ℕ) → dossierBytes < length s → length (streamOf s) ≡ 0
 length-over s h = ap length (stream-over s h)

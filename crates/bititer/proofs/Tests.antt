@@ -1,14 +1,11 @@
 -- A test that is computed over every number below a bound, and what it says of each of them.
-use mathlib.Core.Path.{_≡_, refl, ap₂}
+use mathlib.Core.Path.{_≡_, refl}
 use mathlib.Core.Bool.{Bool, true, false}
-use mathlib.Core.List.{List, [], _∷_}
 use Prim.Native.Nat.{ℕ, zero, suc, _<_}
 use native.Mathlib.Nat.{not-suc-le-zero}
 use native.Mathlib.Omega.{arith}
 use native.Mathlib.Decide.{decLt}
-use borrow.Author.Tests.{eqb-true}
-use lib.Dec.{T, eqb}
-use Rattle.scope.specs.Numbers.{same}
+use lib.Dec.{T}
 
 abbrev pub both : Bool → Bool → Bool
 both true b = b
@@ -48,15 +45,3 @@ below-at f (suc n) k t h = elim (decLt k n) [
   where
     last : k ≡ n → T (f k)
     last e = rw e (both-left (f n) (below f n) t)
-
--- what a comparison of two lists that came out true says
-pub same-eq : (xs ys : List ℕ) → T (same xs ys) → xs ≡ ys
-unfolding same
-same-eq [] [] t = refl
-same-eq [] (y ∷ ys) t = absurd t
-same-eq (x ∷ xs) [] t = absurd t
-same-eq (x ∷ xs) (y ∷ ys) t = go (eqb x y) refl (λ u. same-eq xs ys u) t
-  where
-    go : (b : Bool) → eqb x y ≡ b → (T (same xs ys) → xs ≡ ys) → T (elim b [ true ↦ same xs ys | false ↦ false ]) → x ∷ xs ≡ y ∷ ys
-    go true e rest u = ap₂ _∷_ (eqb-true x y e) (rest u)
-    go false e rest u = absurd u

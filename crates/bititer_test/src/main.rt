@@ -26,35 +26,35 @@ const ROOM: usize = 80;
 
 // The fields of a record.
 fn kind(record: &[u8]) -> u8 {
-    packed::byte(record, 0)
+    common::byte_at(record, 0)
 }
 
 fn stream_bytes(record: &[u8]) -> usize
     ensures { λ r. ⌜ r < 4294967296 ⌝ }
 {
-    packed::number16(record, 1) as usize
+    common::half_at(record, 1) as usize
 }
 
 fn position(record: &[u8]) -> usize
     ensures { λ r. ⌜ r < 4294967296 ⌝ }
 {
-    packed::number16(record, 3) as usize
+    common::half_at(record, 3) as usize
 }
 
 fn answer(record: &[u8]) -> u8 {
-    packed::byte(record, 5)
+    common::byte_at(record, 5)
 }
 
 fn next_position(record: &[u8]) -> usize
     ensures { λ r. ⌜ r < 4294967296 ⌝ }
 {
-    packed::number16(record, 14) as usize
+    common::half_at(record, 14) as usize
 }
 
 fn read_bytes(record: &[u8]) -> usize
     ensures { λ r. ⌜ r < 256 ⌝ }
 {
-    packed::byte(record, 16) as usize
+    common::byte_at(record, 16) as usize
 }
 
 // How many bytes the record has.
@@ -68,7 +68,7 @@ fn long(record: &[u8]) -> usize
 fn wide_byte(record: &[u8], i: usize) -> u32
     ensures { λ r. ⌜ r < 256 ⌝ }
 {
-    packed::byte(record, i) as u32
+    common::byte_at(record, i) as u32
 }
 
 // The record's stream with `offset` zeros before it.
@@ -111,10 +111,14 @@ fn natural_right(record: &[u8], offset: u32) -> bool
     let size = moved_bytes(record, offset);
     let moves = offset as usize;
     let p = position(record) + moves;
-    match bititer::natural(packed::front(&stream, size), p, packed::number32(record, 6)) {
+    match bititer::natural(
+        packed::front(&stream, size),
+        p,
+        common::number_at(record, 6),
+    ) {
         NaturalRead::Read(n, next) => {
             answer(record) == 0
-                && n == packed::number32(record, 10)
+                && n == common::number_at(record, 10)
                 && next == next_position(record) + moves
         }
         NaturalRead::Fault(fault) => answer(record) == fault_number(fault),

@@ -4,17 +4,21 @@ use mathlib.Core.Path.{_≡_, refl, ap, ap₂, sym, subst, _∙_}
 use mathlib.Core.Bool.{Bool}
 use mathlib.Core.List.{List, [], _∷_, _++_}
 use Prim.Native.Nat.{ℕ, zero, suc, _+_, _*_, _-_, _/_, _%_, _^_, _≤_, _<_}
-use native.Mathlib.Nat.{not-suc-le-zero, zero-add, suc-add}
+use native.Mathlib.Nat.{not-suc-le-zero}
 use native.Mathlib.Omega.{arith}
 use lib.Dec.{T, leb, ltb, leb→le, ltb→lt, lit<}
+use lib.Ieee.Bits.{is-true}
 use lib.ListN.{length, getD, set, length-append, length-replicate, replicate-append-replicate, List·getD-eq-default}
 use lib.Seq.{sets, set-append-left, set-out, take-all}
 use Rattle.report.specs.Bits.{byteBits, bitsOf, numberFrom, bytesOf}
 use Rattle.scope.specs.Numbers.{same, zeros}
-use Rattle.bititer.proofs.Tests.{both, both-left, both-right, below, below-at, same-eq}
-use Rattle.bititer.proofs.Bits.{Bytes, length-bits, bit-small, byte-at, unpacking}
+use Rattle.bititer.proofs.Tests.{both, both-left, both-right, below, below-at}
+use Rattle.common.specs.Lists.{set-append-add}
+use Rattle.common.specs.Checks.{same-equal}
+use Rattle.common.specs.Bits.{length-bits}
+use Rattle.bititer.proofs.Bits.{Bytes, bit-small, byte-at, unpacking}
 use Rattle.bititer.proofs.Octets.{byte-split}
-use Rattle.cells.specs.Copying.{bitsFrom}
+use Rattle.common.specs.Cells.{bitsFrom}
 use Rattle.cells.proofs.Parts.{length-bits-from, bits-within, bits-alike}
 
 -- the unit of a byte's bit k, what stands there, and the byte with bit b there, as the code computes them
@@ -58,12 +62,8 @@ bit-set x k b hx hk hb =
       held-fits = leb→le _ _ (both-left p (both q (both r s)) t);
       unit-fits = ltb→lt _ _ (both-left q (both r s) u);
       fits = ltb→lt _ _ (both-left r s v);
-      bits = same-eq _ _ (both-right r s v);
+      bits = same-equal _ _ (is-true _ (both-right r s v));
     }
-
-set-append-add : (xs ys : List ℕ) (n a : ℕ) → set (xs ++ ys) (length xs + n) a ≡ xs ++ set ys n a
-set-append-add [] ys n a = rw zero-add
-set-append-add (x ∷ xs) ys n a = rw (suc-add (length xs) n, set-append-add xs ys n a)
 
 -- a byte with its bit k set, in its string
 set-bits : (s : List ℕ) (i k x b : ℕ) → i < length s → k < 8 → byteBits x ≡ set (byteBits (getD s i 0)) k b

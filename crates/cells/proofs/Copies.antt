@@ -11,7 +11,7 @@ use borrow.Author.Tests.{leb-true}
 use lib.Dec.{leb}
 use lib.ListN.{length, getD, set, take, drop, length-set, length-drop, List·getD-append}
 use lib.Seq.{sets, paste, length-paste, length-paste-head, length-take-le, getD-append-add, getD-take, getD-drop, getD-set-same, getD-set-other, ext-getD}
-use Rattle.cells.specs.Copying.{copyBits, bitsFrom}
+use Rattle.common.specs.Cells.{copyBits, bitsFrom, length-copied}
 use Rattle.cells.proofs.Parts.{bits-set}
 
 -- the loop that copies
@@ -56,11 +56,6 @@ copy-step l m f t n r h a q =
     ap (copyBits l f t) u ∙ copy-part l f t r (n - r) a ∙ ap (λ (k : List ℕ). copyBits k (f + r) (t + r) (n - r)) (sym q)
 
 -- which cells hold what after a copy
-pub length-copy : (l : List ℕ) (from to n : ℕ) → length (copyBits l from to n) ≡ length l
-unfolding copyBits
-length-copy l from to zero = refl
-length-copy l from to (suc n) = length-copy (set l to (getD l from 0)) (suc from) (suc to) n ∙ length-set l to (getD l from 0)
-
 -- a cell that is no target of the copy is as it was
 pub copy-outside : (l : List ℕ) (from to n j : ℕ) → (j < to) ⊎ (to + n ≤ j) → getD (copyBits l from to n) j 0 ≡ getD l j 0
 unfolding copyBits
@@ -117,8 +112,8 @@ pub copy-apart : (l : List ℕ) (from to n : ℕ) → (to ≤ from) ⊎ (from + 
     → copyBits l from to n ≡ paste l to (drop from l) n
 copy-apart l from to n a hf ht =
     ext-getD 0 (copyBits l from to n) (paste l to (drop from l) n)
-    (length-copy l from to n ∙ sym (length-paste l to (drop from l) n ht (omega (arith, length-drop from l))))
-    (λ j k. cell j (omega (arith, length-copy l from to n)))
+    (length-copied l from to n ∙ sym (length-paste l to (drop from l) n ht (omega (arith, length-drop from l))))
+    (λ j k. cell j (omega (arith, length-copied l from to n)))
   where
     within : (i : ℕ) → i < n → getD (copyBits l from to n) (to + i) 0 ≡ getD (paste l to (drop from l) n) (to + i) 0
     within i h = copy-inside l from to n i a h (omega arith) ∙ sym (pasted-within l from to n hf ht i h)

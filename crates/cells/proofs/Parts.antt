@@ -10,7 +10,7 @@ use lib.ListN.{length, getD, set, take, drop}
 use lib.Seq.{sets, drop-cons, getD-set-other}
 use Rattle.report.specs.Bits.{byteBits}
 use Rattle.scope.specs.Numbers.{zeros}
-use Rattle.cells.specs.Copying.{bitsFrom}
+use Rattle.common.specs.Cells.{bitsFrom}
 
 pub length-bits-from : (l : List ℕ) (p n : ℕ) → length (bitsFrom l p n) ≡ n
 unfolding bitsFrom

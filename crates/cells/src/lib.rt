@@ -8,7 +8,7 @@ ghost use lib.ListN.{getD, set};
 ghost use lib.Seq.{sets};
 ghost use Rattle.report.specs.Bits.{byteBits, bitsOf};
 ghost use Rattle.scope.specs.Numbers.{zeros};
-ghost use Rattle.cells.specs.Copying.{copyBits, bitsFrom};
+ghost use Rattle.common.specs.Cells.{copyBits, bitsFrom};
 
 // The byte x with its bit k, from the top, set to b.
 fn with_bit(x: u8, k: usize, b: u8) -> u8
@@ -44,24 +44,17 @@ fn put_cell(cells: &mut [u8], p: usize, b: u8)
     }
 }
 
-// The byte at i; 0 past the end.
-fn byte(cells: &[u8], i: usize) -> u8
-    ensures { λ r. ⌜ r ≡ getD (now (cells .entry)) i 0 ⌝ }
-{
-    if i < cells.len() { cells[i] } else { 0 }
-}
-
 // The eight cells from p on, as a byte.
-fn byte_at(cells: &[u8], p: usize) -> u8
+fn eight_at(cells: &[u8], p: usize) -> u8
     ensures { λ r. ⌜ byteBits r ≡ bitsFrom (bitsOf (now (cells .entry))) p 8 ⌝ }
 {
     let i = p / 8;
     let k = p % 8;
-    let first = byte(cells, i);
+    let first = common::byte_at(cells, i);
     if k == 0 {
         return first;
     }
-    (first << k) + (byte(cells, i + 1) >> (8 - k))
+    (first << k) + (common::byte_at(cells, i + 1) >> (8 - k))
 }
 
 // The byte at i set to x.
@@ -79,7 +72,7 @@ fn copy_step(cells: &mut [u8], from: usize, to: usize, n: u32) -> u32
     ensures { λ r. ⌜ (0 < r) × (r ≤ n) × (copyBits (bitsOf (now (cells .entry))) from to n ≡ copyBits (bitsOf (now (cells .exit))) (from + r) (to + r) (n - r)) ⌝ }
 {
     if 8 <= n && to % 8 == 0 && (to <= from || 8 <= to - from) {
-        let x = byte_at(cells, from);
+        let x = eight_at(cells, from);
         put_byte(cells, to / 8, x);
         return 8;
     }
@@ -107,7 +100,7 @@ fn put_step(source: &[u8], p: usize, n: u32, cells: &mut [u8], at: usize) -> u32
     ensures { λ r. ⌜ (0 < r) × (r ≤ n) × (sets (bitsOf (now (cells .entry))) at (bitsFrom (bitsOf (now (source .entry))) p n) ≡ sets (bitsOf (now (cells .exit))) (at + r) (bitsFrom (bitsOf (now (source .entry))) (p + r) (n - r))) ⌝ }
 {
     if 8 <= n && at % 8 == 0 {
-        let x = byte_at(source, p);
+        let x = eight_at(source, p);
         put_byte(cells, at / 8, x);
         return 8;
     }

@@ -14,7 +14,7 @@ const MOST: usize = 16;
 fn size(record: &[u8]) -> usize
     ensures { λ r. ⌜ r < 256 ⌝ }
 {
-    packed::byte(record, 0) as usize
+    common::byte_at(record, 0) as usize
 }
 
 // How many bytes the record has.
@@ -31,7 +31,7 @@ fn before(record: &[u8]) -> [u8; MOST]
     let mut cells = [0u8; MOST];
     let mut i: usize = 0;
     while i < MOST {
-        cells[i] = packed::byte(record, HEAD + i);
+        cells[i] = common::byte_at(record, HEAD + i);
         i += 1;
     }
     cells
@@ -39,16 +39,16 @@ fn before(record: &[u8]) -> [u8; MOST]
 
 // The step, with the cells as they were before it to put bits from, and its answer: 0 where it has none.
 fn step(record: &[u8], old: &[u8], cells: &mut [u8]) -> u8 {
-    let x = packed::number32(record, 2);
-    let y = packed::number32(record, 6);
-    match packed::byte(record, 1) {
+    let x = common::number_at(record, 2);
+    let y = common::number_at(record, 6);
+    match common::byte_at(record, 1) {
         0 => cells::read_cell(cells, x),
         1 => {
             cells::write_cell(cells, x, (y % 256) as u8);
             0
         }
         2 => {
-            cells::copy_cells(cells, x, y, packed::number32(record, 10));
+            cells::copy_cells(cells, x, y, common::number_at(record, 10));
             0
         }
         3 => {
@@ -56,7 +56,7 @@ fn step(record: &[u8], old: &[u8], cells: &mut [u8]) -> u8 {
             0
         }
         _ => {
-            cells::put_bits(old, x, packed::number32(record, 10), cells, y);
+            cells::put_bits(old, x, common::number_at(record, 10), cells, y);
             0
         }
     }
@@ -64,7 +64,7 @@ fn step(record: &[u8], old: &[u8], cells: &mut [u8]) -> u8 {
 
 // Whether the step answers and leaves what the record says.
 fn step_right(record: &[u8], old: &[u8], cells: &mut [u8]) -> bool {
-    if step(record, old, cells) != packed::byte(record, 14) {
+    if step(record, old, cells) != common::byte_at(record, 14) {
         return false;
     }
     let n = size(record);

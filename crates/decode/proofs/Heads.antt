@@ -15,8 +15,10 @@ use Rattle.report.specs.Bits.{Bit}
 use Rattle.scope.specs.Check.{Check, passed, refused}
 use Rattle.scope.specs.Numbers.{streamOf}
 use Rattle.scope.specs.Reading.{Got, got, fault, Fault, streamEnded, aJet, refusalAt, Reader, _>>=_, give, stop, here, Item, item, next, code, naturalUpTo, child, octets, combinator, wordItem, node}
-use Rattle.exactness.specs.Checks.{clash}
-use Rattle.bititer.proofs.Streams.{length-within, next-within, next-past}
+use Rattle.common.specs.Checks.{clash}
+use Rattle.common.specs.Bits.{length-within}
+use Rattle.bititer.proofs.Streams.{next-within, next-past}
+use Rattle.exactness.specs.Stream.{then-reads}
 use Rattle.decode.specs.declared.NumberRead.{NumberRead}
 use Rattle.decode.specs.declared.Follows.{Follows}
 use Rattle.decode.specs.Answers.{numberOf}
@@ -29,11 +31,7 @@ at-got {X} i (got y m) x n e =
     ap₂ got (ap (λ (c : Check (X × ℕ)). elim c [ passed p ↦ p .0 | refused r ↦ y ]) e) (ap (λ (c : Check (X × ℕ)). elim c [ passed p ↦ p .1 | refused r ↦ m ]) e)
 at-got i (fault d) x n e = clash (cc)
 
--- one reader and then another: the second goes on where the first has read, and what stops the first stops both
-pub goes-on : {X Y : Type 0} (m : Reader X) (f : X → Reader Y) (at : ℕ) (x : X) (n : ℕ) → m at ≡ got x n → (m >>= f) at ≡ f x n
-unfolding _>>=_
-goes-on {X} {Y} m f at x n e = ap (λ (g : Got X). elim g as (λ z. Got Y) [ got x n ↦ f x n | fault d ↦ fault d ]) e
-
+-- one reader and then another: what stops the first stops both
 pub stops-with : {X Y : Type 0} (m : Reader X) (f : X → Reader Y) (at : ℕ) (d : Fault) → m at ≡ fault d → (m >>= f) at ≡ fault d
 unfolding _>>=_
 stops-with {X} {Y} m f at d e = ap (λ (g : Got X). elim g as (λ z. Got Y) [ got x n ↦ f x n | fault d ↦ fault d ]) e
@@ -65,7 +63,7 @@ module _ (bits : List Bit) (i at : ℕ) where
 
   pub child-read : (d n : ℕ) → naturalUpTo bits i at ≡ got d n → passed (i - d, n) ≡ atNode i (child bits i at)
   unfolding child give atNode
-  child-read d n e = sym (ap (atNode i) (goes-on (naturalUpTo bits i) (λ d. give (i - d)) at d n e))
+  child-read d n e = sym (ap (atNode i) (then-reads (naturalUpTo bits i) (λ d. give (i - d)) at d n e))
 
   -- two children: the first refused, the second, or none
   pub first-stops : (kind : ℕ) (why : Refusal) → atNode i (child bits i at) ≡ refused why → refused why ≡ atNode i (twoChildren bits kind i at)
@@ -74,7 +72,7 @@ module _ (bits : List Bit) (i at : ℕ) where
 
   after-first : (kind a m : ℕ) → child bits i at ≡ got a m → twoChildren bits kind i at ≡ (child bits i >>= λ b. item kind a b []) m
   unfolding twoChildren
-  after-first kind a m e = goes-on (child bits i) (λ a. child bits i >>= λ b. item kind a b []) at a m e
+  after-first kind a m e = then-reads (child bits i) (λ a. child bits i >>= λ b. item kind a b []) at a m e
 
   pub second-stops : (kind a m : ℕ) (why : Refusal) → child bits i at ≡ got a m → atNode i (child bits i m) ≡ refused why → refused why ≡ atNode i (twoChildren bits kind i at)
   second-stops kind a m why e f = sym (ap (atNode i) (after-first kind a m e) ∙ stops i (child bits i) (λ b. item kind a b []) m why f)
@@ -82,12 +80,12 @@ module _ (bits : List Bit) (i at : ℕ) where
   pub both-read : (kind a m b n : ℕ) → child bits i at ≡ got a m → child bits i m ≡ got b n
       → atNode i (followed bits (record { kind = kind; first = a; second = b; third = 0 }) Follows.Nothing n) ≡ atNode i (twoChildren bits kind i at)
   unfolding followed bytesAfter _>>=_ give item
-  both-read kind a m b n e f = ap (atNode i) (sym (after-first kind a m e ∙ goes-on (child bits i) (λ b. item kind a b []) m b n f))
+  both-read kind a m b n e f = ap (atNode i) (sym (after-first kind a m e ∙ then-reads (child bits i) (λ b. item kind a b []) m b n f))
 
   -- one child, refused or read
   pub one-head : (kind : ℕ) (r : NumberRead) → numberOf r ≡ atNode i (child bits i at) → headOf bits i (withOne kind r) ≡ atNode i (oneChild bits kind i at)
   unfolding oneChild followed bytesAfter _>>=_ give item
-  one-head kind (NumberRead.Number a n) e = ap (atNode i) (sym (goes-on (child bits i) (λ a. item kind a 0 []) at a n (at-got i (child bits i at) a n (sym e))))
+  one-head kind (NumberRead.Number a n) e = ap (atNode i) (sym (then-reads (child bits i) (λ a. item kind a 0 []) at a n (at-got i (child bits i at) a n (sym e))))
   one-head kind (NumberRead.Refused why) e = sym (stops i (child bits i) (λ a. item kind a 0 []) at why (sym e))
 
   -- the third group by its code
@@ -116,13 +114,13 @@ module _ (bits : List Bit) (i at : ℕ) where
       → followed bits (record { kind = 12; first = 0; second = 0; third = 0 }) Follows.Nothing n ≡ last bits held at
   unfolding last followed bytesAfter item give _>>=_
   last-witness held sub n e h =
-      sym (goes-on (code bits 1) (λ sub. byLastBit held (eqb sub 1)) at sub n e ∙ ap (λ (b : Bool). byLastBit held b n) (eq-eqb sub 1 h))
+      sym (then-reads (code bits 1) (λ sub. byLastBit held (eqb sub 1)) at sub n e ∙ ap (λ (b : Bool). byLastBit held b n) (eq-eqb sub 1 h))
 
   pub last-hidden : (held sub n : ℕ) → code bits 1 at ≡ got sub n → (sub ≡ 1 → ⊥)
       → followed bits (record { kind = 13; first = held; second = 0; third = 0 }) Follows.Hash n ≡ last bits held at
   unfolding last followed bytesAfter item
   last-hidden held sub n e h =
-      sym (goes-on (code bits 1) (λ sub. byLastBit held (eqb sub 1)) at sub n e ∙ ap (λ (b : Bool). byLastBit held b n) (ne-eqb sub 1 h))
+      sym (then-reads (code bits 1) (λ sub. byLastBit held (eqb sub 1)) at sub n e ∙ ap (λ (b : Bool). byLastBit held b n) (ne-eqb sub 1 h))
 
   -- a combinator by its code
   pub combinator-last : (held two : ℕ) → 3 ≤ two → combinator bits i held two at ≡ last bits held at
@@ -142,17 +140,17 @@ module _ (bits : List Bit) (i at : ℕ) where
   pub combinator-two : (held two sub n : ℕ) → two ≡ 0 → code bits 2 at ≡ got sub n → combinator bits i held two at ≡ twoChildren bits (0 + sub) i n
   unfolding combinator twoChildren
   combinator-two held two sub n h e =
-      ap (λ (k : ℕ). combinator bits i held k at) h ∙ goes-on (code bits 2) (λ sub. twoChildren bits sub i) at sub n e ∙ ap (λ (k : ℕ). twoChildren bits k i n) (sym (zero-add sub))
+      ap (λ (k : ℕ). combinator bits i held k at) h ∙ then-reads (code bits 2) (λ sub. twoChildren bits sub i) at sub n e ∙ ap (λ (k : ℕ). twoChildren bits k i n) (sym (zero-add sub))
 
   pub combinator-one : (held two sub n : ℕ) → two ≡ 1 → code bits 2 at ≡ got sub n → combinator bits i held two at ≡ oneChild bits (4 + sub) i n
   unfolding combinator oneChild
   combinator-one held two sub n h e =
-      ap (λ (k : ℕ). combinator bits i held k at) h ∙ goes-on (code bits 2) (λ sub. oneChild bits (4 + sub) i) at sub n e
+      ap (λ (k : ℕ). combinator bits i held k at) h ∙ then-reads (code bits 2) (λ sub. oneChild bits (4 + sub) i) at sub n e
 
   pub combinator-third : (held two sub n : ℕ) → two ≡ 2 → code bits 2 at ≡ got sub n → combinator bits i held two at ≡ third bits i held sub n
   unfolding combinator third oneChild
   combinator-third held two sub n h e =
-      ap (λ (k : ℕ). combinator bits i held k at) h ∙ goes-on (code bits 2) (λ sub. third bits i held sub) at sub n e
+      ap (λ (k : ℕ). combinator bits i held k at) h ∙ then-reads (code bits 2) (λ sub. third bits i held sub) at sub n e
 
   -- a word: its natural refused, or read
   pub word-stops : (why : Refusal) → atNode i (naturalUpTo bits wordMost at) ≡ refused why → refused why ≡ atNode i (wordItem bits at)
@@ -161,7 +159,7 @@ module _ (bits : List Bit) (i at : ℕ) where
 
   pub word-read : (n first : ℕ) → naturalUpTo bits wordMost at ≡ got n first → wordItem bits at ≡ wordFrom bits n first
   unfolding wordItem wordFrom here _>>=_
-  word-read n first e = goes-on (naturalUpTo bits wordMost) (λ n. here >>= λ first. next bits (2 ^ (n - 1)) >>= λ bs. item 14 n first []) at n first e
+  word-read n first e = then-reads (naturalUpTo bits wordMost) (λ n. here >>= λ first. next bits (2 ^ (n - 1)) >>= λ bs. item 14 n first []) at n first e
 
   -- a node by its first bits
   pub node-ended : (held : ℕ) → code bits 1 at ≡ fault streamEnded → node bits i held at ≡ fault streamEnded
@@ -177,20 +175,20 @@ module _ (bits : List Bit) (i at : ℕ) where
 
   first-bit : (held b n : ℕ) (t : Bool) → code bits 1 at ≡ got b n → eqb b 0 ≡ t → node bits i held at ≡ byFirstBit held t n
   unfolding node
-  first-bit held b n t e h = goes-on (code bits 1) (λ other. byFirstBit held (eqb other 0)) at b n e ∙ ap (λ (t : Bool). byFirstBit held t n) h
+  first-bit held b n t e h = then-reads (code bits 1) (λ other. byFirstBit held (eqb other 0)) at b n e ∙ ap (λ (t : Bool). byFirstBit held t n) h
 
   pub code-ended : (held b n : ℕ) → code bits 1 at ≡ got b n → b ≡ 0 → code bits 2 n ≡ fault streamEnded → node bits i held at ≡ fault streamEnded
   code-ended held b n e h f = first-bit held b n true e (eq-eqb b 0 h) ∙ stops-with (code bits 2) (λ two. combinator bits i held two) n streamEnded f
 
   pub code-read : (held b n two m : ℕ) → code bits 1 at ≡ got b n → b ≡ 0 → code bits 2 n ≡ got two m → node bits i held at ≡ combinator bits i held two m
-  code-read held b n two m e h f = first-bit held b n true e (eq-eqb b 0 h) ∙ goes-on (code bits 2) (λ two. combinator bits i held two) n two m f
+  code-read held b n two m e h f = first-bit held b n true e (eq-eqb b 0 h) ∙ then-reads (code bits 2) (λ two. combinator bits i held two) n two m f
 
   pub jet-ended : (held b n : ℕ) → code bits 1 at ≡ got b n → (b ≡ 0 → ⊥) → code bits 1 n ≡ fault streamEnded → node bits i held at ≡ fault streamEnded
   jet-ended held b n e h f = first-bit held b n false e (ne-eqb b 0 h) ∙ stops-with (code bits 1) (λ jet. byJetBit (eqb jet 1)) n streamEnded f
 
   second-bit : (held b n jet m : ℕ) (t : Bool) → code bits 1 at ≡ got b n → (b ≡ 0 → ⊥) → code bits 1 n ≡ got jet m → eqb jet 1 ≡ t → node bits i held at ≡ byJetBit t m
   second-bit held b n jet m t e h f k =
-      first-bit held b n false e (ne-eqb b 0 h) ∙ goes-on (code bits 1) (λ jet. byJetBit (eqb jet 1)) n jet m f ∙ ap (λ (t : Bool). byJetBit t m) k
+      first-bit held b n false e (ne-eqb b 0 h) ∙ then-reads (code bits 1) (λ jet. byJetBit (eqb jet 1)) n jet m f ∙ ap (λ (t : Bool). byJetBit t m) k
 
   pub jet-read : (held b n jet m : ℕ) → code bits 1 at ≡ got b n → (b ≡ 0 → ⊥) → code bits 1 n ≡ got jet m → jet ≡ 1 → refused (Jet i) ≡ atNode i (node bits i held at)
   unfolding stop atNode refusalAt
@@ -212,5 +210,5 @@ module _ (program : List ℕ) (i n first : ℕ) (within : length program ≤ dos
       ≡ atNode i (wordFrom (streamOf program) n first)
   unfolding wordFrom followed bytesAfter item give _>>=_
   word-whole h =
-      ap (atNode i) (sym (goes-on (next (streamOf program) (2 ^ (n - 1))) (λ bs. item 14 n first []) first _ (first + 2 ^ (n - 1))
+      ap (atNode i) (sym (then-reads (next (streamOf program) (2 ^ (n - 1))) (λ bs. item 14 n first []) first _ (first + 2 ^ (n - 1))
       (next-within (streamOf program) (2 ^ (n - 1)) first (omega (arith, length-within program within)))))

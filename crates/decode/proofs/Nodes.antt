@@ -14,20 +14,21 @@ use Rattle.report.specs.Bits.{Bit}
 use Rattle.scope.specs.Check.{refused}
 use Rattle.scope.specs.Nodes.{NodeRecord}
 use Rattle.scope.specs.Reading.{Got, got, fault, Fault, hashesShort, refusalAt, Reader, give, stop, Item, node, nodeIn}
-use Rattle.exactness.specs.Checks.{clash}
+use Rattle.common.specs.Checks.{clash}
 use Rattle.bititer.specs.Answers.{Stored, stored, placed, storing, bytesFault, gotBytes}
 use Rattle.bititer.specs.declared.BytesFault.{BytesFault}
 use Rattle.bititer.specs.declared.BytesRead.{BytesRead}
 use Rattle.bititer.proofs.Streams.{octets-got}
-use Rattle.bititer.proofs.Octets.{length-bytes}
+use Rattle.common.specs.Bits.{length-bytes}
 use Rattle.table.specs.Answers.{recordOf}
+use Rattle.exactness.specs.Stream.{then-reads}
 use Rattle.decode.specs.declared.Follows.{Follows}
 use Rattle.decode.specs.declared.NodeHead.{NodeHead}
 use Rattle.decode.specs.declared.HeadRead.{HeadRead}
 use Rattle.decode.specs.Answers.{sizeOf}
 use Rattle.decode.specs.Heads.{atNode, bytesAfter, followed}
 use Rattle.decode.specs.Stores.{NodeMeans}
-use Rattle.decode.proofs.Heads.{at-got, goes-on, stops-with, stops}
+use Rattle.decode.proofs.Heads.{at-got, stops-with, stops}
 
 -- no bytes to store leave the store as it is
 pub store-nothing : (bits : List Bit) (at : ℕ) (store : List ℕ) (held : ℕ) → held ≤ length store
@@ -80,7 +81,7 @@ module _ (bits : List Bit) (i held at : ℕ) (store : List ℕ) where
       → nodeIn bits (length store) i held at ≡ elim t [ true ↦ got x n | false ↦ fault hashesShort ]
   unfolding nodeIn give stop
   room-test x n t e h =
-      goes-on (node bits i held) (fits (length store) held) at x n e
+      then-reads (node bits i held) (fits (length store) held) at x n e
       ∙ ap (λ (b : Bool). (elim b as (λ z. Reader Item) [ true ↦ give x | false ↦ stop hashesShort ]) n) h ∙ go t
     where
       go : (t : Bool) → (elim t as (λ z. Reader Item) [ true ↦ give x | false ↦ stop hashesShort ]) n ≡ elim t [ true ↦ got x n | false ↦ fault hashesShort ]
@@ -92,7 +93,7 @@ module _ (bits : List Bit) (i held at : ℕ) (store : List ℕ) where
     unfolding followed give atNode
     node-read bytes n e =
         at-got i (node bits i held at) (record { node = r; stored = bytes }) n
-        (sym head ∙ ap (atNode i) (goes-on (bytesAfter bits follows) (λ bytes. give (record { node = r; stored = bytes })) middle bytes n e))
+        (sym head ∙ ap (atNode i) (then-reads (bytesAfter bits follows) (λ bytes. give (record { node = r; stored = bytes })) middle bytes n e))
 
     -- the bytes were stored
     pub bytes-in : (next : ℕ) (left : List ℕ) → stored (got tt next) left ≡ storing (bytesAfter bits follows middle) store held

@@ -1,14 +1,10 @@
 -- What each public call promises has one outcome: over the call's own promise, `Post`, two answers and two stores that are left are the same.
 use mathlib.Core.Path.{_≡_, sym, ap, _∙_}
 use Rattle.promise.specs.Outcomes.{OneOutcome, _&_}
-use Rattle.exactness.specs.Checks.{clash}
+use Rattle.common.specs.Checks.{clash}
 use Rattle.decode.specs.declared.Decoded.{Decoded}
 use Rattle.decode.specs.Answers.{saidOf}
 use Rattle.decode.specs.Stores.{Left}
-use Rattle.decode.proofs.clear_bytes.Kinds as clear-bytes-kinds
-use Rattle.decode.proofs.clear_bytes.Reads as clear-bytes-reads
-use Rattle.decode.proofs.clear_numbers.Kinds as clear-numbers-kinds
-use Rattle.decode.proofs.clear_numbers.Reads as clear-numbers-reads
 use Rattle.decode.proofs.decode.Kinds as decode-kinds
 use Rattle.decode.proofs.decode.Reads as decode-reads
 
@@ -25,10 +21,3 @@ decode κs a s t v w p q =
     let nodes = ap (λ (l : Left). l .nodes) e in
     let hashes = ap (λ (l : Left). l .hashes) e in
     (answer-tells s t (ap (λ (l : Left). l .says) e), λ i. tt & nodes i & hashes i & tt)
-
--- clearing a store, of numbers or of bytes
-pub clear-numbers : OneOutcome 1 clear-numbers-kinds.ps clear-numbers-kinds.r clear-numbers-reads.Post
-clear-numbers κs a s t v w p q = let e = p ∙ sym q in (λ i. tt, λ i. e i & tt & tt)
-
-pub clear-bytes : OneOutcome 1 clear-bytes-kinds.ps clear-bytes-kinds.r clear-bytes-reads.Post
-clear-bytes κs a s t v w p q = let e = p ∙ sym q in (λ i. tt, λ i. e i & tt & tt)

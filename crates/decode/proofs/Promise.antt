@@ -11,12 +11,12 @@ use Rattle.scope.specs.Numbers.{zeros, filled}
 use Rattle.scope.specs.Nodes.{nodeRecords, nodeNumbersOf}
 use Rattle.scope.specs.Reading.{Table}
 use Rattle.scope.specs.Closing.{decode, nodesLeft, hashesLeft}
-use Rattle.exactness.specs.Checks.{clash}
+use Rattle.common.specs.Checks.{clash}
 use Rattle.decode.specs.declared.Sizes.{Sizes}
 use Rattle.decode.specs.declared.Decoded.{Decoded}
 use Rattle.decode.specs.Answers.{saidOf}
 use Rattle.decode.specs.Stores.{sizesWith, Left, left, tableSizes, leftBy}
-use Rattle.decode.proofs.Records.{records-back, length-numbers}
+use Rattle.common.specs.Nodes.{records-back, length-numbers}
 
 -- the front of a filled store is what it was filled with
 filled-front : (numbers store : List ℕ) (n : ℕ) → length numbers ≡ n → take n (filled numbers store) ≡ numbers

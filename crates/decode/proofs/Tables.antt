@@ -18,15 +18,15 @@ use Rattle.scope.specs.Nodes.{NodeRecord, nodeRecords, nodeNumbersOf, nodesOf}
 use Rattle.scope.specs.Reading.{Got, got, fault, refusalAt, Item, naturalUpTo, nodeIn, Table, nodesFrom, readNodes}
 use Rattle.scope.specs.Walk.{checkWalk}
 use Rattle.scope.specs.Closing.{closes, decode, nodesLeft, hashesLeft}
-use Rattle.exactness.specs.Checks.{clash}
+use Rattle.common.specs.Checks.{clash, counted-fine, then-then, then-refuses, then-passes}
 use Rattle.bititer.specs.Answers.{placed}
 use Rattle.bititer.proofs.Naturals.{up-to-got}
-use Rattle.table.specs.Answers.{recordOf, checkOf}
+use Rattle.common.specs.Answers.{checkOf}
+use Rattle.table.specs.Answers.{recordOf}
 use Rattle.table.specs.Stage.{countedWalk}
-use Rattle.table.specs.declared.Checked.{Checked}
-use Rattle.table.proofs.Records.{length-records, count-fine}
-use Rattle.table.proofs.Steps.{then-then}
-use Rattle.table.proofs.Stages.{first-refused, first-passed, walk-then}
+use Rattle.common.specs.declared.Checked.{Checked}
+use Rattle.common.specs.Nodes.{length-records, numbers-back}
+use Rattle.table.proofs.Stages.{walk-then}
 use Rattle.table.proofs.AnyBits.{walk-any-bits}
 use Rattle.decode.specs.declared.NodeHead.{NodeHead}
 use Rattle.decode.specs.declared.HeadRead.{HeadRead}
@@ -37,8 +37,9 @@ use Rattle.decode.specs.declared.Decoded.{Decoded}
 use Rattle.decode.specs.Answers.{sizeOf, saidOf}
 use Rattle.decode.specs.declared.NumberRead.{NumberRead}
 use Rattle.decode.specs.Heads.{atNode, countIn, begunOf}
-use Rattle.decode.specs.Stores.{recordPut, NodeMeans, Room, tableIn, tableOf, more, StepMeans, readAll, judging, ReadMeans, JudgedMeans, DecodedMeans, settledOf, stoppedOf, sizesOf, cleared, left, tableSizes, leftBy}
-use Rattle.decode.proofs.Records.{numbers-back, put-records}
+use Rattle.common.specs.Stores.{cleared, all-cleared}
+use Rattle.decode.specs.Stores.{recordPut, NodeMeans, Room, tableIn, tableOf, more, StepMeans, readAll, judging, ReadMeans, JudgedMeans, DecodedMeans, settledOf, stoppedOf, sizesOf, left, tableSizes, leftBy}
+use Rattle.decode.proofs.Records.{put-records}
 
 -- the front of a store after bytes were put behind it
 front-bytes : (store bytes : List ℕ) (at n : ℕ) → n ≡ at + length bytes → n ≤ length store → take n (placed store at bytes) ≡ take at store ++ bytes
@@ -221,10 +222,10 @@ module _ (program : List ℕ) (room bytes : ℕ) where
   decode-by = sym (then-then (require (leb (length program) dossierBytes) (Header 0)) (λ fits. readNodes (streamOf program) room bytes) (judging program))
 
   pub decode-stops : (why : Refusal) → readAll program room bytes ≡ refused why → decode program room bytes ≡ refused why
-  decode-stops why e = decode-by ∙ first-refused (readAll program room bytes) (judging program) why e
+  decode-stops why e = decode-by ∙ then-refuses (readAll program room bytes) (judging program) why e
 
   pub decode-judges : (t : Table) → readAll program room bytes ≡ passed t → decode program room bytes ≡ judging program t
-  decode-judges t e = decode-by ∙ first-passed (readAll program room bytes) (judging program) t e
+  decode-judges t e = decode-by ∙ then-passes (readAll program room bytes) (judging program) t e
 
 -- a refusal of the count, of the walk and of the reading, as the stage after it hands it on
 pub begun-means : (wanted : Check Table) (r : Progressed) (count : NumberRead) (why : Refusal) (nodes hashes : List ℕ) → r ≡ begunOf count → count ≡ NumberRead.Refused why
@@ -256,7 +257,7 @@ module _ (program nodes hashes : List ℕ) (n at : ℕ) (whole : length nodes �
 
   walk-is : countedWalk hashes nodes ≡ checkWalk (nodesOf (streamOf program) hashes (nodeRecords nodes))
   walk-is =
-      walk-then hashes nodes (sym (count-fine (length (nodeRecords nodes)) nodeCount (omega (arith, count-is)) (omega (arith, count-is))))
+      walk-then hashes nodes (counted-fine (length (nodeRecords nodes)) nodeCount (omega (arith, count-is)) (omega (arith, count-is)))
       ∙ sym (walk-any-bits (streamOf program) hashes (nodeRecords nodes))
 
   abbrev closing : Unit {0} → Check Table
@@ -264,11 +265,11 @@ module _ (program nodes hashes : List ℕ) (n at : ℕ) (whole : length nodes �
 
   pub walk-refuses : (c : Checked) (why : Refusal) → checkOf c ≡ countedWalk hashes nodes → c ≡ Checked.Refused why → judging program table ≡ refused why
   unfolding judging
-  walk-refuses c why e told = first-refused (checkWalk (nodesOf (streamOf program) hashes (nodeRecords nodes))) closing why (sym walk-is ∙ sym e ∙ ap checkOf told)
+  walk-refuses c why e told = then-refuses (checkWalk (nodesOf (streamOf program) hashes (nodeRecords nodes))) closing why (sym walk-is ∙ sym e ∙ ap checkOf told)
 
   after-walk : (c : Checked) → checkOf c ≡ countedWalk hashes nodes → c ≡ Checked.Passed → judging program table ≡ closing tt
   unfolding judging
-  after-walk c e told = first-passed (checkWalk (nodesOf (streamOf program) hashes (nodeRecords nodes))) closing tt (sym walk-is ∙ sym e ∙ ap checkOf told)
+  after-walk c e told = then-passes (checkWalk (nodesOf (streamOf program) hashes (nodeRecords nodes))) closing tt (sym walk-is ∙ sym e ∙ ap checkOf told)
 
   -- the closing as it is told of n nodes
   closing-is : (c : Checked) → checkOf c ≡ require (closes (streamOf program) at) (Closing n) → require (closes (streamOf program) at) (Closing (length (nodeRecords nodes))) ≡ checkOf c
@@ -278,13 +279,13 @@ module _ (program nodes hashes : List ℕ) (n at : ℕ) (whole : length nodes �
       → checkOf d ≡ require (closes (streamOf program) at) (Closing n) → d ≡ Checked.Refused why → judging program table ≡ refused why
   closing-refuses c d why e told f stop =
       after-walk c e told
-      ∙ first-refused (require (closes (streamOf program) at) (Closing (length (nodeRecords nodes)))) (λ closed. passed table) why (closing-is d f ∙ ap checkOf stop)
+      ∙ then-refuses (require (closes (streamOf program) at) (Closing (length (nodeRecords nodes)))) (λ closed. passed table) why (closing-is d f ∙ ap checkOf stop)
 
   pub all-passed : (c d : Checked) → checkOf c ≡ countedWalk hashes nodes → c ≡ Checked.Passed
       → checkOf d ≡ require (closes (streamOf program) at) (Closing n) → d ≡ Checked.Passed → judging program table ≡ passed table
   all-passed c d e told f fine =
       after-walk c e told
-      ∙ first-passed (require (closes (streamOf program) at) (Closing (length (nodeRecords nodes)))) (λ closed. passed table) tt (closing-is d f ∙ ap checkOf fine)
+      ∙ then-passes (require (closes (streamOf program) at) (Closing (length (nodeRecords nodes)))) (λ closed. passed table) tt (closing-is d f ∙ ap checkOf fine)
 
 -- what walk and closing say of the table in the stores is what decoding says
 pub judged-means : (program : List ℕ) (room bytes : ℕ) (nodes hashes : List ℕ) (done : Progress) (r : Decoded)
@@ -316,7 +317,7 @@ cleared-filled store store₀ n numbers h l e =
     ap₂ (λ (x : List ℕ) (y : ℕ). x ++ zeros y) (sym e) (let z : length store - n ≡ length store₀ - length numbers = omega arith in z)
 
 cleared-whole : (store store₀ : List ℕ) → length store ≡ length store₀ → cleared store 0 ≡ zeros (length store₀)
-cleared-whole store store₀ l = ap zeros (let z : length store - 0 ≡ length store₀ = omega arith in z)
+cleared-whole store store₀ l = all-cleared store ∙ ap zeros l
 
 pub decode-leaves : (wanted : Check Table) (r : Decoded) (nodes hashes nodes₀ hashes₀ : List ℕ) → DecodedMeans wanted r nodes hashes
     → length nodes ≡ length nodes₀ → length hashes ≡ length hashes₀

@@ -1,22 +1,22 @@
 -- What reading, walk and closing leave in the lent stores, beside what they say.
 -- While nodes are read the stores' filled fronts are the records and bytes that the requirements' reader has gathered.
 use mathlib.Core.Path.{_≡_}
-use mathlib.Core.List.{List, _++_}
-use Prim.Native.Nat.{ℕ, suc, _+_, _*_, _-_, _<_, _≤_}
+use mathlib.Core.List.{List}
+use Prim.Native.Nat.{ℕ, suc, _+_, _*_, _<_, _≤_}
 use lib.Dec.{leb}
 use lib.ListN.{length, take, set}
 use Rattle.limits.specs.Limits.{dossierBytes, nodeCount, nodeNumbers, failBytes}
 use Rattle.refusal.specs.declared.Refusal.the-variants.{Header, Closing}
 use Rattle.report.specs.Bits.{Bit}
 use Rattle.scope.specs.Check.{Check, passed, refused, _>>=_, require}
-use Rattle.scope.specs.Numbers.{zeros, streamOf}
+use Rattle.scope.specs.Numbers.{streamOf}
 use Rattle.scope.specs.Nodes.{NodeRecord, nodeRecords, nodesOf}
 use Rattle.scope.specs.Reading.{got, nodeIn, Table, nodesFrom, readNodes}
 use Rattle.scope.specs.Walk.{checkWalk}
 use Rattle.scope.specs.Closing.{closes, nodesLeft, hashesLeft}
 use Rattle.bititer.specs.Answers.{placed}
 use Rattle.table.specs.Answers.{recordOf}
-use Rattle.table.specs.declared.Checked.{Checked}
+use Rattle.common.specs.declared.Checked.{Checked}
 use Rattle.decode.specs.declared.HeadRead.{HeadRead}
 use Rattle.decode.specs.declared.Progress.{Progress}
 use Rattle.decode.specs.declared.Progressed.{Progressed}
@@ -121,10 +121,6 @@ DecodedMeans wanted (Decoded.Refused why) nodes hashes = wanted ≡ refused why
 abbrev pub sizesOf : Decoded → Sizes
 sizesOf (Decoded.Table sizes) = sizes
 sizesOf (Decoded.Refused why) = sizesWith 0 0
-
--- a store with zeros from an index on
-abbrev pub cleared : (store : List ℕ) → (from : ℕ) → List ℕ
-cleared store from = take from store ++ zeros (length store - from)
 
 -- what decoding says, and the two stores as it leaves them
 pub record Left : Type 0 where

@@ -7,24 +7,25 @@ use bititer::BytesRead;
 use bititer::CodeRead;
 use bititer::NaturalFault;
 use bititer::NaturalRead;
+use common::Checked;
 use refusal::Refusal;
-use table::Checked;
 use table::NodeRecord;
 ghost use mathlib.Core.Path.{_≡_};
 ghost use mathlib.Core.List.{[]};
-ghost use Prim.Native.Nat.{_+_, _*_, _-_, _/_, _^_, _<_, _≤_};
+ghost use Prim.Native.Nat.{_+_, _*_, _-_, _/_, _<_, _≤_};
 ghost use lib.ListN.{length};
-ghost use Rattle.limits.specs.Limits.{dossierBytes, nodeCount, nodeNumbers, wordMost, failBytes};
+ghost use Rattle.limits.specs.Limits.{dossierBytes, nodeCount, nodeNumbers, wordMost};
 ghost use Rattle.refusal.specs.declared.Refusal.the-variants.{Closing};
 ghost use Rattle.scope.specs.Check.{require};
 ghost use Rattle.scope.specs.Numbers.{streamOf};
 ghost use Rattle.scope.specs.Reading.{refusalAt, naturalUpTo, child, combinator as combinatorAt, wordItem, node as nodeAt, nodesFrom};
 ghost use Rattle.scope.specs.Closing.{closes, decode as decodeAll};
 ghost use Rattle.bititer.specs.Answers.{naturalFault, bytesFault, gotBytes, stored, storing};
-ghost use Rattle.table.specs.Answers.{recordOf, checkOf};
+ghost use Rattle.common.specs.Answers.{checkOf};
+ghost use Rattle.table.specs.Answers.{recordOf};
 ghost use Rattle.decode.specs.Answers.{numberOf, sizeOf, saidOf};
 ghost use Rattle.decode.specs.Heads.{atNode, bytesAfter, withOne, twoChildren, plain, third, last, wordFrom, headOf, countIn, begunOf};
-ghost use Rattle.decode.specs.Stores.{recordPut, NodeMeans, Room, StepMeans, ReadMeans, readAll, settledOf, stoppedOf, tableOf, JudgedMeans, DecodedMeans, sizesWith, sizesOf, cleared, left, leftBy};
+ghost use Rattle.decode.specs.Stores.{recordPut, NodeMeans, Room, StepMeans, ReadMeans, readAll, settledOf, stoppedOf, tableOf, JudgedMeans, DecodedMeans, sizesWith, sizesOf, left, leftBy};
 
 // How many records and how many bytes of hashes were decoded.
 pub struct Sizes {
@@ -74,13 +75,6 @@ struct Progress {
 enum Progressed {
     Read(Progress),
     Refused(Refusal),
-}
-
-// A number, as an index.
-fn wide(x: u32) -> usize
-    ensures { λ r. ⌜ (r ≡ x) × (r < 2 ^ 32) ⌝ }
-{
-    x as usize
 }
 
 // Why a natural of node i is refused.
@@ -211,20 +205,12 @@ fn combinator(program: &[u8], i: u32, held: u32, code: u8, at: usize) -> HeadRea
     third_group(program, i, held, sub, next)
 }
 
-// How many bits a word of n has.
-fn word_bits(n: u32) -> usize
-    requires { ⌜ (1 ≤ n) × (n ≤ wordMost) ⌝ }
-    ensures { λ r. ⌜ (r ≡ 2 ^ (n - 1)) × (r < 2 ^ wordMost) ⌝ }
-{
-    1 << (n - 1)
-}
-
 // A word of n whose bits begin at a position.
 fn word_from(program: &[u8], i: u32, n: u32, first: usize) -> HeadRead
     requires { ⌜ (1 ≤ n) × (n ≤ wordMost) × (first ≤ 8 * dossierBytes) × (length (now program) ≤ dossierBytes) ⌝ }
     ensures { λ r. ⌜ headOf (streamOf (now (program .entry))) i r ≡ atNode i (wordFrom (streamOf (now (program .entry))) n first) ⌝ }
 {
-    let end = first + word_bits(n);
+    let end = first + common::word_bits(n);
     if program.len() < (end + 7) / 8 {
         return HeadRead::Refused(Refusal::StreamEnded(i));
     }
@@ -303,7 +289,7 @@ fn read_node(program: &[u8], hashes: &mut [u8], i: u32, held: u32, at: usize) ->
         return read;
     };
     let follows = h.follows;
-    let bytes = store_bytes(program, follows, middle, hashes, wide(held));
+    let bytes = store_bytes(program, follows, middle, hashes, common::place(held));
     match bytes {
         BytesRead::Read(next) => HeadRead::Read(h, next),
         BytesRead::Fault(why) => HeadRead::Refused(bytes_refusal(why, i)),
@@ -315,7 +301,7 @@ fn put_record(nodes: &mut [u32], i: u32, r: NodeRecord)
     requires { ⌜ nodeNumbers * i + nodeNumbers ≤ length (now nodes) ⌝ }
     ensures { λ _. ⌜ now (nodes .exit) ≡ recordPut (now (nodes .entry)) i (recordOf r) ⌝ }
 {
-    let at = limits::NODE_NUMBERS * wide(i);
+    let at = limits::NODE_NUMBERS * common::place(i);
     nodes[at] = r.kind;
     nodes[at + 1] = r.first;
     nodes[at + 2] = r.second;
@@ -378,7 +364,7 @@ fn read_count(program: &[u8], room: usize) -> NumberRead
     let NumberRead::Number(n, next) = count else {
         return count;
     };
-    if room < wide(n) {
+    if room < common::place(n) {
         return NumberRead::Refused(Refusal::StoreShort(3));
     }
     NumberRead::Number(n, next)
@@ -476,8 +462,8 @@ fn checked_table(program: &[u8], nodes: &mut [u32], hashes: &mut [u8]) -> Decode
     };
     judged(
         program,
-        &nodes[..limits::NODE_NUMBERS * wide(done.nodes)],
-        &hashes[..wide(done.hashes)],
+        &nodes[..limits::NODE_NUMBERS * common::place(done.nodes)],
+        &hashes[..common::place(done.hashes)],
         done,
     )
 }
@@ -492,28 +478,6 @@ fn sizes_of(answer: Decoded) -> Sizes
     }
 }
 
-// Zeros in a store of numbers, from an index on.
-pub fn clear_numbers(store: &mut [u32], from: usize)
-    ensures { λ _. ⌜ now (store .exit) ≡ cleared (now (store .entry)) from ⌝ }
-{
-    let mut j = from;
-    while j < store.len() {
-        store[j] = 0;
-        j += 1;
-    }
-}
-
-// Zeros in a store of bytes, from an index on.
-pub fn clear_bytes(store: &mut [u8], from: usize)
-    ensures { λ _. ⌜ now (store .exit) ≡ cleared (now (store .entry)) from ⌝ }
-{
-    let mut j = from;
-    while j < store.len() {
-        store[j] = 0;
-        j += 1;
-    }
-}
-
 // A program's bytes into the lent stores.
 pub fn decode(program: &[u8], nodes: &mut [u32], hashes: &mut [u8]) -> Decoded
     ensures { λ r. ⌜ left (saidOf r) (now (nodes .exit)) (now (hashes .exit))
@@ -521,7 +485,7 @@ pub fn decode(program: &[u8], nodes: &mut [u32], hashes: &mut [u8]) -> Decoded
 {
     let answer = checked_table(program, nodes, hashes);
     let kept = sizes_of(answer);
-    clear_numbers(nodes, limits::NODE_NUMBERS * wide(kept.nodes));
-    clear_bytes(hashes, wide(kept.hashes));
+    common::clear_numbers(nodes, limits::NODE_NUMBERS * common::place(kept.nodes));
+    common::clear_bytes(hashes, common::place(kept.hashes));
     answer
 }

@@ -28,18 +28,18 @@ use Rattle.scope.specs.Closing.{decode}
 use Rattle.scope.specs.Arrows.{arrowRecords}
 use Rattle.scope.specs.Run.{Tables, checkTables, tablesOf, Left, leftWith, runTables}
 use Rattle.scope.specs.Stages.{counted, noRecord, recordRule, checkRecords, lentTables, lent, hashStage, runStage}
-use Rattle.exactness.specs.Checks.{every-all, all-every, holds-require, then-passes, holds-each}
+use Rattle.common.specs.Checks.{every-all, all-every, holds-require, then-passes, holds-each}
 use Rattle.exactness.specs.Nodes.{recordsFrom, hashesOf, layout}
 use Rattle.exactness.specs.Stream.{Stands, stands-split}
 use Rattle.exactness.specs.Programs.{IsProgram}
 use Rattle.exactness.specs.Canonical.{canonical-walk}
 use Rattle.exactness.specs.Decoding.{decoded-is-program, decoded-nodes, program-table}
 use Rattle.theory.specs.Job.{decoded}
-use Rattle.theory.specs.LentTables.{length-stream}
+use Rattle.common.specs.Bits.{length-within}
 use Rattle.header.specs.Answer.{headerAnswer}
 use Rattle.header.specs.declared.HeaderAnswer.the-variants.{Passed}
 use Rattle.header.proofs.Rules.{passes-all, section-end}
-use Rattle.types.proofs.Tables.{length-tabulate}
+use Rattle.common.specs.Tables.{length-tabulate}
 use Rattle.dossier.proofs.Records.{records-kept, records-numbers}
 
 -- a table with a record, and not too many
@@ -86,7 +86,7 @@ module _ (program : List ℕ) (records bytes : ℕ) (t : Table) (read : decode p
       let ns : List Node = p .0 in
       let h = program-table program records bytes ns (p .1) in
       let bits : List Bit = streamOf program in
-      let long : length bits ≡ 8 * length program = length-stream program (p .1 .within) in
+      let long : length bits ≡ 8 * length program = length-within program (p .1 .within) in
       let s = stands-split bits 0 (length (codeProgram ns)) (codeNatural (length ns)) (codeNodes 0 ns) (h .stands) in
       let front : Stands bits (length (codeNatural (length ns))) (length (codeProgram ns)) (codeNodes 0 ns) =
       subst (λ (k : ℕ). Stands bits k (length (codeProgram ns)) (codeNodes 0 ns)) (zero-add (length (codeNatural (length ns)))) (s .1) in

@@ -9,12 +9,12 @@ use Rattle.scope.specs.Check.{Check, passed, refused, _>>=_}
 use Rattle.scope.specs.Header.{checkHeader, section, sTypes}
 use Rattle.scope.specs.Types.{typeRecords, checkTypes}
 use Rattle.scope.specs.Stages.{counted}
-use Rattle.exactness.specs.Checks.{then-passes}
+use Rattle.common.specs.Checks.{then-passes}
 use Rattle.header.specs.Answer.{headerAnswer}
 use Rattle.header.specs.declared.HeaderAnswer.{HeaderAnswer}
 use Rattle.header.specs.declared.HeaderAnswer.the-variants.{Passed, Refused}
-use Rattle.table.specs.Answers.{checkOf}
-use Rattle.table.specs.declared.Checked.{Checked}
+use Rattle.common.specs.Answers.{checkOf}
+use Rattle.common.specs.declared.Checked.{Checked}
 use Rattle.table.specs.declared.Checked.the-variants as Checked
 use Rattle.arrow.specs.Stage.{countedTypes}
 use Rattle.dossier.specs.Ends.{front}

@@ -24,7 +24,7 @@ use Rattle.scope.specs.Reading.{Table}
 use Rattle.scope.specs.Closing.{decode}
 use Rattle.scope.specs.Stages.{lent, hashStage}
 use Rattle.scope.specs.Run.{Tables, checkTables, tablesOf, checkDossier, Left, leftWith, runTables, Ended, ended, run}
-use Rattle.exactness.specs.Checks.{both-passed, then-passes}
+use Rattle.common.specs.Checks.{both-passed, then-passes}
 use Rattle.exactness.specs.Nodes.{layout}
 use Rattle.exactness.specs.Decoding.{decoded-is-program}
 use Rattle.dossier.specs.Ends.{front, keeps, settled}

@@ -17,7 +17,7 @@ use Rattle.report.specs.Canonical.{children}
 use Rattle.scope.specs.Numbers.{every, tabulateFrom, tabulate}
 use Rattle.scope.specs.Nodes.{NodeRecord, kindOf, nodeRecord, nodeRecords, nodeNumbersOf}
 use Rattle.scope.specs.Stages.{numbersRule, noRecord, recordRule}
-use Rattle.exactness.specs.Checks.{all-every}
+use Rattle.common.specs.Checks.{all-every}
 use Rattle.exactness.specs.Nodes.{NodeFits, NodesFit, storedBy, recordOf, recordsFrom, hashesOf}
 use Rattle.exactness.specs.Stream.{Stands, stands-split}
 

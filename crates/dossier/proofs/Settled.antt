@@ -7,12 +7,8 @@ use native.Mathlib.Omega.{arith}
 use lib.ListN.{length}
 use Rattle.refusal.specs.declared.Answer.{Answer}
 use Rattle.scope.specs.Numbers.{zeros}
-use Rattle.decode.specs.Stores.{cleared}
+use Rattle.common.specs.Stores.{cleared}
 use Rattle.dossier.specs.Ends.{keeps, settled}
-
--- a store that is cleared from its start holds zeros alone
-pub all-cleared : (store : List ℕ) → cleared store 0 ≡ zeros (length store)
-all-cleared store = ap zeros (let e : length store - 0 ≡ length store = omega arith in e)
 
 module _ (said : Answer) (store : List ℕ) where
   pub settled-kept : true ≡ keeps said → store ≡ settled said store

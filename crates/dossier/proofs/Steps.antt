@@ -18,20 +18,20 @@ use Rattle.scope.specs.Closing as Closing
 use Rattle.scope.specs.Closing.{nodesLeft, hashesLeft}
 use Rattle.scope.specs.Stages.{runStage}
 use Rattle.scope.specs.Run.{checkTables, tablesOf, Left, leftWith, Ended, ended, run}
-use Rattle.exactness.specs.Checks.{clash, both-passed}
-use Rattle.table.specs.Answers.{checkOf}
-use Rattle.table.specs.declared.Checked.{Checked}
+use Rattle.common.specs.Checks.{clash, both-passed}
+use Rattle.common.specs.Answers.{checkOf}
+use Rattle.common.specs.declared.Checked.{Checked}
 use Rattle.table.specs.declared.Checked.the-variants as Checked
 use Rattle.decode.specs.declared.Sizes.{Sizes}
 use Rattle.decode.specs.declared.Decoded.{Decoded}
 use Rattle.decode.specs.declared.Decoded.the-variants as Decoded
 use Rattle.decode.specs.Answers.{saidOf}
-use Rattle.decode.specs.Stores.{cleared, left, tableSizes, leftBy}
+use Rattle.common.specs.Stores.{cleared, all-cleared}
+use Rattle.decode.specs.Stores.{left, tableSizes, leftBy}
 use Rattle.decode.specs.Stores as Stores
 use Rattle.dossier.specs.Ends.{front, settled, refusedOf, undecodedOf, sectionsRun}
 use Rattle.dossier.proofs.Records.{length-numbers}
 use Rattle.dossier.proofs.Decoded.{stage, stage-own}
-use Rattle.dossier.proofs.Settled.{all-cleared}
 use Rattle.dossier.proofs.Job.{nodes-fit, hashes-fit, job-front, job-read, job-ran}
 
 -- the run stage on slices that are the sections of a dossier

@@ -7,8 +7,8 @@ use lib.ListN.{length}
 use Rattle.refusal.specs.declared.Answer.{Answer}
 use Rattle.refusal.specs.declared.Answer.the-variants.{Value, Refused}
 use Rattle.refusal.specs.Numbers.{numberOf}
-use Rattle.table.specs.declared.Checked.{Checked}
-use Rattle.table.specs.declared.Checked.the-variants.{Passed, Refused as Stopped}
+use Rattle.common.specs.declared.Checked.{Checked}
+use Rattle.common.specs.declared.Checked.the-variants.{Passed, Refused as Stopped}
 use Rattle.decode.specs.declared.Decoded.{Decoded}
 use Rattle.decode.specs.declared.Decoded.the-variants.{Table, Refused as Undecoded}
 use Rattle.scope.specs.Check.{Check, _>>=_}

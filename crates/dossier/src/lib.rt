@@ -1,14 +1,14 @@
 // The whole job: a dossier and five lent stores in, an answer out, and each store left as the requirements say.
 // The header and the types are checked (1, 2), the program is decoded (3 to 10), and the run stage does the rest on the decoded table (11 to 19).
 // A refusal up to 13 leaves no table: the node and hash stores are zero. From 14 on the table is kept.
+use common::Checked;
 use decode::Decoded;
 use header::HeaderAnswer;
 use refusal::Answer;
-use table::Checked;
 ghost use mathlib.Core.Path.{_≡_};
 ghost use Rattle.scope.specs.Header.{checkHeader};
 ghost use Rattle.scope.specs.Run.{leftWith, ended, run};
-ghost use Rattle.table.specs.Answers.{checkOf};
+ghost use Rattle.common.specs.Answers.{checkOf};
 ghost use Rattle.dossier.specs.Ends.{front, keeps, settled, refusedOf, undecodedOf, sectionsRun};
 
 // The sections of a dossier, by their places in the header.

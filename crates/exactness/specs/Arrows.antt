@@ -19,8 +19,8 @@ use Rattle.scope.specs.Nodes.{nodeAt, onOneChild}
 use Rattle.scope.specs.Walk.{hiddenAt}
 use Rattle.scope.specs.Arrows.{Arrow, source, target, isUnit, isSum, isProduct, leftAt, rightAt, isWord}
 use Rattle.scope.specs.Arrows.{goes, branchRule, kindRule, arrowRule, noOneChild, checkArrows}
-use Rattle.exactness.specs.Checks.{clash, every-all, all-every, require-holds, holds-require, both-passed, then-passes, each-holds, holds-each}
-use Rattle.exactness.specs.Bits.{AllBelow}
+use Rattle.common.specs.Checks.{clash, every-all, all-every, require-holds, holds-require, both-passed, then-passes, each-holds, holds-each}
+use Rattle.common.specs.Bits.{AllBelow}
 use Rattle.exactness.specs.Types.{TypesPass}
 use Rattle.exactness.specs.TypeTests.{Joined, same-test, unit-type, type-unit, joins-type, type-joins, joined-test, word-type, type-word, first-unit}
 use Rattle.exactness.specs.NodeTyping.{Goes, Branch, Shown, Pruned, fromTy, toTy, InRange, ArrowsTyped}

@@ -18,8 +18,8 @@ use Rattle.report.specs.Canonical.{walkEach as plainEach, walkMake as plainMake
 use Rattle.scope.specs.Check.{Check, passed, require}
 use Rattle.scope.specs.Nodes.{nodeAt}
 use Rattle.scope.specs.Walk.{hiddenAt, allowed, walkEach, walkMake, walkFrom, checkWalk}
-use Rattle.exactness.specs.Table.{length-entries, entries-at, before-none}
-use Rattle.exactness.specs.Checks.{clash, require-holds, holds-require, both-passed, then-passes}
+use Rattle.common.specs.Tables.{length-entries, entries-at, before-none}
+use Rattle.common.specs.Checks.{clash, require-holds, holds-require, both-passed, then-passes}
 use Rattle.exactness.specs.Walk.{Counted, Upto, arrive, Walks, walkIn, walkNode, walksBefore}
 use Rattle.exactness.specs.Walk.{length-upFrom, upFrom-more, upto-count, arrive-passed, arrive-passes, each-counted, walk-node-counted, walk-at, walk-past, walk-counted, walk-passed}
 use Rattle.exactness.specs.Hidden.{HiddenPlaces, allowed-places, places-allowed, places-last}

@@ -13,8 +13,8 @@ use Rattle.report.specs.Naturals.{codeNatural}
 use Rattle.report.specs.Nodes.{Node, comp, case, pair, disconnect, injl, injr, take, drop, disconnect1, iden, unit, witness, fail, hidden, word, codeNode}
 use Rattle.report.specs.Canonical.{children}
 use Rattle.scope.specs.Reading.{aJet, got, Reader, _>>=_, give, stop, here, Item, item, next, code, naturalUpTo, child, octets, combinator, wordItem, node}
-use Rattle.exactness.specs.Checks.{clash}
-use Rattle.exactness.specs.Bits.{AllBelow, AreBits, AreBytes}
+use Rattle.common.specs.Checks.{clash}
+use Rattle.common.specs.Bits.{AllBelow, AreBits, AreBytes}
 use Rattle.exactness.specs.Naturals.{naturalBound}
 use Rattle.exactness.specs.Nodes.{ContentFits, NodeFits, storedBy, recordWith, recordOf}
 use Rattle.exactness.specs.Stream.{both-got, then-reads, Stands, stands-none, stands-then, stands-split, stands-bits}

@@ -22,8 +22,8 @@ use Rattle.scope.specs.Nodes.{NodeRecord, kindOf, nodeOf, nodesOf}
 use Rattle.scope.specs.Reading.{Table, readNodes}
 use Rattle.scope.specs.Walk.{checkWalk}
 use Rattle.scope.specs.Closing.{closes, decode}
-use Rattle.exactness.specs.Checks.{clash, every-all, all-every, require-holds, holds-require, both-passed, then-passes}
-use Rattle.exactness.specs.Bits.{AreBits, are-bits}
+use Rattle.common.specs.Checks.{clash, every-all, all-every, require-holds, holds-require, both-passed, then-passes}
+use Rattle.common.specs.Bits.{AreBits, are-bits}
 use Rattle.exactness.specs.Naturals.{code-some}
 use Rattle.exactness.specs.Nodes.{NodeFits, NodesFit, storedBy, recordOf, recordsFrom, hashesOf, layout}
 use Rattle.exactness.specs.Stream.{Stands, stands-split, front-stands}
@@ -102,9 +102,6 @@ all-zeros [] e = refl
 all-zeros (zero ∷ l) e = ap (λ (r : List Bit). 0 ∷ r) (all-zeros l e)
 all-zeros (suc b ∷ l) e = clash (cc)
 
-length-zeros : (n : ℕ) → length (zeros n) ≡ n
-length-zeros n = length-replicate {A = ℕ} n 0
-
 module _ (bits x : List Bit) where
   -- the closing test holds after a part exactly if the bits end with it
   pub closed-stands : Stands bits 0 (length x) x → closes bits (length x) ≡ true → Closed bits x
@@ -125,7 +122,7 @@ module _ (bits x : List Bit) where
       let at : ℕ = length x in
       let rest : dropL at bits ≡ zeros (c .padding) = ap (dropL at) (c .whole) ∙ drop-at x (zeros (c .padding)) at refl in
       let size : length bits ≡ at + c .padding =
-      ap length (c .whole) ∙ length-append x (zeros (c .padding)) ∙ ap (λ (k : ℕ). at + k) (length-zeros (c .padding)) in
+      ap length (c .whole) ∙ length-append x (zeros (c .padding)) ∙ ap (λ (k : ℕ). at + k) (length-replicate {A = ℕ} (c .padding) 0) in
       let few = c .short in
       all-every (leb at (length bits) ∷ ltb (length bits - at) 8 ∷ allZero (dropL at bits) ∷ []) (
         le-leb at (length bits) (omega arith),

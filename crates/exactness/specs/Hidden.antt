@@ -14,7 +14,7 @@ use Rattle.scope.specs.Check.{passed, require}
 use Rattle.scope.specs.Numbers.{every, anyBelow, same}
 use Rattle.scope.specs.Nodes.{nodeAt, onHidden}
 use Rattle.scope.specs.Walk.{hiddenAt, hides, noneHidden, allowed}
-use Rattle.exactness.specs.Checks.{clash, all-every, none-below, below-none, same-equal, equal-same, require-holds, holds-require, both-passed}
+use Rattle.common.specs.Checks.{clash, not-both, all-every, none-below, below-none, same-equal, equal-same, require-holds, holds-require, both-passed}
 
 -- node j is hidden
 abbrev pub IsHidden : List Node → (j : ℕ) → Type 0
@@ -50,13 +50,10 @@ hidden-holds f (fail bytes) e = clash (cc)
 hidden-holds f (hidden bytes) e = (bytes, refl, e)
 hidden-holds f (word n bits) e = clash (cc)
 
--- a test is true or false, and not both
+-- a test that does not hold fails
 not-true-false : (b : Bool) → (b ≡ true → ⊥) → b ≡ false
 not-true-false true h = absurd (h refl)
 not-true-false false h = refl
-
-true-not-false : (b : Bool) → b ≡ true → b ≡ false → ⊥
-true-not-false b p q = clash (cc)
 
 -- a number is one of a list that begins with it, and of a longer list
 done-first : (j : ℕ) (js : List ℕ) → isDone j (j ∷ js) ≡ true
@@ -144,7 +141,7 @@ module _ (nodes : List Node) where
   case-asks : (a b : ℕ) → not (every (hiddenAt nodes a ∷ hiddenAt nodes b ∷ [])) ≡ true → IsHidden nodes a → IsHidden nodes b → ⊥
   unfolding every
   case-asks a b e h k =
-      true-not-false _ (all-every (hiddenAt nodes a ∷ hiddenAt nodes b ∷ []) (test-hidden a h, (test-hidden b k, tt)))
+      not-both (all-every (hiddenAt nodes a ∷ hiddenAt nodes b ∷ []) (test-hidden a h, (test-hidden b k, tt)))
       (not-true (every (hiddenAt nodes a ∷ hiddenAt nodes b ∷ [])) e)
 
   allowed-asks : (i : ℕ) (n : Node) (x : Unit {0}) → allowed nodes i n ≡ passed x → Sort n → Asks i n
@@ -164,10 +161,10 @@ module _ (nodes : List Node) where
     no-repeat = λ j other l h q.
         (let r : other ≡ hash = cc in
         let none = not-true (anyBelow i (hides nodes hash)) (require-holds (not (anyBelow i (hides nodes hash))) (HiddenRepeated i) x e) in
-        true-not-false _ (test-hides hash j (h ∙ ap hidden r)) (none-below i (hides nodes hash) none j l));
+        not-both (test-hides hash j (h ∙ ap hidden r)) (none-below i (hides nodes hash) none j l));
   }
   allowed-asks i _ x e (Other n p q r) = record {
-    under-case = λ j d h. absurd (true-not-false _ (test-hidden j h) (none-hidden i (children n) x (sym (p i) ∙ e) j d));
+    under-case = λ j d h. absurd (not-both (test-hidden j h) (none-hidden i (children n) x (sym (p i) ∙ e) j d));
     one-branch = λ a b k h l. absurd (q a b k);
     no-repeat = λ j hash l h k. absurd (r hash k);
   }
@@ -196,7 +193,7 @@ module _ (nodes : List Node) where
     under-case = λ i j l d k. asks i l .under-case j d k;
     one-branch = λ i a b l p u v. asks i l .one-branch a b p u v;
     no-repeat = λ i j hash m l p q. asks j m .no-repeat i hash l p q;
-    last-shown = λ k. true-not-false _ (test-hidden (length nodes - 1) k) last;
+    last-shown = λ k. not-both (test-hidden (length nodes - 1) k) last;
   }
     where
       asks : (i : ℕ) → i < length nodes → Asks i (nodeAt nodes i)

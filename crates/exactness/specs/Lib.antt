@@ -1,6 +1,3 @@
-pub mod Table
-pub mod Checks
-pub mod Bits
 pub mod Naturals
 pub mod Values
 pub mod Walk

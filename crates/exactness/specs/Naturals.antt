@@ -3,35 +3,22 @@
 use mathlib.Core.Path.{_≡_, refl, ap, sym, _∙_, subst, ap₂}
 use mathlib.Core.List.{List, [], _∷_, _++_, append-assoc}
 use Prim.Native.Nat.{ℕ, zero, suc, _+_, _*_, _-_, _/_, _%_, _^_, _≤_, _<_}
-use native.Mathlib.Nat.{mul-assoc, add-mul, mod-lt}
+use native.Mathlib.Nat.{mod-lt}
 use native.Mathlib.Omega.{arith}
 use native.Mathlib.Decide.{decLt}
 use lib.Pow.{pow-pos, pow-mono, pow-add, mod-pow-add, split, shr-lt, high}
 use lib.ListN.{length}
-use borrow.Author.Tests.{le-leb, lt-leb}
 use Rattle.limits.specs.Limits.{naturalLength}
 use Rattle.report.specs.Bits.{Bit}
 use Rattle.report.specs.Naturals.{lowBits, log2By, log2, codeBy, codeNatural}
 use Rattle.scope.specs.Naturals.{Natural, natural, ended, tooLong, moreBits, ofLength, readNatural}
-use Rattle.exactness.specs.Checks.{clash}
-use Rattle.exactness.specs.Bits.{AreBits}
+use Rattle.common.specs.Numbers.{double, shift-in, length-fits, length-too-long}
+use Rattle.common.specs.Checks.{clash}
+use Rattle.common.specs.Bits.{AreBits}
 
 -- one more than the largest natural that can be read
 abbrev pub naturalBound : ℕ
 naturalBound = 2 ^ suc naturalLength
-
--- a length within the limit is followed by its bits, a longer one is refused
-pub length-fits : (n : ℕ) (rest : List Bit) → n ≤ naturalLength → ofLength (natural n rest) ≡ moreBits n 1 rest
-unfolding ofLength
-length-fits n rest h = rw (le-leb n naturalLength h, ofLength)
-
-pub length-too-long : (n : ℕ) (rest : List Bit) → naturalLength < n → ofLength (natural n rest) ≡ tooLong
-unfolding ofLength
-length-too-long n rest h = rw (lt-leb n naturalLength h, ofLength)
-
--- 2 ^ (k + 1), as a sum
-double : (k : ℕ) → 2 ^ suc k ≡ 2 * 2 ^ k
-double k = ap (λ (i : ℕ). 2 ^ i) (let e : suc k ≡ 1 + k = omega arith in e) ∙ pow-add 2 1 k
 
 -- log2 n counts the bits of n below the top one
 log2By-between : (f n : ℕ) → n ≤ f → 1 ≤ n → (2 ^ log2By f n ≤ n) × (n < 2 ^ suc (log2By f n))
@@ -78,9 +65,6 @@ log2-fits n p h = elim (decLt naturalLength (log2 n)) [ yes l ↦ absurd (no-mor
   where
     no-more : naturalLength < log2 n → ⊥
     no-more l = omega (arith, log2-between n p, pow-mono {i = suc naturalLength} {j = log2 n} l)
-
-shift-in : (n b p : ℕ) → (n * 2 + b) * p ≡ n * (2 * p) + b * p
-shift-in n b p = add-mul (n * 2) b p ∙ rw mul-assoc
 
 -- the low bits of n, read back behind the number m
 more-low : (k m n : ℕ) (r : List Bit) → moreBits k m (lowBits k n ++ r) ≡ natural (m * 2 ^ k + n % 2 ^ k) r

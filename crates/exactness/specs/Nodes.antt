@@ -14,7 +14,7 @@ use Rattle.report.specs.Nodes.{codeNode, codeProgram}
 use Rattle.report.specs.Canonical.{children}
 use Rattle.scope.specs.Nodes.{NodeRecord, nodeAt}
 use Rattle.scope.specs.Reading.{Table}
-use Rattle.exactness.specs.Bits.{AllBelow, AreBits, AreBytes}
+use Rattle.common.specs.Bits.{AllBelow, AreBits, AreBytes}
 
 -- what a node holds is of the right size
 abbrev pub ContentFits : Node → Type 0

@@ -17,8 +17,8 @@ use Rattle.report.specs.Nodes.{Node, codeNode, codeNodes, codeProgram}
 use Rattle.scope.specs.Check.{passed, refused}
 use Rattle.scope.specs.Nodes.{NodeRecord}
 use Rattle.scope.specs.Reading.{refusalAt, hashesShort, Got, got, fault, Reader, give, stop, Item, naturalUpTo, node, nodeIn, Table, nodesFrom, readNodes}
-use Rattle.exactness.specs.Checks.{clash}
-use Rattle.exactness.specs.Bits.{AreBits}
+use Rattle.common.specs.Checks.{clash}
+use Rattle.common.specs.Bits.{AreBits}
 use Rattle.exactness.specs.Naturals.{naturalBound}
 use Rattle.exactness.specs.Nodes.{NodesFit, WellFormed, storedBy, recordOf, recordsFrom, hashesOf, layout}
 use Rattle.exactness.specs.Stream.{both-got, then-reads, Stands, stands-none, stands-then, stands-split, natural-stands, stands-natural}

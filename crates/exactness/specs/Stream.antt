@@ -13,8 +13,8 @@ use Rattle.report.specs.Bits.{Bit, bitsOf, numberFrom, bytesOf}
 use Rattle.report.specs.Naturals.{codeNatural}
 use Rattle.scope.specs.Naturals.{Natural, natural, ended, tooLong, readNatural}
 use Rattle.scope.specs.Reading.{streamEnded, overBound, Got, got, fault, Reader, _>>=_, give, next, code, bounded, naturalUpTo, child, octets}
-use Rattle.exactness.specs.Checks.{clash}
-use Rattle.exactness.specs.Bits.{AreBits, AreBytes, below-drop, below-front, length-bits, length-bytes, bits-of-bytes, bytes-of-bits}
+use Rattle.common.specs.Checks.{clash}
+use Rattle.common.specs.Bits.{AreBits, AreBytes, below-drop, below-front, length-bits, length-bytes, bits-of-bytes, bytes-of-bits}
 use Rattle.exactness.specs.Naturals.{naturalBound, code-some, reads-code, read-is-code}
 
 -- two readers in a row: the second goes on where the first ends

@@ -1,6 +1,6 @@
 -- A type table that passes its rules: each record stands for the type made of its parts' types, and equal types have equal indices.
 -- So to compare indices is to compare types, and a record's tag tells the type's shape.
-use mathlib.Core.Path.{_≡_, refl, sym, ap₂, _∙_, subst₂}
+use mathlib.Core.Path.{_≡_, refl, sym, _∙_, subst₂}
 use mathlib.Core.Bool.{true, not}
 use mathlib.Core.List.{List, [], _∷_}
 use Prim.Native.Nat.{ℕ, zero, suc, _≤_, _<_}
@@ -8,19 +8,17 @@ use native.Mathlib.Nat.{not-suc-le-zero}
 use native.Mathlib.Omega.{arith}
 use native.Mathlib.Decide.{decLt}
 use lib.Dec.{eqb, ltb, leb}
-use lib.ListN.{length, getD, take}
-use lib.Seq.{getD-take}
+use lib.ListN.{length}
 use borrow.Author.Tests.{eqb-true, eq-eqb, ltb-true, leb-true, not-true}
 use Rattle.limits.specs.Limits.{typeWidth}
 use Rattle.refusal.specs.declared.Refusal.the-variants.{TypeRecord as BadTypeRecord}
-use Rattle.report.specs.Table.{entries}
-use Rattle.report.specs.Types.{Ty, one, width}
+use Rattle.report.specs.Types.{width}
 use Rattle.scope.specs.Check.{passed}
 use Rattle.scope.specs.Numbers.{anyBelow}
-use Rattle.scope.specs.Types.{TypeRecord, typeFrom, typeMake, noType, tyAt, typeAt, sameType, partsRule, typeRule, checkTypes}
+use Rattle.scope.specs.Types.{TypeRecord, typeFrom, tyAt, typeAt, sameType, partsRule, typeRule, checkTypes}
 use Rattle.scope.specs.Arrows.{leftAt, rightAt}
-use Rattle.exactness.specs.Table.{entries-at}
-use Rattle.exactness.specs.Checks.{clash, AllTrue, every-all, all-every, none-below, each-holds, holds-each}
+use Rattle.common.specs.Types.{type-step as type-made}
+use Rattle.common.specs.Checks.{clash, AllTrue, every-all, all-every, none-below, each-holds, holds-each}
 
 -- every record keeps the rules
 abbrev pub TypesPass : List TypeRecord → Type 0
@@ -78,17 +76,8 @@ module _ (types : List TypeRecord) where
 
     -- a record stands for the type that its tag makes of its parts' types
     pub type-step : (i : ℕ) → i < length types → tyAt types i ≡ typeFrom (tagAt i) (tyAt types (leftAt types i)) (tyAt types (rightAt types i))
-    unfolding tyAt typeAt typeMake leftAt rightAt
-    type-step i h = entries-at typeMake types i one noType h ∙ go (tagAt i) (leftAt types i) (rightAt types i) (parts-at i h)
-      where
-        before : List Ty
-        before = take i (entries typeMake types)
-
-        go : (tag l r : ℕ) → Parts i tag l r → typeFrom tag (getD before l one) (getD before r one) ≡ typeFrom tag (tyAt types l) (tyAt types r)
-        go tag l r OfUnit = refl
-        go tag _ _ (OfSum l r p q) = ap₂ (typeFrom 1) (getD-take i (entries typeMake types) l one p) (getD-take i (entries typeMake types) r one q)
-        go tag _ _ (OfProduct l r p q) =
-            ap₂ (typeFrom 2) (getD-take i (entries typeMake types) l one p) (getD-take i (entries typeMake types) r one q)
+    unfolding leftAt rightAt
+    type-step i h = type-made types i h (rules-at i h .0)
 
     -- no two records are equal
     earlier-apart : (i j : ℕ) → i < length types → j < i → tagAt i ≡ tagAt j → leftAt types i ≡ leftAt types j → rightAt types i ≡ rightAt types j → ⊥

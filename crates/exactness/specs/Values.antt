@@ -3,14 +3,15 @@
 use mathlib.Core.Path.{_≡_, refl, sym, ap, ap₂, _∙_, subst}
 use mathlib.Core.List.{List, [], _∷_, _++_, append-assoc}
 use Prim.Native.Nat.{ℕ, zero, suc, _+_, _-_, _^_, _≤_, _<_, max}
+use native.Mathlib.Nat.{two-pow-succ}
 use native.Mathlib.Omega.{arith}
 use lib.ListN.{length, getD, drop, replicate, length-append, length-drop, length-replicate, List·getD-append}
 use lib.Seq.{drop-drop, getD-append-add}
 use Rattle.report.specs.Bits.{Bit}
 use Rattle.report.specs.Types.{Ty, one, sum, prod, width, padL, padR, wordTy, leftOf, rightOf}
 use Rattle.report.specs.Values.{Val, ⟨⟩, inl, inr, _&_, HasTy, isUnit, isLeft, isRight, isPair, compact, padded, Read, value, short, andThen, readValue, Cells, valueAt}
-use Rattle.exactness.specs.Checks.{clash}
-use Rattle.exactness.specs.Bits.{AreBits}
+use Rattle.common.specs.Checks.{clash}
+use Rattle.common.specs.Bits.{AreBits}
 
 -- reading undoes the compact bits
 pub reads-compact : {v : Val} {A : Ty} → HasTy v A → (rest : List Bit) → readValue A (compact v ++ rest) ≡ value v rest
@@ -161,9 +162,6 @@ word-unpadded zero (isLeft isUnit) = refl
 word-unpadded zero (isRight isUnit) = refl
 word-unpadded (suc k) (isPair h g) = ap₂ _++_ (word-unpadded k h) (word-unpadded k g)
 
-double : (k : ℕ) → 2 ^ suc k ≡ 2 ^ k + 2 ^ k
-double k = omega arith
-
 -- any 2 ^ k bits are a word of depth k
 pub word-read : (k : ℕ) (bs : List Bit) → 2 ^ k ≤ length bs → (v : Val) × (readValue (wordTy k) bs ≡ value v (drop (2 ^ k) bs))
 unfolding wordTy readValue andThen
@@ -171,8 +169,8 @@ word-read zero [] h = absurd (omega arith)
 word-read zero (zero ∷ bs) h = (inl ⟨⟩, refl)
 word-read zero (suc b ∷ bs) h = (inr ⟨⟩, refl)
 word-read (suc k) bs h =
-    let front = word-read k bs (omega (arith, double k)) in
+    let front = word-read k bs (omega (arith, two-pow-succ k)) in
     let rest : List Bit = drop (2 ^ k) bs in
-    let back = word-read k rest (omega (arith, double k, length-drop (2 ^ k) bs)) in
-    let e : drop (2 ^ k) rest ≡ drop (2 ^ suc k) bs = drop-drop (2 ^ k) (2 ^ k) bs ∙ ap (λ (n : ℕ). drop n bs) (sym (double k)) in
+    let back = word-read k rest (omega (arith, two-pow-succ k, length-drop (2 ^ k) bs)) in
+    let e : drop (2 ^ k) rest ≡ drop (2 ^ suc k) bs = drop-drop (2 ^ k) (2 ^ k) bs ∙ ap (λ (n : ℕ). drop n bs) (sym (two-pow-succ k)) in
     (front .0 & back .0, rw (front .1, back .1) (ap (value (front .0 & back .0)) e))

@@ -19,9 +19,9 @@ use Rattle.report.specs.Canonical.{children, isDone, upFrom}
 use Rattle.scope.specs.Check.{Check, passed, refused, _>>=_, require}
 use Rattle.scope.specs.Nodes.{nodeAt}
 use Rattle.scope.specs.Walk.{hiddenAt, allowed, walkEach, walkMake, walkFrom, checkWalk}
-use Rattle.exactness.specs.Table.{length-entries, entries-at, before-at}
-use Rattle.exactness.specs.Checks.{clash, require-holds, both-passed}
-use Rattle.exactness.specs.Bits.{AllBelow}
+use Rattle.common.specs.Tables.{length-entries, entries-at, before-at}
+use Rattle.common.specs.Checks.{clash, require-holds, both-passed}
+use Rattle.common.specs.Bits.{AllBelow}
 
 -- n numbers from i on
 pub length-upFrom : (i n : ℕ) → length (upFrom i n) ≡ n

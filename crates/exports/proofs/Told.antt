@@ -11,13 +11,13 @@ use Rattle.scope.specs.Reading.{Table, Got, got, fault}
 use Rattle.scope.specs.Closing.{nodesLeft, hashesLeft}
 use Rattle.scope.specs.Bounds.{Bound}
 use Rattle.scope.specs.Run.{Left, leftWith, Ended, ended}
-use Rattle.exactness.specs.Checks.{clash}
+use Rattle.common.specs.Checks.{clash}
 use Rattle.bititer.specs.Answers.{naturalFault, gotNatural}
 use Rattle.bititer.specs.declared.NaturalFault.{NaturalFault}
 use Rattle.bititer.specs.declared.NaturalRead.{NaturalRead}
 use Rattle.bititer.specs.declared.NaturalRead.the-variants as NaturalRead
-use Rattle.table.specs.Answers.{checkOf}
-use Rattle.table.specs.declared.Checked.{Checked}
+use Rattle.common.specs.Answers.{checkOf}
+use Rattle.common.specs.declared.Checked.{Checked}
 use Rattle.table.specs.declared.Checked.the-variants as Checked
 use Rattle.decode.specs.declared.Sizes.{Sizes}
 use Rattle.decode.specs.declared.Decoded.{Decoded}

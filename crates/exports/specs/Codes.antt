@@ -10,8 +10,8 @@ use Rattle.scope.specs.Reading.{Table, Got, got, fault, Fault, streamEnded, len
 use Rattle.scope.specs.Closing.{nodesLeft, hashesLeft}
 use Rattle.scope.specs.Bounds.{Bound}
 use Rattle.scope.specs.Run.{Left, Ended}
-use Rattle.table.specs.declared.Checked.{Checked}
-use Rattle.table.specs.declared.Checked.the-variants.{Passed, Refused as Stopped}
+use Rattle.common.specs.declared.Checked.{Checked}
+use Rattle.common.specs.declared.Checked.the-variants.{Passed, Refused as Stopped}
 
 -- the number of an answer, and what it tells beside: the count of an output's bits, or a place
 abbrev pub answerCode : Answer → ℕ

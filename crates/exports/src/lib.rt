@@ -4,9 +4,9 @@
 use analysis::BoundsAnswer;
 use bititer::NaturalFault;
 use bititer::NaturalRead;
+use common::Checked;
 use decode::Decoded;
 use refusal::Answer;
-use table::Checked;
 ghost use mathlib.Core.Path.{_≡_};
 ghost use lib.ListN.{length};
 ghost use Prim.Native.Nat.{_/_};

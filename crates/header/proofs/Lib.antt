@@ -1,3 +1,2 @@
-pub mod Checks
 pub mod Rules
 pub mod Pins

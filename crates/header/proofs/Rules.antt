@@ -1,5 +1,5 @@
 -- The rules of the header's numbers as the check meets them, section by section, and what a header that passes tells of a section.
-use mathlib.Core.Path.{_≡_, refl, sym, ap, ap₂, _∙_}
+use mathlib.Core.Path.{_≡_, refl, sym, ap, _∙_}
 use mathlib.Core.Bool.{Bool, true, false}
 use mathlib.Core.List.{List, [], _∷_}
 use Prim.Native.Nat.{ℕ, zero, suc, _+_, _*_, _-_, _/_, _≤_, _<_}
@@ -7,29 +7,26 @@ use native.Mathlib.Numerals.{add-one}
 use native.Mathlib.Omega.{arith}
 use native.Mathlib.Decide.{decLt}
 use lib.Dec.{leb, eqb}
-use lib.ListN.{length, take, drop, length-drop, drop-of-length-le, List·getD-eq-default}
-use lib.Seq.{take-all, take-nil}
+use lib.ListN.{length, List·getD-eq-default}
 use borrow.Author.Tests.{le-leb, lt-leb, leb-true, eq-eqb, ne-eqb, eqb-true}
 use Rattle.limits.specs.Limits.{dossierBytes, typeCount, headerBytes, typeBytes, arrowBytes, hashBytes}
 use Rattle.refusal.specs.declared.Refusal.{Refusal}
 use Rattle.refusal.specs.declared.Refusal.the-variants.{Header}
 use Rattle.scope.specs.Check.{Check, passed, refused, _>>=_, require, firstFailing, each}
-use Rattle.scope.specs.Numbers.{be16, bytesFor, every}
+use Rattle.scope.specs.Numbers.{bytesFor, every}
 use Rattle.scope.specs.Header.{number, count, offset, size, start, countRule, typeCountRule, offsetRule, totalRule, headerRule, checkHeader, section}
 use Rattle.promise.specs.Parts.{Part, cut}
+use Rattle.common.specs.Numbers.{number-past as past-end}
+use Rattle.common.specs.Checks.{every-all, every-one, fails-here, holds-here, first-holds}
 use Rattle.header.specs.Answer.{headerAnswer}
 use Rattle.header.specs.Sections.{sectionPart, openedBy, openedPart}
 use Rattle.header.specs.declared.HeaderAnswer.the-variants.{Passed, Refused}
-use Rattle.header.proofs.Checks.{every-one, every-last, fails-here, holds-here, first-holds}
 
 module _ (d : List ℕ) where
   -- numbers past the end, and the size of each section by its count
-  half-past : (at : ℕ) → length d ≤ at → be16 d at ≡ 0
-  half-past at h = rw (List·getD-eq-default d 0 {n = at} h, List·getD-eq-default d 0 {n = at + 1} (omega arith))
-
   pub number-past : (j : ℕ) → length d / 4 < j → 0 ≡ number d j
   unfolding number
-  number-past j h = omega (arith, half-past (4 * j) (omega arith), half-past (4 * j + 2) (omega arith))
+  number-past j h = sym (past-end d (4 * j) (omega arith))
 
   pub count-past : (k : ℕ) → length d / 8 < k → 0 ≡ count d k
   unfolding count
@@ -197,7 +194,7 @@ module _ (d : List ℕ) where
 
     count-holds : (k : ℕ) → k < 6 → countRule d k ≡ true
     unfolding headerRule typeCountRule
-    count-holds zero h = every-last (leb 1 (count d 0)) (leb (count d 0) typeCount) (countRule d 0) (passes-all 1 (omega arith))
+    count-holds zero h = every-all (leb 1 (count d 0) ∷ leb (count d 0) typeCount ∷ countRule d 0 ∷ []) (passes-all 1 (omega arith)) .1 .1 .0
     count-holds (suc zero) h = passes-all 3 (omega arith)
     count-holds (suc (suc zero)) h = passes-all 5 (omega arith)
     count-holds (suc (suc (suc zero))) h = passes-all 7 (omega arith)

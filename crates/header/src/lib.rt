@@ -3,12 +3,11 @@
 // Places go by the sections: each has to start where the one before it ends, which the check carries along.
 ghost use mathlib.Core.Path.{_≡_};
 ghost use Prim.Native.Nat.{_+_, _*_, _^_, _≤_, _<_};
-ghost use lib.ListN.{length, getD};
+ghost use lib.ListN.{length};
 ghost use Rattle.limits.specs.Limits.{dossierBytes};
 ghost use Rattle.scope.specs.Check.{firstFailing};
-ghost use Rattle.scope.specs.Numbers.{be16};
 ghost use Rattle.scope.specs.Header.{number, count, size, start, headerRule, checkHeader};
-ghost use Rattle.promise.specs.Parts.{partOf, cut};
+ghost use Rattle.promise.specs.Parts.{partOf};
 ghost use Rattle.header.specs.Answer.{headerAnswer};
 ghost use Rattle.header.specs.Sections.{sectionPart, openedPart};
 use refusal::Refusal;
@@ -25,32 +24,6 @@ const SECTIONS: usize = 6;
 // The header's numbers: the version, a count and an offset for each section, and the total.
 const NUMBERS: usize = 14;
 
-// A byte as a number with room for four of them.
-fn wide(b: u8) -> u32
-    ensures { λ r. ⌜ (r ≡ b) × (r < 256) ⌝ }
-{
-    b as u32
-}
-
-// The byte at a place; 0 past the end.
-fn byte_at(dossier: &[u8], at: usize) -> u32
-    ensures { λ r. ⌜ (r ≡ getD (now (dossier .entry)) at 0) × (r < 256) ⌝ }
-{
-    if at < dossier.len() {
-        wide(dossier[at])
-    } else {
-        0
-    }
-}
-
-// The 16-bit number at a place, with 0 for bytes past the end.
-fn half_at(dossier: &[u8], at: usize) -> u32
-    requires { ⌜ at + 1 < 2 ^ 64 ⌝ }
-    ensures { λ r. ⌜ (r ≡ be16 (now (dossier .entry)) at) × (r < 65536) ⌝ }
-{
-    byte_at(dossier, at) * 256 + byte_at(dossier, at + 1)
-}
-
 // Number j of the header, with 0 for bytes past the end.
 fn number(dossier: &[u8], j: usize) -> u32
     ensures { λ r. ⌜ r ≡ number (now (dossier .entry)) j ⌝ }
@@ -58,8 +31,7 @@ fn number(dossier: &[u8], j: usize) -> u32
     if dossier.len() / 4 < j {
         return 0;
     }
-    let at = 4 * j;
-    half_at(dossier, at) * 65536 + half_at(dossier, at + 2)
+    common::number_at(dossier, 4 * j)
 }
 
 // The count of section k: bytes of the program, bits of witness and input, else records; 0 past the dossier's end.
@@ -162,28 +134,14 @@ fn start(dossier: &[u8], k: usize) -> u64
     place
 }
 
-// The part of n bytes from a place on, as far as there are any.
-fn part(bytes: &[u8], at: usize, n: usize) -> &[u8]
-    ensures { λ r. ⌜ partOf r ≡ cut (partOf (bytes .entry)) at n ⌝ }
-{
-    let all = bytes.len();
-    if all < at {
-        return &bytes[all..];
-    }
-    if all - at < n {
-        return &bytes[at..];
-    }
-    &bytes[at..at + n]
-}
-
 // Section k of a dossier whose header was checked; of any other, what of it lies within the dossier.
 pub fn section(dossier: &[u8], k: usize) -> &[u8]
     ensures { λ r. ⌜ partOf r ≡ sectionPart (partOf (dossier .entry)) k ⌝ }
 {
     if SECTIONS <= k {
-        return part(dossier, start(dossier, SECTIONS) as usize, 0);
+        return common::part(dossier, start(dossier, SECTIONS) as usize, 0);
     }
-    part(
+    common::part(
         dossier,
         start(dossier, k) as usize,
         size(dossier, k) as usize,
@@ -195,7 +153,7 @@ pub fn opened(dossier: &[u8], k: usize) -> &[u8]
     ensures { λ r. ⌜ partOf r ≡ openedPart (partOf (dossier .entry)) k ⌝ }
 {
     let HeaderAnswer::Passed = check_header(dossier) else {
-        return part(dossier, 0, 0);
+        return common::part(dossier, 0, 0);
     };
     section(dossier, k)
 }

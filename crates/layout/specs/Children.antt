@@ -15,7 +15,7 @@ use Rattle.layout.specs.Exec.{Around, pairing, composing, disconnecting,
 use Rattle.layout.specs.Safe.{PushOk, MoveOk, DropOk, WriteOk, ReadOk, CopyOk, FirstOk, SecondOk, ThirdOk}
 use Rattle.layout.specs.Layout.{layout}
 use Rattle.layout.specs.Follow.{Follows, Rule, push-follows, move-follows, drop-follows, write-follows, forward-follows, copy-follows}
-use Rattle.layout.specs.Match.{bind-assoc, needing, capped, nothing-follows, then-follows}
+use Rattle.layout.specs.Match.{bind-bind, needing, capped, nothing-follows, then-follows}
 
 module _ (lent size most : ℕ) (le : size ≤ lent) where
   -- F, S and T are done before, between and after the children of kind k
@@ -137,4 +137,4 @@ module _ (lent size most : ℕ) (le : size ≤ lent) where
         (writeBits hash s >>= λ s. (copy a s >>= λ s. (moveFrame s >>= λ s. (newFrame size most (b + c) s
         >>= λ s. (exec size most t s >>= λ s. (moveFrame s >>= λ s.
         (copy b s >>= λ s. (fwd b s >>= λ s. (exec size most u s >>= λ s. (dropFrame s >>= λ s. dropFrame s)))))))))))
-    disconnect-form s t u = simp bind-assoc
+    disconnect-form s t u = simp bind-bind

@@ -16,7 +16,9 @@ use Rattle.scope.specs.Machine.{Frame, frameFrom, forward, backward, reset, Sta
 use Rattle.layout.specs.Mach.{Mach, mach-eq}
 use Rattle.layout.specs.Rules.{pushed, moved, dropped, bitWritten, bitsWritten, bitWritten-list, skipped, copied, forwarded, backed, peeked}
 use Rattle.layout.specs.Safe.{PushOk, MoveOk, DropOk, WriteOk, ReadOk, BackOk, CopyOk}
-use Rattle.layout.specs.Layout.{stateOf, arranged, layout, length-tabulate, get-tabulate, put-tabulate, copy-tabulate, setCell-other, arranged-length, write-get, write-set, read-get, read-set, push-set, move-set, drop-set}
+use Rattle.common.specs.Tables.{length-tabulate, tabulate-at}
+use Rattle.common.specs.Cells.{sets-tabulate, copy-tabulate, setCell-other}
+use Rattle.layout.specs.Layout.{stateOf, arranged, layout, arranged-length, write-get, write-set, read-get, read-set, push-set, move-set, drop-set}
 
 -- the machine is not stuck
 abbrev pub Goes : {Y X : Type 0} → Out Y X → Type 0
@@ -86,7 +88,7 @@ copy-kept c from to (suc n) size h p l =
 
 -- the layout of a state that fits has as many cells and records as are lent
 pub layout-cells : (lent most : ℕ) (s : State) → length (layout lent most s .bits) ≡ lent
-layout-cells lent most s = length-tabulate lent (s .cells)
+layout-cells lent most s = length-tabulate (s .cells) lent
 
 pub layout-records : (lent size most : ℕ) (s : State) → Fits size most s → length (layout lent most s .records) ≡ most
 layout-records lent size most s h =
@@ -189,7 +191,7 @@ module _ (lent size most : ℕ) (le : size ≤ lent) where
         to = to;
         does = need-is (leb (f .cursor + n) (f .start + f .len)) (done to) g;
         same = rw (write-get z f ws rs)
-            (mach-eq (put-tabulate lent c (f .cursor) (b ∷ bs)) (write-set z f ws rs (forward n f)) refl refl refl);
+            (mach-eq (sets-tabulate lent c (f .cursor) (b ∷ bs)) (write-set z f ws rs (forward n f)) refl refl refl);
         fits = record { room = h .room; cells = h .cells; reads = h .reads; writes = inside };
         kept = put-kept c (f .cursor) (b ∷ bs) size (omega (arith, inside .0));
         ok = λ pos. record {
@@ -341,7 +343,7 @@ module _ (lent size most : ℕ) (le : size ≤ lent) where
       let inside = h .reads in
       record {
         does = need-is (leb (f .cursor + 1) (f .start + f .len)) (done (c (f .cursor))) g
-            ∙ ap done (sym (ap (λ f. getD (tabulate lent c) (f .cursor) 0) (read-get z f ws rs) ∙ get-tabulate lent c (f .cursor) (omega (arith, inside .0))));
+            ∙ ap done (sym (ap (λ f. getD (tabulate lent c) (f .cursor) 0) (read-get z f ws rs) ∙ tabulate-at c lent (f .cursor) 0 (omega (arith, inside .0))));
         ok = record { some = omega arith; held = omega (arith, arranged-length z ws (f ∷ rs)); fits = rw (read-get z f ws rs) (omega (arith, inside .0)) };
       }
 

@@ -5,13 +5,15 @@ use mathlib.Core.List.{List, [], _∷_}
 use Prim.Native.Nat.{ℕ, zero, suc, _+_, _≤_}
 use native.Mathlib.Omega.{arith}
 use lib.ListN.{length, set, length-set, length-replicate}
+use lib.Seq.{length-sets}
 use Rattle.report.specs.Bits.{Bit}
 use Rattle.report.specs.Types.{Ty, width, padL, padR, wordTy}
 use Rattle.report.specs.Values.{Val, padded}
 use Rattle.report.specs.Terms.{Term, iden, comp, unit, injl, injr, case, pair, take, drop, assertl, assertr, fail, witness, word, disconnect, bad}
 use Rattle.report.specs.Meaning.{done, failed, pruned, stuck, _>>=_}
+use Rattle.common.specs.Cells.{length-copied}
 use Rattle.layout.specs.Mach.{Mach, noFrame, writePlace, readPlace, activeWrite, activeRead, empty}
-use Rattle.layout.specs.Rules.{length-bitsPut, length-bitsCopied, pushed, moved, dropped, bitWritten, bitsWritten, skipped, copied, forwarded, backed, peeked, allFree}
+use Rattle.layout.specs.Rules.{pushed, moved, dropped, bitWritten, bitsWritten, skipped, copied, forwarded, backed, peeked, allFree}
 use Rattle.layout.specs.Exec.{Outcome, Around, pairing, composing, disconnecting, firstOf, secondOf, thirdOf, around, returning, under, tagged, runTerm, withInput, withOutput, runWhole}
 
 -- as many cells and records
@@ -67,7 +69,7 @@ write-balanced : (bs : List Bit) (m : Mach) → Balanced m (bitsWritten bs m)
 unfolding bitsWritten
 write-balanced [] m = balanced-here m
 write-balanced (b ∷ bs) m = record {
-  sized = record { bits = length-bitsPut (m .bits) (activeWrite m .cursor) (b ∷ bs); records = length-set (m .records) (writePlace m) _ };
+  sized = record { bits = length-sets (m .bits) (activeWrite m .cursor) (b ∷ bs); records = length-set (m .records) (writePlace m) _ };
   writes = refl;
   reads = refl;
 }
@@ -82,7 +84,7 @@ unfolding copied
 copy-balanced zero m = balanced-here m
 copy-balanced (suc n) m = record {
   sized = record {
-    bits = length-bitsCopied (m .bits) (activeRead m .cursor) (activeWrite m .cursor) (suc n);
+    bits = length-copied (m .bits) (activeRead m .cursor) (activeWrite m .cursor) (suc n);
     records = length-set (m .records) (writePlace m) _;
   };
   writes = refl;

@@ -11,6 +11,7 @@ use lib.Seq.{getD-drop, drop-drop}
 use Rattle.limits.specs.Limits.{frameNumbers}
 use Rattle.scope.specs.Numbers.{zeros}
 use Rattle.scope.specs.Machine.{Frame, frameAt}
+use Rattle.common.specs.Lists.{replicate-at}
 
 -- what a free record holds
 abbrev pub noFrame : Frame
@@ -88,16 +89,11 @@ unfolding recordsOf
 record-get ns k h = first-get (length ns / frameNumbers) ns k h
 
 -- numbers that are all zero hold free records
-zero-at : (n i : ℕ) → getD (zeros n) i 0 ≡ 0
-zero-at zero i = refl
-zero-at (suc n) zero = refl
-zero-at (suc n) (suc i) = zero-at n i
-
 first-zeros : (n m j : ℕ) → firstRecords n (drop j (zeros m)) ≡ replicate n noFrame
 unfolding firstRecords
 first-zeros zero m j = refl
 first-zeros (suc n) m j =
-    ap₂ (λ f fs. f ∷ fs) (frameAt-drop j (zeros m) 0 ∙ simp zero-at)
+    ap₂ (λ f fs. f ∷ fs) (frameAt-drop j (zeros m) 0 ∙ simp replicate-at)
     (ap (firstRecords n) (drop-drop frameNumbers j (zeros m)) ∙ first-zeros n m (j + frameNumbers))
 
 pub records-zero : (n : ℕ) → recordsOf (zeros n) ≡ replicate (n / frameNumbers) noFrame

@@ -9,7 +9,8 @@ use Rattle.scope.specs.Numbers.{tabulate}
 use Rattle.scope.specs.Machine.{State, Step}
 use Rattle.layout.specs.Mach.{Mach}
 use Rattle.layout.specs.Exec.{Outcome}
-use Rattle.layout.specs.Layout.{layout, length-tabulate}
+use Rattle.common.specs.Tables.{length-tabulate}
+use Rattle.layout.specs.Layout.{layout}
 use Rattle.layout.specs.Follow.{Goes, Fits, KeptFrom, Follows, Rule, unmoved}
 
 -- an outcome, its state laid out
@@ -56,12 +57,12 @@ bind-done (failed p s) = refl
 bind-done (pruned p s) = refl
 bind-done stuck = refl
 
-pub bind-assoc : (o : Step) (f g : State → Step) → ((o >>= f) >>= g) ≡ (o >>= λ s. (f s >>= g))
+pub bind-bind : {W X Y Z : Type 0} (o : Out W X) (f : X → Out W Y) (g : Y → Out W Z) → ((o >>= f) >>= g) ≡ (o >>= λ x. f x >>= g)
 unfolding _>>=_
-bind-assoc (done s) f g = refl
-bind-assoc (failed p s) f g = refl
-bind-assoc (pruned p s) f g = refl
-bind-assoc stuck f g = refl
+bind-bind (done x) f g = refl
+bind-bind (failed p y) f g = refl
+bind-bind (pruned p y) f g = refl
+bind-bind stuck f g = refl
 
 -- the state that a store machine m is the layout of, where a run that ends with o is done
 pub record DoneAt (lent size most : ℕ) (o : Step) (m : Mach) : Type 0 where
@@ -135,7 +136,7 @@ module _ (lent size most : ℕ) where
 
   -- a need of as many cells as are lent, as one of as many as the list has
   pub capped : (P : ℕ → Type 0) (c : Cells) → P lent → P (length (tabulate lent c))
-  capped P c h = subst P (sym (length-tabulate lent c)) h
+  capped P c h = subst P (sym (length-tabulate c lent)) h
 
   -- no rule, and two rules one after the other
   pub nothing-follows : (le : size ≤ lent) → Rule lent size most le (λ s. done s) (λ m. m) (λ m. Unit {0})

@@ -1,28 +1,15 @@
 -- The machine's rules over its stores, as the code does them: total functions from machine to machine, with `getD` and `set` on the two lists.
 -- A frame that is moved or dropped leaves a free record behind. A rule for 0 cells looks at no frame.
 -- What a rule needs is said apart, in Safe; where that fails a rule here still has a value, of no meaning.
-use mathlib.Core.Path.{_≡_, refl, ap, _∙_}
-use mathlib.Core.List.{List, [], _∷_, _++_}
+use mathlib.Core.Path.{_≡_, refl}
+use mathlib.Core.List.{List, [], _∷_}
 use Prim.Native.Nat.{ℕ, zero, suc, _+_, _-_}
-use native.Mathlib.Omega.{arith}
-use native.Mathlib.Nat.{add-zero}
-use native.Mathlib.Numerals.{add-one}
-use lib.ListN.{length, getD, set, replicate, length-set}
+use lib.ListN.{length, getD, set, replicate}
+use lib.Seq.{sets}
 use Rattle.report.specs.Bits.{Bit}
 use Rattle.scope.specs.Machine.{Frame, frameFrom, forward, backward, reset}
+use Rattle.common.specs.Cells.{copyBits}
 use Rattle.layout.specs.Mach.{Mach, mach, noFrame, writePlace, readPlace, activeWrite, activeRead}
-
--- a list of cells with bits from a place on, one after the other
-unfoldable pub bitsPut : List ℕ → (to : ℕ) → List Bit → List ℕ
-bitsPut l to [] = l
-bitsPut l to (b ∷ bs) = bitsPut (set l to b) (suc to) bs
-
--- n cells of a list copied one after the other, each read from the list as it is then
-unfoldable pub bitsCopied : List ℕ → (from to n : ℕ) → List ℕ
-bitsCopied l from to zero = l
-bitsCopied l from to (suc n) =
-    let before = bitsCopied l from to n in
-    set before (to + n) (getD before (from + n) 0)
 
 -- the records with the cursor of the active write frame moved, or with that of the active read frame
 abbrev pub writeMoved : (Frame → Frame) → Mach → List Frame
@@ -56,7 +43,7 @@ bitWritten b m =
 unfoldable pub bitsWritten : List Bit → Mach → Mach
 bitsWritten [] m = m
 bitsWritten (b ∷ bs) m =
-    mach (bitsPut (m .bits) (activeWrite m .cursor) (b ∷ bs)) (writeMoved (forward (length (b ∷ bs))) m) (m .writeFrames)
+    mach (sets (m .bits) (activeWrite m .cursor) (b ∷ bs)) (writeMoved (forward (length (b ∷ bs))) m) (m .writeFrames)
     (m .readFrames) (m .next)
 
 -- the write cursor n cells on, which keep their old bits
@@ -68,7 +55,7 @@ skipped (suc n) m = mach (m .bits) (writeMoved (forward (suc n)) m) (m .writeFra
 unfoldable pub copied : ℕ → Mach → Mach
 copied zero m = m
 copied (suc n) m =
-    mach (bitsCopied (m .bits) (activeRead m .cursor) (activeWrite m .cursor) (suc n)) (writeMoved (forward (suc n)) m)
+    mach (copyBits (m .bits) (activeRead m .cursor) (activeWrite m .cursor) (suc n)) (writeMoved (forward (suc n)) m)
     (m .writeFrames) (m .readFrames) (m .next)
 
 -- the read cursor n cells on, and n cells back
@@ -87,43 +74,6 @@ peeked m = getD (m .bits) (activeRead m .cursor) 0
 -- no frame, and every record free: the last step of a run
 unfoldable pub allFree : Mach → Mach
 allFree m = mach (m .bits) (replicate (length (m .records)) noFrame) 0 0 0
-
--- bits put: as many cells as before, one list after another, and one more bit
-pub length-bitsPut : (l : List ℕ) (to : ℕ) (bs : List Bit) → length (bitsPut l to bs) ≡ length l
-unfolding bitsPut
-length-bitsPut l to [] = refl
-length-bitsPut l to (b ∷ bs) = length-bitsPut (set l to b) (suc to) bs ∙ length-set l to b
-
-pub bitsPut-append : (l : List ℕ) (to : ℕ) (bs cs : List Bit) → bitsPut l to (bs ++ cs) ≡ bitsPut (bitsPut l to bs) (to + length bs) cs
-unfolding bitsPut
-bitsPut-append l to [] cs = rw add-zero
-bitsPut-append l to (b ∷ bs) cs =
-    let e : to + suc (length bs) ≡ suc to + length bs = omega arith in
-    rw e (bitsPut-append (set l to b) (suc to) bs cs)
-
-pub bitsPut-last : (l : List ℕ) (to : ℕ) (bs : List Bit) (b : Bit) → bitsPut l to (bs ++ b ∷ []) ≡ set (bitsPut l to bs) (to + length bs) b
-unfolding bitsPut
-bitsPut-last l to bs b = bitsPut-append l to bs (b ∷ [])
-
--- bits copied: as many cells as before, one more at the end, and one at the front
-pub length-bitsCopied : (l : List ℕ) (from to n : ℕ) → length (bitsCopied l from to n) ≡ length l
-unfolding bitsCopied
-length-bitsCopied l from to zero = refl
-length-bitsCopied l from to (suc n) =
-    length-set (bitsCopied l from to n) (to + n) (getD (bitsCopied l from to n) (from + n) 0) ∙ length-bitsCopied l from to n
-
-pub bitsCopied-last : (l : List ℕ) (from to n : ℕ)
-    → bitsCopied l from to (n + 1) ≡ set (bitsCopied l from to n) (to + n) (getD (bitsCopied l from to n) (from + n) 0)
-unfolding bitsCopied
-bitsCopied-last l from to n = rw add-one
-
-pub bitsCopied-first : (l : List ℕ) (from to n : ℕ) → bitsCopied l from to (suc n) ≡ bitsCopied (set l to (getD l from 0)) (suc from) (suc to) n
-unfolding bitsCopied
-bitsCopied-first l from to zero = rw (add-zero to, add-zero from)
-bitsCopied-first l from to (suc n) =
-    let e : to + suc n ≡ suc to + n = omega arith in
-    let g : from + suc n ≡ suc from + n = omega arith in
-    rw (e, g) (ap (λ x. set x (suc to + n) (getD x (suc from + n) 0)) (bitsCopied-first l from to n))
 
 -- rules for 0 cells, and for more
 pub skipped-zero : (n : ℕ) (m : Mach) → n ≡ 0 → skipped n m ≡ m
@@ -162,7 +112,7 @@ copied-zero n m e = rw e
 
 pub copied-some : (n : ℕ) (m : Mach) → (n ≡ 0 → ⊥)
     → copied n m
-    ≡ mach (bitsCopied (m .bits) (activeRead m .cursor) (activeWrite m .cursor) n) (writeMoved (forward n) m) (m .writeFrames)
+    ≡ mach (copyBits (m .bits) (activeRead m .cursor) (activeWrite m .cursor) n) (writeMoved (forward n) m) (m .writeFrames)
     (m .readFrames) (m .next)
 unfolding copied
 copied-some zero m h = absurd (h refl)
@@ -170,7 +120,7 @@ copied-some (suc n) m h = refl
 
 pub bitsWritten-some : (bs : List Bit) (m : Mach) → (length bs ≡ 0 → ⊥)
     → bitsWritten bs m
-    ≡ mach (bitsPut (m .bits) (activeWrite m .cursor) bs) (writeMoved (forward (length bs)) m) (m .writeFrames) (m .readFrames)
+    ≡ mach (sets (m .bits) (activeWrite m .cursor) bs) (writeMoved (forward (length bs)) m) (m .writeFrames) (m .readFrames)
     (m .next)
 unfolding bitsWritten
 bitsWritten-some [] m h = absurd (h refl)
@@ -178,5 +128,5 @@ bitsWritten-some (b ∷ bs) m h = refl
 
 -- one bit is a list of one
 pub bitWritten-list : (b : Bit) (m : Mach) → bitWritten b m ≡ bitsWritten (b ∷ []) m
-unfolding bitWritten bitsWritten bitsPut
+unfolding bitWritten bitsWritten
 bitWritten-list b m = refl

@@ -1,7 +1,7 @@
 -- What each rule needs of the machine, and what a term's run needs.
 -- `Safe t m` goes along the run of t on m: plain bounds in records at each rule, and of what follows a child only for the machine that the child leaves.
-use mathlib.Core.Path.{_≡_, refl}
-use mathlib.Core.List.{List, [], _∷_}
+use mathlib.Core.Path.{_≡_}
+use mathlib.Core.List.{List}
 use Prim.Native.Nat.{ℕ, _+_, _*_, _^_, _<_, _≤_}
 use native.Mathlib.Omega.{arith}
 use lib.ListN.{length}
@@ -11,6 +11,7 @@ use Rattle.report.specs.Values.{Val, padded}
 use Rattle.report.specs.Terms.{Term, iden, comp, unit, injl, injr, case, pair, take, drop, assertl, assertr, fail, witness, word, disconnect, bad}
 use Rattle.report.specs.Meaning.{done}
 use Rattle.scope.specs.Machine.{Frame}
+use Rattle.common.specs.Bits.{length-bits}
 use Rattle.layout.specs.Mach.{Mach, mach, activeWrite, activeRead}
 use Rattle.layout.specs.Rules.{pushed, moved, dropped, bitWritten, bitsWritten, skipped, copied, forwarded, peeked}
 use Rattle.layout.specs.Exec.{Outcome, Around, pairing, composing, disconnecting, firstOf, secondOf, runTerm, withInput, withOutput}
@@ -189,15 +190,9 @@ fed-kept h e g =
     let b = h .frames in
     record { cells = omega arith; frames = omega arith }
 
--- as many bits as eight to a byte
-pub length-bitsOf : (bytes : List ℕ) → length (bitsOf bytes) ≡ 8 * length bytes
-unfolding bitsOf
-length-bitsOf [] = refl
-length-bitsOf (b ∷ bs) = omega (arith, length-bitsOf bs)
-
 -- the bits of the lent cells are not more than a 32-bit number counts
 pub fed-bits : {cells frames : List ℕ} → Fed cells frames → length (bitsOf cells) ≤ 2 ^ 31
-fed-bits {cells} h = let a = h .cells in omega (arith, length-bitsOf cells)
+fed-bits {cells} h = let a = h .cells in omega (arith, length-bits cells)
 
 -- no sum that a rule makes passes 32 bits
 module _ {cells frames : List ℕ} {n : ℕ} {m : Mach} (h : Fed cells frames) where

@@ -83,7 +83,7 @@ fn print_bytes(v: &[u8]) {
     };
     let mut i: usize = 0;
     while i < v.len() {
-        row = row_after(row, packed::byte(v, i) as u32);
+        row = row_after(row, common::byte_at(v, i) as u32);
         i += 1;
     }
     print_row(row);
@@ -132,7 +132,7 @@ fn print_stores(cells: &[u8], frames: &[u32], answer: &[u8]) {
 fn print_head(record: &[u8]) {
     io::write_all(STDOUT_FILENO, part(record, NAME));
     io::write_all(STDOUT_FILENO, b", filled with ");
-    io::print_hex(STDOUT_FILENO, packed::byte(record, 11) as u64, 1);
+    io::print_hex(STDOUT_FILENO, common::byte_at(record, 11) as u64, 1);
     io::write_all(STDOUT_FILENO, b": ");
 }
 
@@ -188,7 +188,7 @@ fn size(record: &[u8], k: u32, most: usize) -> usize
 
 // A run on a table in stores of the record's sizes, filled as it says.
 fn show_run<'a>(record: &'a [u8], nodes: &'a [u32]) {
-    let fill = packed::byte(record, 11);
+    let fill = common::byte_at(record, 11);
     let old = fill as u32 * 16_843_009;
     let mut cells = [fill; CELLS];
     let mut frames = [old; FRAMES];

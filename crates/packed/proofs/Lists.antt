@@ -9,7 +9,6 @@ use lib.Dec.{eqb, ltb}
 use lib.ListN.{length, getD, take, drop, set, length-drop, drop-of-length-le, take-append-drop}
 use lib.Seq.{drop-cons, drop-set-lt, take-suc-set, append-snoc}
 use borrow.Author.Tests.{lt-ltb, le-ltb, eq-eqb, ne-eqb}
-use Rattle.scope.specs.Numbers.{be16, be32}
 use Rattle.packed.specs.Lists.{byFirst, firstNumber, afterNumber, unpackedPast, unpacked, headOr, tail, none, holdsNumbers, laid}
 
 -- the three kinds of a number, by its first byte

@@ -5,8 +5,6 @@ use denote.Ref.{now}
 use Rattle.promise.specs.Outcomes.{OneResult, OneSeen, OneOutcome, _&_}
 use Rattle.packed.proofs.after_first.Kinds as after-first-kinds
 use Rattle.packed.proofs.after_first.Reads as after-first-reads
-use Rattle.packed.proofs.byte.Kinds as byte-kinds
-use Rattle.packed.proofs.byte.Reads as byte-reads
 use Rattle.packed.proofs.counted.Kinds as counted-kinds
 use Rattle.packed.proofs.counted.Reads as counted-reads
 use Rattle.packed.proofs.first_record.Kinds as first-record-kinds
@@ -23,23 +21,10 @@ use Rattle.packed.proofs.laid.Kinds as laid-kinds
 use Rattle.packed.proofs.laid.Reads as laid-reads
 use Rattle.packed.proofs.number.Kinds as number-kinds
 use Rattle.packed.proofs.number.Reads as number-reads
-use Rattle.packed.proofs.number16.Kinds as number16-kinds
-use Rattle.packed.proofs.number16.Reads as number16-reads
-use Rattle.packed.proofs.number32.Kinds as number32-kinds
-use Rattle.packed.proofs.number32.Reads as number32-reads
 use Rattle.packed.proofs.part.Kinds as part-kinds
 use Rattle.packed.proofs.part.Reads as part-reads
 use Rattle.packed.proofs.tells.Kinds as tells-kinds
 use Rattle.packed.proofs.tells.Reads as tells-reads
-
-pub byte : OneResult 1 byte-kinds.ps byte-kinds.r byte-reads.Post
-byte κs a s t x y p q = p ∙ sym q
-
-pub number16 : OneResult 1 number16-kinds.ps number16-kinds.r number16-reads.Post
-number16 κs a s t x y p q = p ∙ sym q
-
-pub number32 : OneResult 1 number32-kinds.ps number32-kinds.r number32-reads.Post
-number32 κs a s t x y p q = p ∙ sym q
 
 pub number : OneResult 1 number-kinds.ps number-kinds.r number-reads.Post
 number κs a s t x y p q = p ∙ sym q

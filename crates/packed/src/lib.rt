@@ -1,9 +1,8 @@
 // Packed records of test data: numbers, the parts of a record, packed lists of numbers, and the tally that is printed of a file.
-// Every read has an answer past the end: a byte is 0 there, and a part or a record that is cut off is empty.
+// Every read has an answer past the end: numbers are 0 there, and a part or a record that is cut off is empty.
 ghost use mathlib.Core.Path.{_≡_};
-ghost use Prim.Native.Nat.{_+_, _*_, _^_, _<_};
-ghost use lib.ListN.{take, drop, getD};
-ghost use Rattle.scope.specs.Numbers.{be16, be32};
+ghost use Prim.Native.Nat.{_+_, _*_, _<_};
+ghost use lib.ListN.{take, drop};
 ghost use Rattle.packed.specs.Records.{number, whole, part, firstRecord, afterFirst, tells};
 ghost use Rattle.packed.specs.Lists.{unpacked, headOr, afterNumber, holdsNumbers, laid};
 ghost use Rattle.packed.specs.Tallies.{counted};
@@ -18,49 +17,11 @@ pub struct Tally {
     pub wrong: u32,
 }
 
-// The byte at a place; 0 past the end.
-pub fn byte(v: &[u8], at: usize) -> u8
-    ensures { λ r. ⌜ r ≡ getD (now (v .entry)) at 0 ⌝ }
-{
-    if at < v.len() { v[at] } else { 0 }
-}
-
-// A byte as a number with room for four of them.
-fn wide(b: u8) -> u32
-    ensures { λ r. ⌜ (r ≡ b) × (r < 256) ⌝ }
-{
-    b as u32
-}
-
-// The number of 16 bits at a place that is no largest one.
-fn half(v: &[u8], at: usize) -> u32
-    requires { ⌜ at + 1 < 2 ^ 64 ⌝ }
-    ensures { λ r. ⌜ (r ≡ be16 (now (v .entry)) at) × (r < 65536) ⌝ }
-{
-    wide(byte(v, at)) * 256 + wide(byte(v, at + 1))
-}
-
-// The number of 16 bits at a place.
-pub fn number16(v: &[u8], at: u32) -> u32
-    ensures { λ r. ⌜ r ≡ be16 (now (v .entry)) at ⌝ }
-{
-    half(v, at as usize)
-}
-
-// The number of 32 bits at a place.
-pub fn number32(v: &[u8], at: u32) -> u32
-    ensures { λ r. ⌜ r ≡ be32 (now (v .entry)) at ⌝ }
-{
-    let i = at as usize;
-    half(v, i) * 65536 + half(v, i + 2)
-}
-
 // Number k of a record.
 pub fn number(record: &[u8], k: u32) -> u32
     ensures { λ r. ⌜ r ≡ number (now («record» .entry)) k ⌝ }
 {
-    let i = 4 * k as usize;
-    half(record, i) * 65536 + half(record, i + 2)
+    common::number_at(record, 4 * k as usize)
 }
 
 // Whether a record begins with two numbers.
@@ -134,21 +95,21 @@ fn first_number(list: &[u8], rest: u32) -> u32
     if list.len() == 0 {
         return rest;
     }
-    let first = byte(list, 0);
+    let first = common::byte_at(list, 0);
     if first < 254 {
-        return wide(first);
+        return first as u32;
     }
     if first == 254 {
-        return half(list, 1);
+        return common::half_at(list, 1) as u32;
     }
-    number32(list, 1)
+    common::number_at(list, 1)
 }
 
 // A packed list after its first number.
 fn after_number(list: &[u8]) -> &[u8]
     ensures { λ r. ⌜ now r ≡ afterNumber (now (list .entry)) ⌝ }
 {
-    let first = byte(list, 0);
+    let first = common::byte_at(list, 0);
     if first < 254 {
         return from(list, 1);
     }

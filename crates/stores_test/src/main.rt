@@ -68,7 +68,7 @@ fn answer_right(record: &[u8], said: Answer) -> bool {
 
 // What stands in a store of numbers before the run: the record's byte four times.
 fn old_number(record: &[u8]) -> u32 {
-    packed::byte(record, 11) as u32 * 16_843_009
+    common::byte_at(record, 11) as u32 * 16_843_009
 }
 
 // Whether the two stores of numbers are left as the record says. Numbers past those told are zero in the node store, old in the frame store.
@@ -141,7 +141,7 @@ fn size(record: &[u8], k: u32, more: bool, most: usize) -> usize
 // A run in stores of the record's sizes, or with two numbers more in two of them, filled as it says.
 fn record_right(record: &[u8], odd: bool) -> bool {
     let old = old_number(record);
-    let fill = packed::byte(record, 11);
+    let fill = common::byte_at(record, 11);
     let mut nodes = [old; NODES];
     let mut hashes = [fill; HASHES];
     let mut cells = [fill; CELLS];

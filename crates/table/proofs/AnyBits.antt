@@ -2,7 +2,7 @@
 use mathlib.Core.Path.{_≡_, refl, sym, ap, ap₂, _∙_}
 use mathlib.Core.Bool.{Bool, true, false, not}
 use mathlib.Core.List.{List, [], _∷_}
-use Prim.Native.Nat.{ℕ, zero, suc, _+_, _-_, _<_, _≤_}
+use Prim.Native.Nat.{ℕ, zero, suc, _-_, _<_, _≤_}
 use native.Mathlib.Nat.{not-suc-le-zero}
 use native.Mathlib.Omega.{arith}
 use native.Mathlib.Decide.{decLt}
@@ -10,19 +10,20 @@ use lib.Dec.{eqb, ltb}
 use lib.ListN.{length, getD}
 use Rattle.refusal.specs.declared.Refusal.the-variants.{CanonicalOrder, HiddenElsewhere, BothHidden, HiddenRepeated}
 use Rattle.report.specs.Nodes.{Node}
-use Rattle.report.specs.Canonical.{children, upFrom}
-use Rattle.scope.specs.Check.{Check, passed, refused, _>>=_, require}
+use Rattle.report.specs.Canonical.{upFrom}
+use Rattle.scope.specs.Check.{Check, passed, _>>=_, require}
 use Rattle.scope.specs.Numbers.{every, anyBelow}
-use Rattle.scope.specs.Nodes.{Kind, kComp, kCase, kPair, kDisconnect, kInjl, kInjr, kTake, kDrop, kIden, kUnit, kFail, kDisconnect1, kWitness, kHidden, kWord, kUnknown, kindOf, NodeRecord, nodeOf, nodesOf, nodeAt, onHidden}
-use Rattle.scope.specs.Walk.{hiddenAt, hides, noneHidden, allowed, walkFrom, checkWalk}
+use Rattle.scope.specs.Nodes.{Kind, kComp, kCase, kPair, kDisconnect, kInjl, kInjr, kTake, kDrop, kIden, kUnit, kFail, kDisconnect1, kWitness, kHidden, kWord, kUnknown, kindOf, NodeRecord, nodeOf, nodesOf}
+use Rattle.scope.specs.Walk.{hiddenAt, noneHidden, allowed, checkWalk}
 use Rattle.scope.specs.Stages.{noRecord}
 use Rattle.exactness.specs.Walk.{count, arriveCount, walkCount, walk-past, check-walk-count}
 use Rattle.table.specs.Lent.{leftOf, rightOf}
 use Rattle.table.specs.Walking.{childWalk}
-use Rattle.table.proofs.Records.{length-nodes, node-at}
+use Rattle.common.specs.Nodes.{length-nodes, node-at}
 use Rattle.table.proofs.Groups.{same-children, few-children}
 use Rattle.table.proofs.Hashes.{hidden-kind, hides-kind}
-use Rattle.table.proofs.Steps.{then-same, walkBy, child-below, child-not-below, step-any}
+use Rattle.common.specs.Checks.{then-same}
+use Rattle.table.proofs.Steps.{walkBy, child-below, child-not-below, step-any}
 
 any-same : (n : ℕ) (f g : ℕ → Bool) → ((j : ℕ) → f j ≡ g j) → anyBelow n f ≡ anyBelow n g
 unfolding anyBelow

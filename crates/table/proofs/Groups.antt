@@ -1,9 +1,9 @@
 -- What the groups of kinds have in common: how many children, which rule of numbers, whether hidden.
 -- A law is shown kind by kind, and the code meets it as a test on the kind's number.
-use mathlib.Core.Path.{_≡_, refl, sym, ap, ap₂, _∙_}
-use mathlib.Core.Bool.{Bool, true, false, not}
+use mathlib.Core.Path.{_≡_, refl, sym, ap, _∙_}
+use mathlib.Core.Bool.{true, false}
 use mathlib.Core.List.{List, [], _∷_}
-use Prim.Native.Nat.{ℕ, zero, suc, _+_, _-_, _^_, _<_, _≤_}
+use Prim.Native.Nat.{ℕ, zero, suc, _<_, _≤_}
 use native.Mathlib.Omega.{arith}
 use lib.Dec.{eqb, ltb, leb}
 use lib.ListN.{length, getD, take, length-take, List·getD-eq-default}
@@ -12,7 +12,6 @@ use Rattle.report.specs.Canonical.{children}
 use Rattle.scope.specs.Numbers.{every}
 use Rattle.scope.specs.Nodes.{Kind, kComp, kCase, kPair, kDisconnect, kInjl, kInjr, kTake, kDrop, kIden, kUnit, kFail, kDisconnect1, kWitness, kHidden, kWord, kUnknown, kindOf, nodeOf, onHidden}
 use Rattle.scope.specs.Stages.{numbersRule}
-use Rattle.exactness.specs.Checks.{clash}
 use Rattle.table.specs.Lent.{childCount, hiddenKind, hashIs}
 
 -- the children are the first numbers, as many as the kind has

@@ -1,5 +1,4 @@
 pub mod Tests
-pub mod Records
 pub mod Groups
 pub mod Hashes
 pub mod Steps

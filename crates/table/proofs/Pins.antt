@@ -1,38 +1,26 @@
 -- What each public call promises has one outcome: over the call's own promise, `Post`, two results are the same.
-use mathlib.Core.Path.{_≡_, refl, sym, ap, _∙_}
+use mathlib.Core.Path.{_≡_, sym, ap, _∙_}
 use Rattle.promise.specs.Outcomes.{OneResult}
 use Rattle.scope.specs.Nodes.{NodeRecord}
-use Rattle.exactness.specs.Checks.{clash}
 use Rattle.table.specs.declared.NodeRecord.{NodeRecord as Lent}
-use Rattle.table.specs.declared.Checked.{Checked}
-use Rattle.table.specs.declared.Checked.the-variants.{Passed, Refused}
-use Rattle.table.specs.Answers.{recordOf, checkOf}
+use Rattle.common.specs.Answers.{check-tells}
+use Rattle.table.specs.Answers.{recordOf}
 use Rattle.table.proofs.check_count.Kinds as check-count-kinds
 use Rattle.table.proofs.check_count.Reads as check-count-reads
 use Rattle.table.proofs.check_records.Kinds as check-records-kinds
 use Rattle.table.proofs.check_records.Reads as check-records-reads
-use Rattle.table.proofs.first_refusal.Kinds as first-refusal-kinds
-use Rattle.table.proofs.first_refusal.Reads as first-refusal-reads
 use Rattle.table.proofs.hidden_at.Kinds as hidden-at-kinds
 use Rattle.table.proofs.hidden_at.Reads as hidden-at-reads
 use Rattle.table.proofs.record_at.Kinds as record-at-kinds
 use Rattle.table.proofs.record_at.Reads as record-at-reads
 use Rattle.table.proofs.record_holds.Kinds as record-holds-kinds
 use Rattle.table.proofs.record_holds.Reads as record-holds-reads
-use Rattle.table.proofs.same_bytes.Kinds as same-bytes-kinds
-use Rattle.table.proofs.same_bytes.Reads as same-bytes-reads
 use Rattle.table.proofs.walk.Kinds as walk-kinds
 use Rattle.table.proofs.walk.Reads as walk-reads
 use Rattle.table.proofs.walk_stage.Kinds as walk-stage-kinds
 use Rattle.table.proofs.walk_stage.Reads as walk-stage-reads
 
--- a check's answer tells it, and a record's numbers tell it
-pub check-tells : (c d : Checked) → checkOf c ≡ checkOf d → c ≡ d
-check-tells Passed Passed e = refl
-check-tells Passed (Refused why) e = clash (cc)
-check-tells (Refused why) Passed e = clash (cc)
-check-tells (Refused why) (Refused other) e = ap Refused (cc)
-
+-- a record's numbers tell it
 pub record-tells : (r q : Lent) → recordOf r ≡ recordOf q → r ≡ q
 record-tells r q e = ap (λ (x : NodeRecord). record { kind = x .kind; first = x .first; second = x .second; third = x .third }) e
 
@@ -56,9 +44,3 @@ walk-stage κs a s t x y p q = check-tells s t (p ∙ sym q)
 
 pub hidden-at : OneResult 1 hidden-at-kinds.ps hidden-at-kinds.r hidden-at-reads.Post
 hidden-at κs a s t x y p q = p ∙ sym q
-
-pub same-bytes : OneResult 2 same-bytes-kinds.ps same-bytes-kinds.r same-bytes-reads.Post
-same-bytes κs a s t x y p q = p ∙ sym q
-
-pub first-refusal : OneResult 0 first-refusal-kinds.ps first-refusal-kinds.r first-refusal-reads.Post
-first-refusal κs a s t x y p q = check-tells s t (p ∙ sym q)

@@ -1,75 +1,43 @@
 -- The passes and the stage over a lent table, in the order in which the code finds their answers.
-use mathlib.Core.Path.{_≡_, refl, sym, ap, ap₂, _∙_}
-use mathlib.Core.Bool.{Bool, true, false, not}
+use mathlib.Core.Path.{_≡_, refl, sym, ap, _∙_}
+use mathlib.Core.Bool.{Bool, not}
 use mathlib.Core.List.{List, []}
-use Prim.Native.Nat.{ℕ, zero, suc, _+_, _*_, _-_, _/_, _<_, _≤_}
-use native.Mathlib.Numerals.{add-one}
+use Prim.Native.Nat.{ℕ, _*_, _-_, _/_, _<_, _≤_}
 use native.Mathlib.Omega.{arith}
-use lib.Dec.{eqb, leb}
+use lib.Dec.{leb}
 use lib.ListN.{length, getD}
 use borrow.Author.Tests.{eq-eqb, ne-eqb, le-leb, lt-leb}
 use Rattle.limits.specs.Limits.{nodeCount, nodeNumbers, dossierBytes}
 use Rattle.refusal.specs.declared.Refusal.{Refusal}
 use Rattle.refusal.specs.declared.Refusal.the-variants.{Header, HiddenElsewhere, NodeRecord as BadNodeRecord}
-use Rattle.scope.specs.Check.{Check, passed, refused, _>>=_, require, firstFailing, each}
+use Rattle.scope.specs.Check.{passed, refused, _>>=_, require, firstFailing, each}
 use Rattle.scope.specs.Numbers.{streamOf}
 use Rattle.scope.specs.Nodes.{kindOf, NodeRecord, nodeRecords, nodesOf}
 use Rattle.scope.specs.Walk.{hiddenAt, checkWalk}
 use Rattle.scope.specs.Stages.{counted, numbersRule, noRecord, recordRule, checkRecords, walkStage}
-use Rattle.exactness.specs.Checks.{both-passed}
+use Rattle.common.specs.Checks.{both-passed, then-then, then-passes, then-refuses}
 use Rattle.exactness.specs.Walk.{walkCount, check-walk-count}
-use Rattle.table.specs.declared.Checked.{Checked}
-use Rattle.table.specs.declared.Checked.the-variants.{Refused}
-use Rattle.table.specs.Answers.{checkOf}
+use Rattle.common.specs.declared.Checked.{Checked}
+use Rattle.common.specs.declared.Checked.the-variants.{Refused}
+use Rattle.common.specs.Answers.{checkOf}
 use Rattle.table.specs.Lent.{lentNodes}
 use Rattle.table.specs.Stage.{countedRecords, countedWalk}
-use Rattle.table.proofs.Records.{length-records, length-nodes}
+use Rattle.common.specs.Nodes.{length-records, length-nodes}
 use Rattle.table.proofs.Hashes.{hidden-kind}
-use Rattle.table.proofs.Steps.{then-then}
 use Rattle.table.proofs.AnyBits.{walk-any-bits}
-
--- checks in a row: the first refuses, or passes and the others follow
-pub first-refused : {X Y : Type 0} (c : Check X) (f : X → Check Y) (why : Refusal) → c ≡ refused why → (c >>= f) ≡ refused why
-unfolding _>>=_
-first-refused c f why e = rw e
-
-pub first-passed : {X Y : Type 0} (c : Check X) (f : X → Check Y) (x : X) → c ≡ passed x → (c >>= f) ≡ f x
-unfolding _>>=_
-first-passed c f x e = rw e
-
--- the first number at which a test fails, sought from i on: i itself, or after it, or none
-pub from-the-first : (test : ℕ → Bool) (n : ℕ) → firstFailing test n 0 ≡ firstFailing test (n - 0) 0
-from-the-first test n = let p : n ≡ n - 0 = omega arith in ap (λ (k : ℕ). firstFailing test k 0) p
-
-module _ (test : ℕ → Bool) (n i : ℕ) where
-  pub fails-here : i < n → test i ≡ false → firstFailing test (n - i) i ≡ i
-  unfolding firstFailing
-  fails-here h e = go (n - i) (omega arith)
-    where
-      go : (k : ℕ) → 0 < k → firstFailing test k i ≡ i
-      go zero l = absurd (omega arith)
-      go (suc k) l = rw (e, firstFailing)
-
-  pub holds-here : i < n → test i ≡ true → firstFailing test (n - i) i ≡ firstFailing test (n - (i + 1)) (i + 1)
-  unfolding firstFailing
-  holds-here h e = let p : n - i ≡ suc (n - (i + 1)) = omega arith in ap (λ (k : ℕ). firstFailing test k i) p ∙ (rw (e, firstFailing, ← add-one i))
-
-  pub none-fails : i ≡ n → firstFailing test (n - i) i ≡ n
-  unfolding firstFailing
-  none-fails e = let p : n - i ≡ 0 = omega arith in ap (λ (k : ℕ). firstFailing test k i) p ∙ e
 
 -- 4 refuses before 26 and before the walk
 pub count-refuses : (program hashes nodes : List ℕ) (c : Checked) (why : Refusal) → checkOf c ≡ counted (length (nodeRecords nodes)) nodeCount → c ≡ Refused why
     → checkOf c ≡ countedRecords program hashes nodes
 unfolding countedRecords
 count-refuses program hashes nodes c why e told =
-    ap checkOf told ∙ sym (first-refused _ (λ some. checkRecords program hashes (nodeRecords nodes)) why (sym e ∙ ap checkOf told))
+    ap checkOf told ∙ sym (then-refuses _ (λ some. checkRecords program hashes (nodeRecords nodes)) why (sym e ∙ ap checkOf told))
 
 pub count-refuses-walk : (hashes nodes : List ℕ) (c : Checked) (why : Refusal) → checkOf c ≡ counted (length (nodeRecords nodes)) nodeCount → c ≡ Refused why
     → checkOf c ≡ countedWalk hashes nodes
 unfolding countedWalk
 count-refuses-walk hashes nodes c why e told =
-    ap checkOf told ∙ sym (first-refused _ (λ some. checkWalk (lentNodes hashes nodes)) why (sym e ∙ ap checkOf told))
+    ap checkOf told ∙ sym (then-refuses _ (λ some. checkWalk (lentNodes hashes nodes)) why (sym e ∙ ap checkOf told))
 
 -- what a table's records are held to
 abbrev pub ruleOf : (program hashes nodes : List ℕ) → ℕ → Bool
@@ -85,7 +53,7 @@ module _ (program hashes nodes : List ℕ) (fine : counted (length (nodeRecords 
   -- 26 after a count that is fine: the first record that breaks its rule, or none
   records-then : countedRecords program hashes nodes ≡ checkRecords program hashes (nodeRecords nodes)
   unfolding countedRecords
-  records-then = first-passed _ (λ some. checkRecords program hashes (nodeRecords nodes)) tt fine
+  records-then = then-passes _ (λ some. checkRecords program hashes (nodeRecords nodes)) tt fine
 
   pub record-breaks : (i : ℕ) → firstFailing (ruleOf program hashes nodes) (length nodes / nodeNumbers) 0 ≡ i → i < length nodes / nodeNumbers
       → refused (BadNodeRecord i) ≡ countedRecords program hashes nodes
@@ -101,7 +69,7 @@ module _ (hashes nodes : List ℕ) (fine : counted (length (nodeRecords nodes)) 
   -- the walk after a count that is fine
   pub walk-then : countedWalk hashes nodes ≡ checkWalk (lentNodes hashes nodes)
   unfolding countedWalk
-  walk-then = first-passed _ (λ some. checkWalk (lentNodes hashes nodes)) tt fine
+  walk-then = then-passes _ (λ some. checkWalk (lentNodes hashes nodes)) tt fine
 
   by-count : countedWalk hashes nodes
       ≡ (walkCount (lentNodes hashes nodes) (length nodes / nodeNumbers - 1) 0
@@ -113,14 +81,14 @@ module _ (hashes nodes : List ℕ) (fine : counted (length (nodeRecords nodes)) 
 
   -- it stops on its way, or its last node is hidden, or it passes
   pub walk-stops : (why : Refusal) → walkCount (lentNodes hashes nodes) (length nodes / nodeNumbers - 1) 0 ≡ refused why → refused why ≡ countedWalk hashes nodes
-  walk-stops why e = sym (by-count ∙ first-refused _ _ why e)
+  walk-stops why e = sym (by-count ∙ then-refuses _ _ why e)
 
   pub walk-ends : (k : ℕ) (b : Bool) → walkCount (lentNodes hashes nodes) (length nodes / nodeNumbers - 1) 0 ≡ passed k
       → b ≡ hiddenAt (lentNodes [] nodes) (length nodes / nodeNumbers - 1)
       → require (not b) (HiddenElsewhere (length nodes / nodeNumbers - 1)) ≡ countedWalk hashes nodes
   walk-ends k b e h =
       let last = length nodes / nodeNumbers - 1 in
-      sym (by-count ∙ first-passed _ (λ all. require (not (hiddenAt (lentNodes hashes nodes) last)) (HiddenElsewhere last)) k e
+      sym (by-count ∙ then-passes _ (λ all. require (not (hiddenAt (lentNodes hashes nodes) last)) (HiddenElsewhere last)) k e
       ∙ ap (λ (x : Bool). require (not x) (HiddenElsewhere last)) (hidden-kind [] hashes (nodeRecords nodes) last ∙ sym (hidden-kind [] [] (nodeRecords nodes) last) ∙ sym h))
 
 -- the stage: 4 and 26 refuse, or the program is too long, or the walk answers
@@ -133,7 +101,7 @@ module _ (program hashes nodes : List ℕ) where
       (λ records. require (leb (length program) dossierBytes) (Header 0) >>= λ fits. checkWalk (nodesOf (streamOf program) hashes (nodeRecords nodes))))
 
   pub stage-refused : (why : Refusal) → countedRecords program hashes nodes ≡ refused why → refused why ≡ walkStage program hashes nodes
-  stage-refused why e = sym (stage-by ∙ first-refused _ _ why e)
+  stage-refused why e = sym (stage-by ∙ then-refuses _ _ why e)
 
   pub stage-too-long : countedRecords program hashes nodes ≡ passed tt → dossierBytes < length program → refused (Header 0) ≡ walkStage program hashes nodes
   unfolding require _>>=_

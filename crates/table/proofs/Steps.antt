@@ -3,12 +3,12 @@
 use mathlib.Core.Path.{_≡_, refl, sym, ap, ap₂, _∙_}
 use mathlib.Core.Bool.{Bool, true, false, not}
 use mathlib.Core.List.{List, [], _∷_, _++_}
-use Prim.Native.Nat.{ℕ, zero, suc, _+_, _-_, _<_, _≤_}
+use Prim.Native.Nat.{ℕ, suc, _+_, _<_, _≤_}
 use native.Mathlib.Nat.{zero-add}
 use native.Mathlib.Omega.{arith}
 use native.Mathlib.Decide.{decLt}
-use lib.Dec.{eqb, ltb, leb}
-use lib.ListN.{length, getD, take}
+use lib.Dec.{eqb, ltb}
+use lib.ListN.{length, getD}
 use lib.Seq.{getD-take}
 use borrow.Author.Tests.{lt-ltb, le-ltb, eqb-true}
 use Rattle.refusal.specs.declared.Refusal.{Refusal}
@@ -19,34 +19,16 @@ use Rattle.report.specs.Canonical.{children, upFrom}
 use Rattle.scope.specs.Check.{Check, passed, refused, _>>=_, require}
 use Rattle.scope.specs.Numbers.{every}
 use Rattle.scope.specs.Nodes.{Kind, kindOf, NodeRecord, nodeRecords, nodeOf, nodeAt, onHidden}
-use Rattle.scope.specs.Walk.{hiddenAt, noneHidden, allowed, walkEach, walkMake, walkFrom, checkWalk}
+use Rattle.scope.specs.Walk.{hiddenAt, noneHidden, allowed, walkEach, walkMake, walkFrom}
 use Rattle.scope.specs.Stages.{noRecord}
-use Rattle.exactness.specs.Checks.{clash, require-holds, both-passed}
-use Rattle.exactness.specs.Table.{before-none}
+use Rattle.common.specs.Checks.{clash, require-holds, both-passed, then-same, then-then, then-nothing}
+use Rattle.common.specs.Tables.{before-none}
 use Rattle.exactness.specs.Walk.{length-upFrom, upFrom-more, done-below, arrive, arriveCount, count, walkCount, walksBefore, walkNode, walk-at, walk-is-count}
 use Rattle.table.specs.Lent.{lentNodes, nodeIs, hiddenKind, leftOf, rightOf}
 use Rattle.table.specs.Walking.{childrenRule, repeatRule, childWalk}
-use Rattle.table.proofs.Records.{length-nodes, node-at}
+use Rattle.common.specs.Nodes.{length-nodes, node-at}
 use Rattle.table.proofs.Groups.{by-kind, unknown, same-children, few-children}
 use Rattle.table.proofs.Hashes.{hidden-kind}
-
--- a check that asks nothing more
-pub then-nothing : (c : Check (Unit {0})) → (c >>= λ x. passed tt) ≡ c
-unfolding _>>=_
-then-nothing (passed x) = refl
-then-nothing (refused r) = refl
-
--- checks in a row, grouped either way
-pub then-then : {X Y Z : Type 0} (c : Check X) (f : X → Check Y) (g : Y → Check Z) → (c >>= f >>= g) ≡ (c >>= λ x. f x >>= g)
-unfolding _>>=_
-then-then (passed x) f g = refl
-then-then (refused r) f g = refl
-
--- the second of two checks in a row may be replaced by an equal one
-pub then-same : {X Y : Type 0} (c : Check X) (f g : X → Check Y) → ((x : X) → f x ≡ g x) → (c >>= f) ≡ (c >>= g)
-unfolding _>>=_
-then-same (passed x) f g e = e x
-then-same (refused r) f g e = refl
 
 module _ (nodes : List Node) (i : ℕ) where
   two-shown : (a b : ℕ) → noneHidden nodes i (a ∷ b ∷ []) ≡ childrenRule false (hiddenAt nodes a) (hiddenAt nodes b) i

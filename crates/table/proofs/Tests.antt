@@ -1,30 +1,16 @@
 -- The tests of a record's numbers as the code makes them: one after the other, and a word's last bit by whole bytes.
-use mathlib.Core.Path.{_≡_, refl, sym, ap, ap₂, _∙_}
+use mathlib.Core.Path.{_≡_, sym, ap, ap₂, _∙_}
 use mathlib.Core.Bool.{Bool, true, false}
 use mathlib.Core.List.{[], _∷_}
-use Prim.Native.Nat.{ℕ, _+_, _*_, _-_, _/_, _%_, _^_, _<_, _≤_}
-use native.Mathlib.Nat.{one-mul, mod-eq-of-lt}
+use Prim.Native.Nat.{ℕ, _+_, _*_, _-_, _/_, _^_, _<_, _≤_}
 use native.Mathlib.Omega.{arith}
 use native.Mathlib.Decide.{decLt}
 use lib.Dec.{eqb, leb}
-use lib.Pow.{pow-lt}
 use borrow.Author.Tests.{le-leb, lt-leb, eq-eqb, ne-eqb}
 use Rattle.limits.specs.Limits.{wordMost}
 use Rattle.scope.specs.Numbers.{every}
 use Rattle.scope.specs.Stages.{numbersRule}
 use Rattle.table.specs.Lent.{wordRule}
-
-pub every-one : (b : Bool) → every (b ∷ []) ≡ b
-unfolding every
-every-one true = refl
-every-one false = refl
-
--- a word of at most 32 has 2^(n - 1) bits, which fit 32 binary digits
-pub word-exact : (n : ℕ) → n ≤ wordMost → 1 * 2 ^ (n - 1) % 2 ^ 64 ≡ 2 ^ (n - 1)
-word-exact n h = let e : 1 * 2 ^ (n - 1) ≡ 2 ^ (n - 1) = one-mul (2 ^ (n - 1)) in ap (λ (x : ℕ). x % 2 ^ 64) e ∙ mod-eq-of-lt (pow-lt {j = 64} (omega arith))
-
-pub word-small : (n : ℕ) → n ≤ wordMost → 2 ^ (n - 1) < 2 ^ wordMost
-word-small n h = pow-lt {j = wordMost} (omega arith)
 
 -- so many bits are within so many bytes exactly if the bytes that hold them are
 whole-bytes : (end bytes : ℕ) → leb end (8 * bytes) ≡ leb ((end + 7) / 8) bytes

@@ -1,14 +1,11 @@
 -- A lent table as the report's nodes, and what a walk reads off one record: its children, whether it is hidden, its hash.
 use mathlib.Core.Bool.{Bool, true, false}
-use mathlib.Core.List.{List, [], _∷_}
-use Prim.Native.Nat.{ℕ, _+_, _-_, _^_}
-use lib.Dec.{eqb, leb}
+use mathlib.Core.List.{List, []}
+use Prim.Native.Nat.{ℕ}
 use lib.ListN.{length, getD}
-use Rattle.limits.specs.Limits.{wordMost}
 use Rattle.report.specs.Nodes.{Node}
 use Rattle.report.specs.Canonical.{children}
-use Rattle.scope.specs.Numbers.{every}
-use Rattle.scope.specs.Nodes.{Kind, kWord, kindOf, NodeRecord, nodeRecords, nodeOf, nodesOf, onHidden}
+use Rattle.scope.specs.Nodes.{kWord, kindOf, NodeRecord, nodeRecords, nodeOf, nodesOf, onHidden}
 use Rattle.scope.specs.Stages.{numbersRule}
 
 -- the nodes of a lent table; a word's bits play no part in a walk and are left out

@@ -3,7 +3,7 @@ use mathlib.Core.List.{List}
 use Prim.Native.Nat.{ℕ}
 use lib.ListN.{length}
 use Rattle.limits.specs.Limits.{nodeCount}
-use Rattle.scope.specs.Check.{Check, passed, refused, _>>=_}
+use Rattle.scope.specs.Check.{Check, _>>=_}
 use Rattle.scope.specs.Nodes.{nodeRecords}
 use Rattle.scope.specs.Walk.{checkWalk}
 use Rattle.scope.specs.Stages.{counted, checkRecords}

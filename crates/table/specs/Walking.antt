@@ -8,16 +8,12 @@ use lib.ListN.{length}
 use Rattle.limits.specs.Limits.{nodeCount}
 use Rattle.refusal.specs.declared.Refusal.the-variants.{HiddenElsewhere, BothHidden, HiddenRepeated}
 use Rattle.report.specs.Nodes.{Node}
-use Rattle.scope.specs.Check.{Check, passed, refused, _>>=_, require}
+use Rattle.scope.specs.Check.{Check, passed, _>>=_, require}
 use Rattle.scope.specs.Numbers.{every, anyBelow}
 use Rattle.scope.specs.Nodes.{nodeRecords}
 use Rattle.scope.specs.Walk.{hides}
 use Rattle.exactness.specs.Walk.{walkCount}
 use Rattle.table.specs.Lent.{hashIs}
-
--- one check and then the other: the first refusal is the answer
-abbrev pub inTurn : (first second : Check (Unit {0})) → Check (Unit {0})
-inTurn first second = first >>= λ x. second
 
 -- the children of node i, of which these are hidden, under a case or elsewhere
 unfoldable pub childrenRule : (isCase left right : Bool) → (i : ℕ) → Check (Unit {0})

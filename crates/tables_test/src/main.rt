@@ -1,10 +1,10 @@
 // Lends the tables of the file `lent` to the walk's stage, decodes the programs of the file `programs`, and prints how many there were
 // and how many came out otherwise than the files say, stores included.
 // data/README.md says what stands in a record, and how the files were made.
+use common::Checked;
 use decode::Decoded;
 use packed::Tally;
 use refusal::Refusal;
-use table::Checked;
 
 // The numbers of a store of nodes, room for a record more than a table may have and for a part of one.
 const NUMBERS: usize = 8_200;

@@ -24,8 +24,8 @@ use Rattle.scope.specs.Witness.{checkWitness}
 use Rattle.scope.specs.Input.{checkInput}
 use Rattle.scope.specs.Stores.{checkStores}
 use Rattle.scope.specs.Run.{Tables, programOf, Ready, checkTables, checkReady, Left, cellsOf, cleared, ran, runTables}
-use Rattle.exactness.specs.Checks.{clash, both-passed}
-use Rattle.exactness.specs.Bits.{AllBelow}
+use Rattle.common.specs.Checks.{clash, both-passed}
+use Rattle.common.specs.Bits.{AllBelow}
 use Rattle.exactness.specs.Types.{types-pass}
 use Rattle.exactness.specs.Arrows.{arrows-pass}
 use Rattle.exactness.specs.Hidden.{HiddenPlaces, places-allowed, places-last}

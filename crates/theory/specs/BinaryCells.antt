@@ -12,7 +12,7 @@ use Rattle.report.specs.Values.{Val, ⟨⟩, inl, inr, _&_, Cells, padded}
 use Rattle.report.specs.Terms.{Term, iden, comp, unit, injl, injr, case, pair, take, drop, assertl, assertr, fail, witness, word, disconnect, bad}
 use Rattle.report.specs.Meaning.{Out, done, failed, pruned, stuck, _>>=_}
 use Rattle.scope.specs.Machine.{Frame, frameFrom, State, Step, state, need, reset, setCell, putBits, copyCells, forward, backward, inFrame, newFrame, moveFrame, dropFrame, writeBits, skip, copy, fwd, back, peek, exec, input, output, machine}
-use Rattle.exactness.specs.Bits.{AreBits, below-append}
+use Rattle.common.specs.Bits.{AreBits, below-append}
 
 -- every cell is 0 or 1
 abbrev pub BitCells : Cells → Type 0

@@ -12,6 +12,7 @@ use Rattle.report.specs.Types.{Ty, one, sum, prod, width, padL, padR}
 use Rattle.report.specs.Values.{Val, inl, inr, _&_, HasTy, Cells, padded, valueAt}
 use Rattle.scope.specs.Machine.{setCell, putBits, copyCells}
 use Rattle.exactness.specs.Values.{Hold, value-held}
+use Rattle.common.specs.Cells.{setCell-other, setCell-same}
 
 -- j is one of the n places from `at` on
 abbrev pub In : (at n j : ℕ) → Type 0
@@ -29,27 +30,17 @@ Same c a d b n = (k : ℕ) → k < n → c (a + k) ≡ d (b + k)
 abbrev pub Kept : (at n nx x : ℕ) → Cells → Cells → Type 0
 Kept at n nx x c d = (j : ℕ) → (In at n j → ⊥) → (In nx x j → ⊥) → d j ≡ c j
 
--- a cell that is set
-set-here : (c : Cells) (at : ℕ) (b : Bit) → setCell c at b at ≡ b
-unfolding setCell
-set-here c at b = rw (eq-eqb at at refl, setCell)
-
--- the other cells
-set-other : (c : Cells) (at : ℕ) (b : Bit) (j : ℕ) → (j ≡ at → ⊥) → setCell c at b j ≡ c j
-unfolding setCell
-set-other c at b j h = rw (ne-eqb j at h, setCell)
-
 -- bits written: elsewhere the cells are as they were
 pub bits-out : (c : Cells) (at : ℕ) (bs : List Bit) (j : ℕ) → (In at (length bs) j → ⊥) → putBits c at bs j ≡ c j
 unfolding putBits
 bits-out c at [] j out = refl
-bits-out c at (b ∷ bs) j out = bits-out (setCell c at b) (suc at) bs j (λ i. out (omega arith)) ∙ set-other c at b j (λ e. out (omega arith))
+bits-out c at (b ∷ bs) j out = bits-out (setCell c at b) (suc at) bs j (λ i. out (omega arith)) ∙ setCell-other c j at b (λ e. out (omega arith))
 
 -- and the places from `at` on hold them
 pub bits-in : (c : Cells) (at : ℕ) (bs : List Bit) (k : ℕ) → k < length bs → putBits c at bs (at + k) ≡ getD bs k 0
 unfolding putBits
 bits-in c at [] k l = absurd (not-suc-le-zero l)
-bits-in c at (b ∷ bs) zero l = rw (add-zero at) (bits-out (setCell c at b) (suc at) bs at (omega arith) ∙ set-here c at b)
+bits-in c at (b ∷ bs) zero l = rw (add-zero at) (bits-out (setCell c at b) (suc at) bs at (omega arith) ∙ setCell-same c at at b refl)
 bits-in c at (b ∷ bs) (suc k) l =
     let e : at + suc k ≡ suc at + k = omega arith in
     ap (putBits (setCell c at b) (suc at) bs) e ∙ bits-in (setCell c at b) (suc at) bs k (omega arith)
@@ -67,20 +58,20 @@ pub copy-out : (c : Cells) (from to n j : ℕ) → (In to n j → ⊥) → copyC
 unfolding copyCells
 copy-out c from to zero j out = refl
 copy-out c from to (suc n) j out =
-    copy-out (setCell c to (c from)) (suc from) (suc to) n j (λ i. out (omega arith)) ∙ set-other c to (c from) j (λ e. out (omega arith))
+    copy-out (setCell c to (c from)) (suc from) (suc to) n j (λ i. out (omega arith)) ∙ setCell-other c j to (c from) (λ e. out (omega arith))
 
 -- and where the ranges are apart, the places from `to` on hold what stood from `from` on
 pub copy-in : (c : Cells) (from to n : ℕ) → Apart from n to n → Same (copyCells c from to n) to c from n
 unfolding copyCells
 copy-in c from to zero apart k l = absurd (not-suc-le-zero l)
 copy-in c from to (suc n) apart zero l =
-    rw (add-zero to, add-zero from) (copy-out (setCell c to (c from)) (suc from) (suc to) n to (omega arith) ∙ set-here c to (c from))
+    rw (add-zero to, add-zero from) (copy-out (setCell c to (c from)) (suc from) (suc to) n to (omega arith) ∙ setCell-same c to to (c from) refl)
 copy-in c from to (suc n) apart (suc k) l =
     let d : Cells = setCell c to (c from) in
     let e : to + suc k ≡ suc to + k = omega arith in
     let f : suc from + k ≡ from + suc k = omega arith in
     ap (copyCells d (suc from) (suc to) n) e ∙ copy-in d (suc from) (suc to) n (λ j p q. apart j (omega arith) (omega arith)) k (omega arith)
-    ∙ set-other c to (c from) (suc from + k) (λ q. apart to (omega arith) (omega arith)) ∙ ap c f
+    ∙ setCell-other c (suc from + k) to (c from) (λ q. apart to (omega arith) (omega arith)) ∙ ap c f
 
 -- cells copied part by part
 pub copy-append : (c : Cells) (from to m n : ℕ) → copyCells (copyCells c from to m) (from + m) (to + m) n ≡ copyCells c from to (m + n)

@@ -12,7 +12,7 @@ use Rattle.report.specs.Typing.{Typed}
 use Rattle.report.specs.Meaning.{Out, done, failed, pruned, stuck, _>>=_, Means, eval}
 use Rattle.scope.specs.Machine.{Frame, State, Step, state, exec}
 use Rattle.scope.specs.Bounds.{Bound, bounds}
-use Rattle.exactness.specs.Checks.{clash}
+use Rattle.common.specs.Checks.{clash}
 use Rattle.theory.specs.Cells.{Apart, Kept}
 use Rattle.theory.specs.Meets.{Agrees, meets}
 use Rattle.theory.specs.Instructions.{At, advance}

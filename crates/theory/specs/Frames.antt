@@ -14,6 +14,7 @@ use Rattle.report.specs.Typing.{Typed, Iden, Comp, Unit·, Injl, Injr, Case, Pa
 use Rattle.report.specs.Meaning.{Out, done, failed, pruned, stuck, _>>=_}
 use Rattle.scope.specs.Machine.{Frame, frameFrom, State, state, forward, reset, putBits, copyCells, moveFrame, writeBits, skip, fwd, back, exec}
 use Rattle.scope.specs.Bounds.{Bound, bounds}
+use Rattle.layout.specs.Match.{bind-bind}
 use Rattle.theory.specs.Cursors.{onCells}
 use Rattle.theory.specs.Instructions.{At, advance, advance-none, advance-advance, length-advance, at-less, at-advance, newFrame-does, writeBits-does, skip-does, copy-does, fwd-does, back-does, peek-does, dropFrame-does, value-does}
 
@@ -24,14 +25,6 @@ bind-last (done x) f k g h = h x
 bind-last (failed p y) f k g h = refl
 bind-last (pruned p y) f k g h = refl
 bind-last stuck f k g h = refl
-
--- brackets do not matter
-bind-bind : {W X Y Z : Type 0} (o : Out W X) (f : X → Out W Y) (g : Y → Out W Z) → ((o >>= f) >>= g) ≡ (o >>= λ x. f x >>= g)
-unfolding _>>=_
-bind-bind (done x) f g = refl
-bind-bind (failed p y) f g = refl
-bind-bind (pruned p y) f g = refl
-bind-bind stuck f g = refl
 
 -- of a run that stopped, the cells alone
 unfoldable pub bare : {X : Type 0} → Out State X → Out Cells X

@@ -21,9 +21,9 @@ use Rattle.scope.specs.Nodes.{nodeAt, onHidden, onDisconnect}
 use Rattle.scope.specs.Walk.{hiddenAt}
 use Rattle.scope.specs.Hashes.{countPlace, rights, whole, entry, clash, checkHashes, entryFor, branchHash}
 use Rattle.scope.specs.Program.{valueFrom}
-use Rattle.exactness.specs.Checks as Checks
-use Rattle.exactness.specs.Checks.{not-both, both-passed, require-holds}
-use Rattle.exactness.specs.Bits.{length-bits}
+use Rattle.common.specs.Checks as Checks
+use Rattle.common.specs.Checks.{not-both, both-passed, require-holds}
+use Rattle.common.specs.Bits.{length-bits}
 use Rattle.theory.specs.Values.{word-from}
 
 -- a node that is not hidden has no hash of its own

@@ -27,8 +27,8 @@ use Rattle.scope.specs.Program.{Program, whole, wholeSource}
 use Rattle.scope.specs.Bounds.{wholeCells, wholeFrames}
 use Rattle.scope.specs.Stores.{checkStores}
 use Rattle.scope.specs.Run.{Tables, Ready, checkTables, checkReady, tablesOf, checkDossier, leftWith, runTables, cellsOf, cleared, Ended, ended, run}
-use Rattle.exactness.specs.Checks.{clash, both-passed}
-use Rattle.exactness.specs.Bits.{AllBelow}
+use Rattle.common.specs.Checks.{clash, both-passed}
+use Rattle.common.specs.Bits.{AllBelow}
 use Rattle.exactness.specs.Nodes.{ContentFits, NodeFits, WellFormed, fit-at}
 use Rattle.exactness.specs.Canonical.{canonical-walk}
 use Rattle.exactness.specs.Programs.{IsProgram}

@@ -20,16 +20,12 @@ use Rattle.scope.specs.Walk.{checkWalk}
 use Rattle.scope.specs.Program.{whole}
 use Rattle.scope.specs.Run.{Tables, Ready, checkTables, checkReady, Left}
 use Rattle.scope.specs.Stages.{counted, recordRule, checkRecords, lentTables, lent, hashStage, runStage}
-use Rattle.exactness.specs.Checks.{every-all, both-passed, require-holds, each-holds}
-use Rattle.exactness.specs.Bits.{length-bits}
-use Rattle.theory.specs.Records.{length-nodes, records-below, records-word}
+use Rattle.common.specs.Checks.{every-all, both-passed, require-holds, each-holds}
+use Rattle.common.specs.Bits.{length-bits, length-within}
+use Rattle.common.specs.Nodes.{length-nodes}
+use Rattle.theory.specs.Records.{records-below, records-word}
 use Rattle.theory.specs.Answers.{told, output}
 use Rattle.theory.specs.Accepted.{Checked, tables-say, tables-output}
-
--- eight bits a byte in a slice within the limit of a dossier
-pub length-stream : (bytes : List ℕ) → length bytes ≤ dossierBytes → length (streamOf bytes) ≡ 8 * length bytes
-unfolding streamOf
-length-stream bytes h = rw (le-ltb dossierBytes (length bytes) h, streamOf) (length-bits bytes)
 
 module _ (types nodes arrows program hashes given witness : List ℕ) (witnessBits : ℕ) (input : List ℕ) (inputBits : ℕ)
     (e : hashStage types nodes arrows program hashes given ≡ passed tt) where
@@ -54,7 +50,7 @@ module _ (types nodes arrows program hashes given witness : List ℕ) (witnessBi
       let f = both-passed fits (λ fitting. types′ >>= λ typed. walk) tt (d .2) in
       let g = both-passed types′ (λ typed. walk) tt (f .2) in
       let some = every-all (leb 1 (length records) ∷ leb (length records) nodeCount ∷ []) (require-holds (every (leb 1 (length records) ∷ leb (length records) nodeCount ∷ [])) (Natural 0) _ (b .1)) in
-      let l : length bits ≡ 8 * length program = length-stream program (leb-true (length program) dossierBytes (require-holds (leb (length program) dossierBytes) (Header 0) _ (f .1))) in
+      let l : length bits ≡ 8 * length program = length-within program (leb-true (length program) dossierBytes (require-holds (leb (length program) dossierBytes) (Header 0) _ (f .1))) in
       let kept : (i : ℕ) → i < length records → recordRule (length bits) (length hashes) records i ≡ true =
       λ i h. subst (λ (n : ℕ). recordRule n (length hashes) records i ≡ true) (sym l) (records-kept (d .1) i h) in
       let same : length (nodesOf bits hashes records) ≡ length records = length-nodes bits hashes records in

@@ -20,8 +20,8 @@ use Rattle.scope.specs.Walk.{hiddenAt}
 use Rattle.scope.specs.Arrows.{Arrow, source, target}
 use Rattle.scope.specs.Program.{Program, sourceTy, targetTy, caseTerm, termOf, termMake, termAt, last, whole, wholeSource, wholeTarget}
 use Rattle.scope.specs.Bounds.{Bound, bounds, childRow, pairRow, caseRow, compRow, disconnectRow, wholeCells, wholeFrames, wholeCost}
-use Rattle.exactness.specs.Bits.{AllBelow}
-use Rattle.exactness.specs.Table.{length-entries, entries-at, entries-past}
+use Rattle.common.specs.Bits.{AllBelow}
+use Rattle.common.specs.Tables.{length-entries, entries-at, entries-past}
 
 -- a node's term depends on its children's terms alone
 module _ (P : Program) (i : ℕ) (t t′ : ℕ → Term) (same : (j : ℕ) → j < i → t j ≡ t′ j) where

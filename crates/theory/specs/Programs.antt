@@ -16,7 +16,7 @@ use Rattle.scope.specs.Machine.{Frame, Step, state, exec, machine, answer}
 use Rattle.scope.specs.Walk.{hiddenAt}
 use Rattle.scope.specs.Program.{Program, sourceTy, targetTy, termAt, last, whole, wholeSource, wholeTarget}
 use Rattle.scope.specs.Bounds.{Bound, bounds, wholeCells, wholeFrames, wholeCost}
-use Rattle.exactness.specs.Checks.{clash}
+use Rattle.common.specs.Checks.{clash}
 use Rattle.theory.specs.Safety.{Good, safe}
 use Rattle.theory.specs.Visits.{visits-bound}
 use Rattle.theory.specs.Cells.{Apart}

@@ -18,22 +18,9 @@ use Rattle.report.specs.Canonical.{children}
 use Rattle.scope.specs.Numbers.{every}
 use Rattle.scope.specs.Nodes.{Kind, kComp, kCase, kPair, kDisconnect, kInjl, kInjr, kTake, kDrop, kIden, kUnit, kFail, kDisconnect1, kWitness, kHidden, kWord, kUnknown, kindOf, NodeRecord, nodeOf, nodesOf, nodeAt}
 use Rattle.scope.specs.Stages.{numbersRule, noRecord, recordRule}
-use Rattle.exactness.specs.Checks.{clash, not-both, every-all}
-use Rattle.exactness.specs.Bits.{AllBelow}
-
--- a table has a node for each record
-pub length-nodes : (bits : List Bit) (hashes : List ℕ) (records : List NodeRecord) → length (nodesOf bits hashes records) ≡ length records
-unfolding nodesOf
-length-nodes bits hashes [] = refl
-length-nodes bits hashes (r ∷ rs) = ap suc (length-nodes bits hashes rs)
-
--- node i is that of record i
-pub node-at : (bits : List Bit) (hashes : List ℕ) (records : List NodeRecord) (i : ℕ) → i < length records
-    → nodeAt (nodesOf bits hashes records) i ≡ nodeOf bits hashes (kindOf ((getD records i noRecord) .kind)) ((getD records i noRecord) .first) ((getD records i noRecord) .second)
-unfolding nodesOf nodeAt
-node-at bits hashes [] i h = absurd (not-suc-le-zero h)
-node-at bits hashes (r ∷ rs) zero h = refl
-node-at bits hashes (r ∷ rs) (suc i) h = node-at bits hashes rs i (omega arith)
+use Rattle.common.specs.Checks.{clash, not-both, every-all}
+use Rattle.common.specs.Bits.{AllBelow}
+use Rattle.common.specs.Nodes.{node-at, length-nodes}
 
 module _ (bits : List Bit) (hashes : List ℕ) where
   -- two children
@@ -100,7 +87,7 @@ module _ (bits : List Bit) (hashes : List ℕ) where
     -- THE CHILDREN OF EACH NODE ARE BELOW IT
     pub records-below : (i : ℕ) → i < length records → AllBelow i (children (nodeAt (nodesOf bits hashes records) i))
     unfolding recordRule
-    records-below i h = rw (node-at bits hashes records i h) (numbers-below (length bits) n i (kindOf ((getD records i noRecord) .kind)) _ _ _ (ok i h))
+    records-below i h = rw (node-at bits hashes records i) (numbers-below (length bits) n i (kindOf ((getD records i noRecord) .kind)) _ _ _ (ok i h))
 
     -- EACH WORD HAS ITS BITS
     pub records-word : (i n′ : ℕ) (bs : List Bit) → nodeAt (nodesOf bits hashes records) i ≡ word n′ bs → length bs ≡ 2 ^ (n′ - 1)
@@ -108,7 +95,7 @@ module _ (bits : List Bit) (hashes : List ℕ) where
     records-word i n′ bs q = go (decLt i (length records))
       where
         go : Dec (i < length records) → length bs ≡ 2 ^ (n′ - 1)
-        go (yes h) = numbers-word n i (kindOf ((getD records i noRecord) .kind)) _ _ _ (ok i h) n′ bs (sym (node-at bits hashes records i h) ∙ q)
+        go (yes h) = numbers-word n i (kindOf ((getD records i noRecord) .kind)) _ _ _ (ok i h) n′ bs (sym (node-at bits hashes records i) ∙ q)
         go (no h) =
             let e : nodeAt (nodesOf bits hashes records) i ≡ hidden [] = List·getD-eq-default (nodesOf bits hashes records) (hidden []) {n = i} (omega (arith, length-nodes bits hashes records)) in
             clash (cc)

@@ -22,8 +22,8 @@ use Rattle.scope.specs.Nodes.{nodeAt}
 use Rattle.scope.specs.Walk.{hiddenAt, noneHidden, allowed}
 use Rattle.scope.specs.Arrows.{arrowRule}
 use Rattle.scope.specs.Program.{Program, sourceTy, targetTy, caseTerm, termOf, termAt, last}
-use Rattle.exactness.specs.Checks.{not-both, both-passed, require-holds}
-use Rattle.exactness.specs.Bits.{AllBelow}
+use Rattle.common.specs.Checks.{not-both, both-passed, require-holds}
+use Rattle.common.specs.Bits.{AllBelow}
 use Rattle.exactness.specs.Types.{TypesPass}
 use Rattle.exactness.specs.NodeTyping.{Goes, Branch, NodeTyped, fromTy, toTy}
 use Rattle.exactness.specs.Arrows.{arrow-typed}

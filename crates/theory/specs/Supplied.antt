@@ -22,8 +22,8 @@ use Rattle.scope.specs.Closing.{closes}
 use Rattle.scope.specs.Arrows.{Arrow, target}
 use Rattle.scope.specs.Witness.{Values, valuesFrom, checkWitness}
 use Rattle.scope.specs.Input.{checkInput}
-use Rattle.exactness.specs.Table.{length-snoc}
-use Rattle.exactness.specs.Checks.{clash, both-passed}
+use Rattle.common.specs.Lists.{length-snoc}
+use Rattle.common.specs.Checks.{clash, both-passed}
 use Rattle.theory.specs.Values.{ReadTyped, aValue, tooFew, read-typed}
 
 module _ (types : List TypeRecord) (arrows : List Arrow) where

@@ -42,8 +42,8 @@ use Rattle.scope.specs.Stores.{checkStores}
 use Rattle.scope.specs.Run.{Ready, Left, Ended, checkDossier, tablesOf, checkReady, run, cellsOf, cleared}
 use Rattle.scope.specs.Stages.{lent, hashStage, runStage}
 use Rattle.scope.specs.Machine.{Frame, State, Step, state, exec, machine, answer}
-use Rattle.exactness.specs.Table.{length-entries, entries-at}
-use Rattle.exactness.specs.Bits.{AllBelow, AreBits}
+use Rattle.common.specs.Tables.{length-entries, entries-at}
+use Rattle.common.specs.Bits.{AllBelow, AreBits}
 use Rattle.exactness.specs.Naturals.{naturalBound, reads-code, read-is-code}
 use Rattle.exactness.specs.Values.{reads-compact, read-is-compact, Hold, value-held, length-padded, compact-fits, width-word, word-unpadded}
 use Rattle.exactness.specs.Types.{TypesPass, types-pass, pass-types, tagAt, type-step, type-fits, same-index}

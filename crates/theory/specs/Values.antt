@@ -9,7 +9,7 @@ use Rattle.report.specs.Types.{Ty, one, sum, prod, wordTy}
 use Rattle.report.specs.Values.{Val, ⟨⟩, HasTy, isUnit, isLeft, isRight, isPair, Read, value, short, andThen, readValue}
 use Rattle.scope.specs.Program.{valueFrom}
 use Rattle.exactness.specs.Values.{word-read}
-use Rattle.exactness.specs.Checks.{clash}
+use Rattle.common.specs.Checks.{clash}
 
 -- what is read is a value of the type, or the bits ran out
 pub data ReadTyped (A : Ty) : Read → Type 0 where

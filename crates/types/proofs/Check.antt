@@ -1,66 +1,46 @@
 -- The check of a table, record by record: what one turn of its loop finds, and what each of its ends answers.
 use mathlib.Core.Path.{_≡_, refl, ap, ap₂, sym, _∙_}
 use mathlib.Core.Bool.{Bool, true, false}
-use mathlib.Core.List.{List, [], _∷_, _++_, append-assoc}
-use Prim.Native.Nat.{ℕ, zero, suc, _+_, _-_, _≤_, _<_}
-use native.Mathlib.Numerals.{add-one}
+use mathlib.Core.List.{List}
+use Prim.Native.Nat.{ℕ, zero, suc, _+_, _≤_, _<_}
 use native.Mathlib.Omega.{arith}
 use lib.Dec.{leb}
-use lib.ListN.{length, getD, set, length-append, length-replicate, List·getD-append}
-use lib.Seq.{set-at, getD-append-add}
-use borrow.Author.Tests.{le-leb, lt-leb, eq-eqb, ne-eqb}
+use lib.ListN.{length, getD, set}
+use borrow.Author.Tests.{eq-eqb, ne-eqb}
 use Rattle.limits.specs.Limits.{typeCount, typeWidth}
 use Rattle.refusal.specs.declared.Refusal.the-variants.{Natural, TypeRecord as BadTypeRecord}
 use Rattle.report.specs.Types.{width}
 use Rattle.scope.specs.Check.{passed, refused, _>>=_, require, firstFailing, each}
-use Rattle.scope.specs.Numbers.{zeros, tabulateFrom, tabulate, every, anyBelow}
+use Rattle.scope.specs.Numbers.{zeros, every, anyBelow}
 use Rattle.scope.specs.Stages.{counted}
 use Rattle.scope.specs.Types.{TypeRecord, typeRecords, tyAt, typeAt, sameType, partsRule, typeRule, checkTypes}
+use Rattle.common.specs.Filling.{fill-start, fill-at, fill-past, fill-more}
+use Rattle.common.specs.Types.{parts-below, PartsKept}
 use Rattle.types.specs.Records.{partsWidth, verdict, recordJudged, nextFrom, recordNext, nextAt}
 use Rattle.types.specs.Table.{checkTable, typeAnswer, goodRecords, arrayOf, typeWidths, typeNext, typeTable}
 use Rattle.types.specs.declared.Judged.the-variants.{Width, Broken}
 use Rattle.types.specs.declared.TypeAnswer.{TypeAnswer}
 use Rattle.types.specs.declared.TypeAnswer.the-variants.{Records, Refused}
 use Rattle.types.specs.declared.TypeTable.{TypeTable}
-use Rattle.types.proofs.Laws.{parts-below, Parts, width-step, next-step}
-use Rattle.types.proofs.Tables.{length-tabulate, tabulate-at, tabulate-more}
-
-zeros-at : (n i : ℕ) → getD (zeros n) i 0 ≡ 0
-zeros-at zero i = refl
-zeros-at (suc n) zero = refl
-zeros-at (suc n) (suc i) = zeros-at n i
+use Rattle.types.proofs.Laws.{width-step, next-step}
 
 -- arrays of a number for each record
 module _ (f : ℕ → ℕ) where
   pub array-none : arrayOf 0 f ≡ zeros typeCount
-  unfolding arrayOf tabulate tabulateFrom
-  array-none = refl
+  unfolding arrayOf
+  array-none = sym (fill-start f 0 typeCount)
 
   pub array-at : (n i : ℕ) → i < n → getD (arrayOf n f) i 0 ≡ f i
   unfolding arrayOf
-  array-at n i h = List·getD-append (tabulate n f) (zeros (typeCount - n)) 0 i (omega (arith, length-tabulate f n)) ∙ tabulate-at f n i 0 h
+  array-at = fill-at f 0 typeCount
 
   pub array-past : (n i : ℕ) → n ≤ i → getD (arrayOf n f) i 0 ≡ 0
   unfolding arrayOf
-  array-past n i h =
-      ap (λ (k : ℕ). getD (tabulate n f ++ zeros (typeCount - n)) k 0) (let q : i ≡ length (tabulate n f) + (i - n) = omega (arith, length-tabulate f n) in q)
-      ∙ getD-append-add (tabulate n f) (zeros (typeCount - n)) (i - n) 0
-      ∙ zeros-at (typeCount - n) (i - n)
-
-  pub length-array : (n : ℕ) → n ≤ typeCount → length (arrayOf n f) ≡ typeCount
-  unfolding arrayOf
-  length-array n h =
-      omega (arith, length-append (tabulate n f) (zeros (typeCount - n)), length-tabulate f n, length-replicate {A = ℕ} (typeCount - n) 0)
+  array-past = fill-past f 0 typeCount
 
   pub array-more : (n v : ℕ) → n < typeCount → v ≡ f n → set (arrayOf n f) n v ≡ arrayOf (n + 1) f
   unfolding arrayOf
-  array-more n v h e =
-      ap (λ (k : ℕ). set (tabulate n f ++ zeros k) n v) (let q : typeCount - n ≡ suc (typeCount - (n + 1)) = omega arith in q)
-      ∙ set-at (tabulate n f) 0 (zeros (typeCount - (n + 1))) v n (length-tabulate f n)
-      ∙ ap (λ (k : ℕ). tabulate n f ++ (k ∷ zeros (typeCount - (n + 1)))) e
-      ∙ sym (append-assoc (tabulate n f) (f n ∷ []) (zeros (typeCount - (n + 1))))
-      ∙ ap (λ (l : List ℕ). l ++ zeros (typeCount - (n + 1))) (sym (tabulate-more f n))
-      ∙ ap (λ (k : ℕ). tabulate k f ++ zeros (typeCount - (n + 1))) (sym (add-one n))
+  array-more = fill-more f 0 typeCount
 
 module _ (T : List TypeRecord) where
   -- the width of each type, and the next record of each record
@@ -88,17 +68,17 @@ module _ (T : List TypeRecord) where
     found : ℕ
     found = partsWidth ((typeAt T i) .tag) (getD (arrayOf i widthFor) ((typeAt T i) .left) 0) (getD (arrayOf i widthFor) ((typeAt T i) .right) 0)
 
-    record-width : Parts T i → found ≡ widthFor i
+    record-width : PartsKept T i → found ≡ widthFor i
     unfolding found
     record-width ok = width-found i ((typeAt T i) .tag) ((typeAt T i) .left) ((typeAt T i) .right) ok ∙ sym (width-step T i h ok)
 
     -- a record that is given a width keeps the rules, and the width is its type's
-    pub good-record : (x : ℕ) → Width x ≡ recordJudged T (arrayOf i widthFor) i → Parts T i × (typeRule T i ≡ true) × (x ≡ widthFor i)
+    pub good-record : (x : ℕ) → Width x ≡ recordJudged T (arrayOf i widthFor) i → PartsKept T i × (typeRule T i ≡ true) × (x ≡ widthFor i)
     unfolding found typeRule every
     good-record x e = go (partsRule T i ((typeAt T i) .tag) ((typeAt T i) .left) ((typeAt T i) .right)) (leb found typeWidth) (anyBelow i (sameType T i)) refl refl refl e
       where
         go : (p f r : Bool) → partsRule T i ((typeAt T i) .tag) ((typeAt T i) .left) ((typeAt T i) .right) ≡ p → leb found typeWidth ≡ f → anyBelow i (sameType T i) ≡ r
-            → Width x ≡ verdict p f r found → Parts T i × (typeRule T i ≡ true) × (x ≡ widthFor i)
+            → Width x ≡ verdict p f r found → PartsKept T i × (typeRule T i ≡ true) × (x ≡ widthFor i)
         go true true false p f r e =
             let w = record-width p in
             let l : leb (widthFor i) typeWidth ≡ true = ap (λ (v : ℕ). leb v typeWidth) (sym w) ∙ f in
@@ -123,36 +103,10 @@ module _ (T : List TypeRecord) where
             rw (p, r, l)
         go false f r p g s e = rw p
 
-    pub next-record : Parts T i → recordNext (typeAt T i) (arrayOf i widthFor) (arrayOf i (nextAt T)) i ≡ nextAt T i
+    pub next-record : PartsKept T i → recordNext (typeAt T i) (arrayOf i widthFor) (arrayOf i (nextAt T)) i ≡ nextAt T i
     next-record ok = next-found i ((typeAt T i) .tag) ((typeAt T i) .left) ((typeAt T i) .right) ok ∙ sym (next-step T i h ok)
 
--- a search upwards, step by step
-module _ (test : ℕ → Bool) where
-  pub failing-later : (k i : ℕ) → test i ≡ true → firstFailing test (k + 1) i ≡ firstFailing test k (i + 1)
-  unfolding firstFailing
-  failing-later k i e = rw (add-one, firstFailing, e, add-one)
-
-  pub failing-here : (k i : ℕ) → test i ≡ false → firstFailing test (k + 1) i ≡ i
-  unfolding firstFailing
-  failing-here k i e = rw (add-one, firstFailing, e)
-
-  pub failing-none : (i : ℕ) → firstFailing test 0 i ≡ i
-  unfolding firstFailing
-  failing-none i = refl
-
 -- the ends of the check
-pub counted-good : (n most : ℕ) → (n ≡ 0 → ⊥) → n ≤ most → counted n most ≡ passed tt
-unfolding counted require every
-counted-good n most z h = rw (le-leb 1 n (omega arith), le-leb n most h)
-
-pub counted-none : (n most : ℕ) → n ≡ 0 → counted n most ≡ refused (Natural 0)
-unfolding counted require every
-counted-none n most z = rw z
-
-pub counted-many : (n most : ℕ) → most < n → counted n most ≡ refused (Natural 0)
-unfolding counted require every
-counted-many n most h = rw (le-leb 1 n (omega arith), lt-leb n most h)
-
 made : {a b : TypeAnswer} {w x n m : List ℕ} → a ≡ b → w ≡ x → n ≡ m
     → _≡_ {A = TypeTable} (record { answer = a; widths = w; next = n }) (record { answer = b; widths = x; next = m })
 made e f g = λ k. record { answer = e k; widths = f k; next = g k }

@@ -1,37 +1,13 @@
--- Types and their widths: the width of a type doubled k times, and what is left of a type when products with a part of width 0 are passed over.
+-- What is left of a type when products with a part of width 0 are passed over.
 -- The type that is left has the same width, the same compact bits and the same padded cells, and is no such product.
 use mathlib.Core.Path.{_≡_, refl, ap, ap₂, sym, _∙_}
 use mathlib.Core.List.{List, [], _++_, append-nil}
-use Prim.Native.Nat.{ℕ, zero, suc, _+_, _*_, _^_, _<_}
-use native.Mathlib.Nat.{add-mul, two-pow-succ}
+use Prim.Native.Nat.{ℕ, zero, suc, _+_, _<_}
 use native.Mathlib.Omega.{arith}
 use Rattle.report.specs.Bits.{Bit}
-use Rattle.report.specs.Types.{Ty, one, sum, prod, width, wordTy, leftOf, rightOf}
+use Rattle.report.specs.Types.{Ty, one, sum, prod, width, leftOf, rightOf}
 use Rattle.report.specs.Values.{Val, ⟨⟩, _&_, compact, padded, Read, value, short, andThen, readValue, Cells, valueAt}
 use Rattle.types.specs.Records.{passOver}
-
--- a type doubled k times
-unfoldable pub doubled : (k : ℕ) → Ty → Ty
-doubled zero A = A
-doubled (suc k) A = prod (doubled k A) (doubled k A)
-
--- the one law of the widths of words and of doubled types, over the depth
-pub width-doubled : (k : ℕ) (A : Ty) → width (doubled k A) ≡ 2 ^ k * width A
-unfolding doubled width
-width-doubled zero A = omega arith
-width-doubled (suc k) A =
-    ap₂ (λ (x y : ℕ). x + y) (width-doubled k A) (width-doubled k A)
-    ∙ sym (add-mul (2 ^ k) (2 ^ k) (width A))
-    ∙ ap (λ (p : ℕ). p * width A) (sym (two-pow-succ k))
-
-pub word-doubled : (k : ℕ) → wordTy k ≡ doubled k (sum one one)
-unfolding doubled wordTy
-word-doubled zero = refl
-word-doubled (suc k) = ap₂ prod (word-doubled k) (word-doubled k)
-
-pub width-word : (k : ℕ) → width (wordTy k) ≡ 2 ^ k
-unfolding width
-width-word k = ap width (word-doubled k) ∙ width-doubled k (sum one one) ∙ omega arith
 
 -- what is left of a type when products with a part of width 0 are passed over
 unfoldable pub core : Ty → Ty

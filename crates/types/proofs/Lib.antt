@@ -1,4 +1,3 @@
-pub mod Tables
 pub mod Records
 pub mod Laws
 pub mod Check

@@ -4,16 +4,16 @@ use mathlib.Core.Path.{_≡_, refl, ap, sym, _∙_}
 use mathlib.Core.Bool.{Bool, true, false}
 use mathlib.Core.List.{List, [], _∷_}
 use Prim.Native.Nat.{ℕ, zero, suc, _+_, _/_, _≤_, _<_, max}
-use native.Mathlib.Numerals.{add-one}
 use native.Mathlib.Omega.{arith}
 use lib.Dec.{ltb, eqb}
 use lib.ListN.{length}
 use borrow.Author.Tests.{eq-eqb, ne-eqb}
 use Rattle.limits.specs.Limits.{typeBytes}
-use Rattle.scope.specs.Numbers.{every, anyBelow}
+use Rattle.scope.specs.Numbers.{every}
 use Rattle.scope.specs.Types.{TypeRecord, typeRecord, typeRecords, typeAt, noType, partsRule}
 use Rattle.types.specs.Records.{partsWidth, unpaddedMark, unpaddedFrom, markWhere, paddedNext, nextFrom}
-use Rattle.types.proofs.Tables.{tabulate-at, tabulate-past, length-tabulate}
+use Rattle.common.specs.Tables.{tabulate-at, tabulate-past, length-tabulate}
+use Rattle.common.specs.Checks.{every-held, every-failed, every-one}
 
 -- the records of a table of bytes
 pub length-records : (bytes : List ℕ) → length (typeRecords bytes) ≡ length bytes / typeBytes
@@ -28,22 +28,9 @@ pub record-past : (bytes : List ℕ) (i : ℕ) → length bytes / typeBytes ≤ 
 unfolding typeAt typeRecords
 record-past bytes i h = tabulate-past (typeRecord bytes) (length bytes / typeBytes) i noType h
 
--- a conjunction by its first test
-pub every-rest : (a : Bool) (bs : List Bool) → a ≡ true → every (a ∷ bs) ≡ every bs
-unfolding every
-every-rest a bs e = rw e
-
-pub every-stop : (a : Bool) (bs : List Bool) → a ≡ false → every (a ∷ bs) ≡ false
-unfolding every
-every-stop a bs e = rw e
-
-pub every-one : (a : Bool) → every (a ∷ []) ≡ a
-unfolding every
-every-one true = refl
-every-one false = refl
-
+-- a conjunction of two tests, one of which holds
 pub every-both : (a b : Bool) → a ≡ true → every (a ∷ b ∷ []) ≡ b
-every-both a b e = every-rest a (b ∷ []) e ∙ every-one b
+every-both a b e = every-held a (b ∷ []) e ∙ every-one b
 
 pub every-left : (a b : Bool) → b ≡ true → every (a ∷ b ∷ []) ≡ a
 unfolding every
@@ -106,19 +93,19 @@ module _ (a b left right : ℕ) where
 
   pub unpadded-left : (t : ℕ) → (t ≡ 0 → ⊥) → (left ≡ unpaddedMark → ⊥) → false ≡ unpaddedFrom t a b left right
   unpadded-left zero n h = absurd (n refl)
-  unpadded-left (suc zero) n h = sym (every-stop (eqb left unpaddedMark) (eqb right unpaddedMark ∷ eqb a b ∷ []) (ne-eqb left unpaddedMark h))
-  unpadded-left (suc (suc t)) n h = sym (every-stop (eqb left unpaddedMark) (eqb right unpaddedMark ∷ []) (ne-eqb left unpaddedMark h))
+  unpadded-left (suc zero) n h = sym (every-failed (eqb left unpaddedMark) (eqb right unpaddedMark ∷ eqb a b ∷ []) (ne-eqb left unpaddedMark h))
+  unpadded-left (suc (suc t)) n h = sym (every-failed (eqb left unpaddedMark) (eqb right unpaddedMark ∷ []) (ne-eqb left unpaddedMark h))
 
   module _ (l : left ≡ unpaddedMark) where
     first : (bs : List Bool) → every (eqb left unpaddedMark ∷ bs) ≡ every bs
-    first bs = every-rest (eqb left unpaddedMark) bs (eq-eqb left unpaddedMark l)
+    first bs = every-held (eqb left unpaddedMark) bs (eq-eqb left unpaddedMark l)
 
     pub unpadded-right : (t : ℕ) → (t ≡ 0 → ⊥) → (right ≡ unpaddedMark → ⊥) → false ≡ unpaddedFrom t a b left right
     unpadded-right zero n h = absurd (n refl)
     unpadded-right (suc zero) n h =
-        sym (first (eqb right unpaddedMark ∷ eqb a b ∷ []) ∙ every-stop (eqb right unpaddedMark) (eqb a b ∷ []) (ne-eqb right unpaddedMark h))
+        sym (first (eqb right unpaddedMark ∷ eqb a b ∷ []) ∙ every-failed (eqb right unpaddedMark) (eqb a b ∷ []) (ne-eqb right unpaddedMark h))
     unpadded-right (suc (suc t)) n h =
-        sym (first (eqb right unpaddedMark ∷ []) ∙ every-stop (eqb right unpaddedMark) [] (ne-eqb right unpaddedMark h))
+        sym (first (eqb right unpaddedMark ∷ []) ∙ every-failed (eqb right unpaddedMark) [] (ne-eqb right unpaddedMark h))
 
     pub unpadded-sum : (t : ℕ) → t ≡ 1 → right ≡ unpaddedMark → eqb a b ≡ unpaddedFrom t a b left right
     unpadded-sum zero e r = absurd (omega arith)
@@ -165,17 +152,3 @@ next-own (suc zero) a b l r s n m = refl
 next-own (suc (suc t)) zero b l r s n m = absurd (n refl)
 next-own (suc (suc t)) (suc a) zero l r s n m = absurd (m refl)
 next-own (suc (suc t)) (suc a) (suc b) l r s n m = refl
-
--- a search downwards, step by step
-module _ (test : ℕ → Bool) where
-  pub any-none : anyBelow 0 test ≡ false
-  unfolding anyBelow
-  any-none = refl
-
-  pub any-here : (n : ℕ) → test n ≡ true → anyBelow (n + 1) test ≡ true
-  unfolding anyBelow
-  any-here n e = rw (add-one, anyBelow, e)
-
-  pub any-below : (n : ℕ) → test n ≡ false → anyBelow (n + 1) test ≡ anyBelow n test
-  unfolding anyBelow
-  any-below n e = rw (add-one, anyBelow, e)

@@ -5,27 +5,29 @@ use mathlib.Core.Path.{_≡_, refl, ap, ap₂, sym, subst, _∙_}
 use mathlib.Core.Logic.{_⊎_, inl, inr}
 use mathlib.Core.Bool.{Bool, true, false, not}
 use mathlib.Core.List.{List, [], _∷_}
-use Prim.Native.Nat.{ℕ, zero, suc, _+_, _-_, _≤_, _<_}
+use Prim.Native.Nat.{ℕ, zero, suc, _≤_, _<_}
 use native.Mathlib.Decide.{decLt}
 use native.Mathlib.Nat.{not-suc-le-zero}
 use native.Mathlib.Omega.{arith}
 use lib.Dec.{leb, eqb}
 use lib.ListN.{length, getD}
-use borrow.Author.Tests.{leb-true, eqb-true, eq-eqb, ne-eqb}
+use borrow.Author.Tests.{leb-true, eq-eqb, ne-eqb}
 use Rattle.limits.specs.Limits.{typeCount, typeWidth}
 use Rattle.refusal.specs.declared.Refusal.{Refusal}
-use Rattle.refusal.specs.declared.Refusal.the-variants.{Natural, TypeRecord as BadTypeRecord}
+use Rattle.refusal.specs.declared.Refusal.the-variants.{TypeRecord as BadTypeRecord}
 use Rattle.report.specs.Types.{Ty, one, sum, prod, width}
-use Rattle.scope.specs.Check.{Check, passed, refused, _>>=_, require, firstFailing, each}
+use Rattle.scope.specs.Check.{Check, passed, refused, _>>=_}
 use Rattle.scope.specs.Numbers.{every, anyBelow}
 use Rattle.scope.specs.Stages.{counted}
 use Rattle.scope.specs.Types.{TypeRecord, typeRecords, typeFrom, tyAt, typeAt, sameType, partsRule, typeRule, checkTypes}
+use Rattle.common.specs.Checks.{every-all, counted-passed, each-passed, each-holds}
+use Rattle.common.specs.Types.{parts-below, PartsKept, type-past, type-step}
 use Rattle.types.specs.Records.{unpadded, unpaddedMark, unpaddedFrom, passOver, paddedNext, nextFrom, nextAt}
 use Rattle.types.specs.Table.{checkTable, typeAnswer, goodRecords, arrayOf, typeWidths, typeNext}
 use Rattle.types.specs.declared.TypeAnswer.the-variants.{Records, Refused}
 use Rattle.types.proofs.Check.{widthFor, array-at, array-past}
 use Rattle.types.proofs.Core.{core, Alike, core-alike, Matters, core-matters}
-use Rattle.types.proofs.Laws.{every-true, parts-below, Parts, type-past, type-step, next-step}
+use Rattle.types.proofs.Laws.{next-step}
 use Rattle.types.proofs.Records.{every-both, every-left, next-marked, next-padded}
 
 -- every record keeps the rules, and there are not too many
@@ -33,40 +35,10 @@ pub record Sound (T : List TypeRecord) : Type 0 where
   pub few : length T ≤ typeCount
   pub rules : (i : ℕ) → i < length T → typeRule T i ≡ true
 
--- a search upwards that comes to its end found no test that fails
-all-hold : (test : ℕ → Bool) (k i : ℕ) → firstFailing test k i ≡ i + k → (j : ℕ) → i ≤ j → j < i + k → test j ≡ true
-unfolding firstFailing
-all-hold test zero i e j l h = absurd (omega arith)
-all-hold test (suc k) i e j l h = go (test i) refl e (λ f. all-hold test k (suc i) f j)
-  where
-    go : (t : Bool) → test i ≡ t → elim t [ true ↦ firstFailing test k (suc i) | false ↦ i ] ≡ i + suc k
-        → (firstFailing test k (suc i) ≡ suc i + k → suc i ≤ j → j < suc i + k → test j ≡ true) → test j ≡ true
-    go true q e later = elim (decLt i j) [
-      | yes m ↦ later (e ∙ (let z : i + suc k ≡ suc i + k = omega arith in z)) (omega arith) (omega arith)
-      | no m ↦ ap test (let z : j ≡ i = omega arith in z) ∙ q
-    ]
-    go false q e later = absurd (omega arith)
-
-require-passed : (b : Bool) (r : Refusal) → require b r ≡ passed tt → b ≡ true
-unfolding require
-require-passed true r e = refl
-require-passed false r e = let z : _≡_ {A = ℕ} 0 1 = cc in absurd (omega arith)
-
-each-passed : (n : ℕ) (test : ℕ → Bool) (r : ℕ → Refusal) → each n test r ≡ passed tt → firstFailing test n 0 ≡ n
-unfolding each
-each-passed n test r e = eqb-true (firstFailing test n 0) n (require-passed (eqb (firstFailing test n 0) n) (r (firstFailing test n 0)) e)
-
-pub counted-passed : (n most : ℕ) → counted n most ≡ passed tt → (1 ≤ n) × (n ≤ most)
-unfolding counted
-counted-passed n most e =
-    let h = every-true (leb 1 n) (leb n most ∷ []) (require-passed (every (leb 1 n ∷ leb n most ∷ [])) (Natural 0) e) in
-    (leb-true 1 n (h .0), leb-true n most (every-true (leb n most) [] (h .1) .0))
-
 pub checked-sound : (T : List TypeRecord) → length T ≤ typeCount → checkTypes T ≡ passed tt → Sound T
 unfolding checkTypes
 checked-sound T h e =
-    let f : firstFailing (typeRule T) (length T) 0 ≡ length T = each-passed (length T) (typeRule T) BadTypeRecord e in
-    record { few = h; rules = λ i l. all-hold (typeRule T) (length T) 0 (f ∙ omega arith) i (omega arith) (omega arith) }
+    record { few = h; rules = each-holds (length T) (typeRule T) BadTypeRecord tt e }
 
 -- a table that passed, with n records: the requirements' checks pass, it is sound, and its arrays hold all of its records
 pub record Passed (bytes : List ℕ) (n : ℕ) : Type 0 where
@@ -85,7 +57,7 @@ passed-table bytes n e = go (counted (length (typeRecords bytes)) typeCount) (ch
         → (c >>= λ x. (d >>= λ y. passed (length (typeRecords bytes)))) ≡ passed n → Passed bytes n
     go (passed x) (passed y) p q e =
         let k = counted-passed (length (typeRecords bytes)) typeCount p in
-        let f = each-passed (length (typeRecords bytes)) (typeRule (typeRecords bytes)) BadTypeRecord q in
+        let f = each-passed (length (typeRecords bytes)) (typeRule (typeRecords bytes)) BadTypeRecord tt q in
         let z : n ≡ length (typeRecords bytes) = cc in
         record {
           counts = p;
@@ -124,14 +96,15 @@ refused-table bytes r e = go (counted (length (typeRecords bytes)) typeCount) (c
 
 -- the rules of a sound record, one by one
 module _ (T : List TypeRecord) (sound : Sound T) (i : ℕ) (h : i < length T) where
-  rules-of : Parts T i × (leb (width (tyAt T i)) typeWidth ≡ true)
+  rules-of : PartsKept T i × (leb (width (tyAt T i)) typeWidth ≡ true)
   unfolding typeRule
   rules-of =
-      let x = every-true (partsRule T i ((typeAt T i) .tag) ((typeAt T i) .left) ((typeAt T i) .right)) (not (anyBelow i (sameType T i)) ∷ leb (width (tyAt T i)) typeWidth ∷ []) (sound .rules i h) in
-      let y = every-true (not (anyBelow i (sameType T i))) (leb (width (tyAt T i)) typeWidth ∷ []) (x .1) in
-      (x .0, every-true (leb (width (tyAt T i)) typeWidth) [] (y .1) .0)
+      let all = every-all (
+      partsRule T i ((typeAt T i) .tag) ((typeAt T i) .left) ((typeAt T i) .right) ∷ not (anyBelow i (sameType T i)) ∷ leb (width (tyAt T i)) typeWidth ∷ []
+      ) (sound .rules i h) in
+      (all .0, all .1 .1 .0)
 
-  pub parts-of : Parts T i
+  pub parts-of : PartsKept T i
   parts-of = rules-of .0
 
   pub width-fits : width (tyAt T i) ≤ typeWidth

@@ -5,10 +5,10 @@
 // the next record that matters is that part's, and readers of values step over such products by it.
 ghost use mathlib.Core.Path.{_≡_};
 ghost use mathlib.Core.List.{[]};
-ghost use Prim.Native.Nat.{ℕ, _+_, _*_, _/_, _≤_, _<_};
-ghost use lib.ListN.{length, getD};
-ghost use Rattle.limits.specs.Limits.{typeCount, typeBytes, typeWidth};
-ghost use Rattle.scope.specs.Numbers.{be16, anyBelow};
+ghost use Prim.Native.Nat.{_<_};
+ghost use lib.ListN.{getD};
+ghost use Rattle.limits.specs.Limits.{typeCount};
+ghost use Rattle.scope.specs.Numbers.{anyBelow};
 ghost use Rattle.scope.specs.Types.{typeRecords, typeAt, sameType, partsRule};
 ghost use Rattle.types.specs.Table.{recordOf, sameRecord, typeTable};
 ghost use Rattle.types.specs.Records.{recordJudged, partsWidth, unpaddedFrom, nextFrom, recordNext};
@@ -44,35 +44,6 @@ enum Judged {
     Broken,
 }
 
-// A byte, as 16 bits.
-fn byte(b: u8) -> u16
-    ensures { λ r. ⌜ (r ≡ b) × (r < 256) ⌝ }
-{
-    b as u16
-}
-
-// A record's index, as a place in an array.
-fn index(x: u16) -> usize
-    ensures { λ r. ⌜ (r ≡ x) × (r < 65536) ⌝ }
-{
-    x as usize
-}
-
-// A width, as 64 bits, so that no sum of two wraps.
-fn wide(width: u32) -> u64
-    ensures { λ r. ⌜ (r ≡ width) × (r < 4294967296) ⌝ }
-{
-    width as u64
-}
-
-// The 16-bit number at a place.
-fn index_at(types: &[u8], at: usize) -> u16
-    requires { ⌜ at + 2 ≤ length (now types) ⌝ }
-    ensures { λ r. ⌜ r ≡ be16 (now (types .entry)) at ⌝ }
-{
-    byte(types[at]) * 256 + byte(types[at + 1])
-}
-
 // Record i; past the end of the table a record of no tag.
 pub fn record_at(types: &[u8], i: usize) -> TypeRecord
     ensures { λ r. ⌜ r ≡ recordOf (typeAt (typeRecords (now (types .entry))) i) ⌝ }
@@ -87,8 +58,8 @@ pub fn record_at(types: &[u8], i: usize) -> TypeRecord
     let at = i * limits::TYPE_BYTES;
     TypeRecord {
         tag: types[at],
-        left: index_at(types, at + 1),
-        right: index_at(types, at + 3),
+        left: common::half_at(types, at + 1),
+        right: common::half_at(types, at + 3),
     }
 }
 
@@ -123,8 +94,8 @@ fn parts_fit(tag: u8, left: usize, right: usize, i: usize) -> bool
 fn parts_width(tag: u8, left: u32, right: u32) -> u64
     ensures { λ r. ⌜ r ≡ partsWidth tag left right ⌝ }
 {
-    let a = wide(left);
-    let b = wide(right);
+    let a = common::wide(left);
+    let b = common::wide(right);
     if tag == 0 {
         0
     } else if tag == 1 {
@@ -169,13 +140,13 @@ fn judge(types: &[u8], i: usize, widths: &[u32]) -> Judged
     ensures { λ r. ⌜ r ≡ recordJudged (typeRecords (now (types .entry))) (now (widths .entry)) i ⌝ }
 {
     let own = record_at(types, i);
-    let left = index(own.left);
-    let right = index(own.right);
+    let left = common::index(own.left);
+    let right = common::index(own.right);
     if !parts_fit(own.tag, left, right, i) {
         return Judged::Broken;
     }
     let width = parts_width(own.tag, width_at(widths, left), width_at(widths, right));
-    if wide(limits::TYPE_WIDTH) < width {
+    if common::wide(limits::TYPE_WIDTH) < width {
         return Judged::Broken;
     }
     if repeated(types, i) {
@@ -225,8 +196,8 @@ fn next_record(types: &[u8], i: usize, widths: &[u32], next: &[u16]) -> u16
     ensures { λ r. ⌜ r ≡ recordNext (typeAt (typeRecords (now (types .entry))) i) (now (widths .entry)) (now (next .entry)) i ⌝ }
 {
     let own = record_at(types, i);
-    let left = index(own.left);
-    let right = index(own.right);
+    let left = common::index(own.left);
+    let right = common::index(own.right);
     let a = width_at(widths, left);
     let b = width_at(widths, right);
     let x = next_at(next, left);

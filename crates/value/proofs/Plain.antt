@@ -2,16 +2,16 @@
 use mathlib.Core.Path.{_≡_, refl, ap, ap₂, sym, _∙_}
 use mathlib.Core.List.{List, [], _∷_, _++_}
 use Prim.Native.Nat.{ℕ, zero, suc, _+_, _≤_, _<_}
-use native.Mathlib.Nat.{add-suc, suc-add}
 use native.Mathlib.Decide.{decLt}
 use native.Mathlib.Omega.{arith}
 use lib.ListN.{length, getD, take, drop, length-drop}
 use lib.Seq.{sets, length-take-le}
 use borrow.Author.Tests.{le-leb, lt-leb}
 use Rattle.bititer.proofs.Bits.{bit-small}
-use Rattle.bititer.proofs.Streams.{stream-some, stream-within}
+use Rattle.common.specs.Bits.{stream-within}
+use Rattle.bititer.proofs.Streams.{stream-some}
 use Rattle.cells.proofs.Parts.{bits-within}
-use Rattle.cells.specs.Copying.{bitsFrom}
+use Rattle.common.specs.Cells.{bitsFrom}
 use Rattle.report.specs.Bits.{Bit, bitsOf}
 use Rattle.scope.specs.Numbers.{streamOf, tabulateFrom}
 use Rattle.scope.specs.Run.{cellsOf}
@@ -70,21 +70,6 @@ pub tags-append : (xs ys : List Bit) → tagsOf (xs ++ ys) ≡ tagsOf xs ++ tags
 unfolding tagsOf
 tags-append [] ys = refl
 tags-append (x ∷ xs) ys = ap (λ (l : List Bit). tagOf x ∷ l) (tags-append xs ys)
-
--- cells from a place on: as many, part by part
-module _ (f : ℕ → Bit) where
-  pub length-cells : (at n : ℕ) → length (tabulateFrom at n f) ≡ n
-  unfolding tabulateFrom
-  length-cells at zero = refl
-  length-cells at (suc n) = ap suc (length-cells (suc at) n)
-
-  pub cells-append : (at n m : ℕ) → tabulateFrom at (n + m) f ≡ tabulateFrom at n f ++ tabulateFrom (at + n) m f
-  unfolding tabulateFrom
-  cells-append at zero m =
-      ap₂ (λ (k j : ℕ). tabulateFrom j k f) (let z : 0 + m ≡ m = omega arith in z) (let z : at ≡ at + 0 = omega arith in z)
-  cells-append at (suc n) m =
-      ap (λ (k : ℕ). tabulateFrom at k f) (suc-add n m)
-      ∙ ap (λ (l : List Bit). f at ∷ l) (cells-append (suc at) n m ∙ ap (λ (k : ℕ). tabulateFrom (suc at) n f ++ tabulateFrom k m f) (suc-add at n ∙ sym (add-suc at n)))
 
 -- a bit below 2 is its tag
 tag-small : (b : ℕ) → b < 2 → tagOf b ≡ b

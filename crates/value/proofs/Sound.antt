@@ -17,8 +17,9 @@ use Rattle.report.specs.Values.{Val, compact, padded, Read, value, short, readV
 use Rattle.scope.specs.Numbers.{every}
 use Rattle.scope.specs.Types.{TypeRecord, typeRecords, typeFrom, tyAt, typeAt, partsRule}
 use Rattle.types.proofs.Core.{core, core-alike, Matters, productMatters, core-matters, spelled}
-use Rattle.types.proofs.Laws.{parts-below, type-past, type-step, Parts}
-use Rattle.types.proofs.Records.{every-rest, every-both}
+use Rattle.common.specs.Types.{parts-below, type-past, type-step, PartsKept}
+use Rattle.common.specs.Checks.{every-held}
+use Rattle.types.proofs.Records.{every-both}
 use Rattle.types.proofs.Sound.{Passed, parts-of, next-tells, next-falls, next-core, widths-are, next-are}
 use Rattle.types.specs.Records.{passOver, unpadded, unpaddedMark, nextAt}
 use Rattle.types.specs.Table.{typeWidths, typeNext}
@@ -32,7 +33,7 @@ use Rattle.value.proofs.Types.{plainShape, shapeOf, shape-unpadded, sha
 
 falls-true : (i j l r : ℕ) → j ≤ i → l < j → r < j → true ≡ falls i j l r
 falls-true i j l r h m n =
-    sym (every-rest (leb j i) (ltb l j ∷ ltb r j ∷ []) (le-leb j i h) ∙ every-both (ltb l j) (ltb r j) (lt-ltb l j m) ∙ lt-ltb r j n)
+    sym (every-held (leb j i) (ltb l j ∷ ltb r j ∷ []) (le-leb j i h) ∙ every-both (ltb l j) (ltb r j) (lt-ltb l j m) ∙ lt-ltb r j n)
 
 product-wide : (A B : Ty) → Matters (prod A B) → (0 < width A) × (0 < width B)
 product-wide A B (productMatters x y) = (x, y)
@@ -92,7 +93,7 @@ module _ (bytes : List ℕ) (n : ℕ) (ok : Passed bytes n) where
     record-is : recordFor bytes W N i ≡ typeAt T (nextAt T i)
     record-is = ap (typeAt T) j-is
 
-    parts-are : Parts T (nextAt T i)
+    parts-are : PartsKept T (nextAt T i)
     parts-are = parts-of T (ok .sound) (nextAt T i) (omega (arith, j-low))
 
     type-is : tyAt T (nextAt T i) ≡ core (tyAt T i)

@@ -14,8 +14,8 @@ use Rattle.limits.specs.Limits.{typeCount}
 use Rattle.report.specs.Table.{entries}
 use Rattle.scope.specs.Numbers.{tabulate}
 use Rattle.scope.specs.Types.{TypeRecord}
-use Rattle.types.proofs.Laws.{every-true}
-use Rattle.types.proofs.Tables.{length-tabulate, tabulate-at, entries-at, entries-past}
+use Rattle.common.specs.Checks.{every-all}
+use Rattle.common.specs.Tables.{length-tabulate, tabulate-at, entries-at, entries-past}
 use Rattle.types.specs.Records.{unpaddedMark}
 use Rattle.value.specs.Shapes.{Shape, nothing, plain, tag, both, part, falls, stepWhere, tagStep, bothStep, stepBy, stepFrom, recordFor, fitsAt, markedAt, stepAt, shapeFrom, shapeAt}
 use Rattle.value.specs.declared.Step.{Step}
@@ -110,12 +110,10 @@ from-tells i j left right a b zero k true marked fits e f = tt
 from-tells i j left right a b (suc w) k true true fits e f = (ltb-true i typeCount e, refl, omega arith)
 from-tells i j left right a b (suc w) k true false false e f = tt
 from-tells i j left right a b (suc w) k true false true e f =
-    let z = every-true (leb j i) (ltb left j ∷ ltb right j ∷ []) f in
-    let u = every-true (ltb left j) (ltb right j ∷ []) (z .1) in
-    let v = every-true (ltb right j) [] (u .1) in
+    let z = every-all (leb j i ∷ ltb left j ∷ ltb right j ∷ []) f in
     let ji = leb-true j i (z .0) in
-    let lj = ltb-true left j (u .0) in
-    let rj = ltb-true right j (v .0) in
+    let lj = ltb-true left j (z .1 .0) in
+    let rj = ltb-true right j (z .1 .1 .0) in
     by-tells i left right a b (ltb-true i typeCount e) (omega arith) (omega arith) (suc w) k (omega arith)
 
 module _ (types widths next : List ℕ) (i : ℕ) where

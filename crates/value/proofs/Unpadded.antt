@@ -3,7 +3,7 @@
 use mathlib.Core.Path.{_≡_, refl, ap, ap₂, sym, _∙_}
 use mathlib.Core.Bool.{true}
 use mathlib.Core.List.{List, [], _∷_, _++_}
-use Prim.Native.Nat.{ℕ, zero, suc, _+_, _-_, _≤_, _<_, max}
+use Prim.Native.Nat.{ℕ, zero, suc, _+_, _≤_, _<_, max}
 use native.Mathlib.Decide.{decLt}
 use native.Mathlib.Omega.{arith}
 use lib.Dec.{eqb}
@@ -15,25 +15,24 @@ use Rattle.report.specs.Types.{Ty, one, sum, prod, width, padL, padR, leftOf, r
 use Rattle.report.specs.Values.{Val, inl, inr, _&_, compact, padded, Read, value, short, andThen, readValue, Cells, valueAt}
 use Rattle.scope.specs.Numbers.{zeros, tabulateFrom}
 use Rattle.types.proofs.Core.{Spelling, spelling, spelled}
-use Rattle.types.proofs.Laws.{every-true}
+use Rattle.common.specs.Checks.{every-all}
 use Rattle.types.specs.Records.{unpadded}
 use Rattle.value.specs.Bits.{tagOf, tagsOf}
-use Rattle.value.proofs.Plain.{tags-append, cells-append}
+use Rattle.common.specs.Tables.{append-from}
+use Rattle.value.proofs.Plain.{tags-append}
 
 -- the parts of a sum, and of a product, without padding
 sum-parts : (A B : Ty) → unpadded (sum A B) ≡ true → (unpadded A ≡ true) × (unpadded B ≡ true) × (width A ≡ width B)
 unfolding unpadded
 sum-parts A B e =
-    let x = every-true (unpadded A) (unpadded B ∷ eqb (width A) (width B) ∷ []) e in
-    let y = every-true (unpadded B) (eqb (width A) (width B) ∷ []) (x .1) in
-    let z = every-true (eqb (width A) (width B)) [] (y .1) in
-    (x .0, y .0, eqb-true (width A) (width B) (z .0))
+    let x = every-all (unpadded A ∷ unpadded B ∷ eqb (width A) (width B) ∷ []) e in
+    (x .0, x .1 .0, eqb-true (width A) (width B) (x .1 .1 .0))
 
 product-parts : (A B : Ty) → unpadded (prod A B) ≡ true → (unpadded A ≡ true) × (unpadded B ≡ true)
 unfolding unpadded
 product-parts A B e =
-    let x = every-true (unpadded A) (unpadded B ∷ []) e in
-    (x .0, every-true (unpadded B) [] (x .1) .0)
+    let x = every-all (unpadded A ∷ unpadded B ∷ []) e in
+    (x .0, x .1 .0)
 
 -- the first n bits as a value: compact bits and padded cells are the same
 abbrev pub plainSpelling : (n : ℕ) → List Bit → Spelling
@@ -183,7 +182,7 @@ module _ (A B : Ty) where
   holds-product : Holds A → Holds B → Holds (prod A B)
   unfolding valueAt compact width
   holds-product h k c at =
-      cells-append (λ k. tagOf (c k)) at (width A) (width B) ∙ ap₂ (λ (x y : List Bit). x ++ y) (h c at) (k c (at + width A))
+      append-from (λ k. tagOf (c k)) at (width A) (width B) ∙ ap₂ (λ (x y : List Bit). x ++ y) (h c at) (k c (at + width A))
 
 pub plain-holds : (A : Ty) → unpadded A ≡ true → Holds A
 unfolding valueAt compact width tabulateFrom

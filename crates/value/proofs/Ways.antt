@@ -9,13 +9,13 @@ use lib.ListN.{length, getD, set, drop, length-append}
 use lib.Seq.{sets, drop-drop}
 use borrow.Author.Tests.{leb-true, le-leb, lt-leb}
 use Rattle.limits.specs.Limits.{cellCount}
-use Rattle.cells.specs.Copying.{bitsFrom}
+use Rattle.common.specs.Cells.{bitsFrom}
 use Rattle.report.specs.Bits.{Bit, bitsOf}
 use Rattle.report.specs.Values.{Cells}
 use Rattle.scope.specs.Numbers.{zeros}
 use Rattle.scope.specs.Run.{cellsOf}
-use Rattle.types.proofs.Laws.{every-true}
-use Rattle.types.proofs.Records.{every-stop, every-both}
+use Rattle.common.specs.Checks.{every-all, every-failed}
+use Rattle.types.proofs.Records.{every-both}
 use Rattle.value.specs.Bits.{Used, used, short, after, tagOf, skipShape, padShape, unpadShape, skipped, room, padding, padStage, unpadding, unpadStage}
 use Rattle.value.specs.Shapes.{Shape, nothing, plain, tag, both, part, stepAt, shapeAt}
 use Rattle.value.specs.declared.Step.{Step}
@@ -23,7 +23,8 @@ use Rattle.value.specs.declared.Step.the-variants.{Nothing, Plain, Tag, 
 use Rattle.value.specs.declared.ValueRead.{ValueRead}
 use Rattle.value.specs.declared.ValueRead.the-variants.{Next, Short}
 use Rattle.value.specs.declared.ValueWritten.the-variants.{Bits, Short as NoRoom}
-use Rattle.value.proofs.Plain.{length-cells, cells-plain}
+use Rattle.common.specs.Tables.{length-from}
+use Rattle.value.proofs.Plain.{cells-plain}
 use Rattle.value.proofs.Steps.{plain-told, tag-told, both-told, shape-nothing, shape-plain, shape-tag, shape-both}
 
 skipped-after : (p n k : ℕ) (x : Used) → n ≡ p + k → skipped n x ≡ skipped p (after k x)
@@ -175,7 +176,7 @@ most (both w A B) = most A + most B
 unpad-most : (A : Shape) (c : Cells) (at : ℕ) → length (unpadShape A c at) ≤ most A
 unfolding unpadShape most
 unpad-most nothing c at = omega arith
-unpad-most (plain w) c at = omega (arith, length-cells (λ k. tagOf (c k)) at w)
+unpad-most (plain w) c at = omega (arith, length-from (λ k. tagOf (c k)) at w)
 unpad-most (tag padLeft padRight A B) c at =
     go (c at) (unpad-most A c (at + (1 + padLeft))) (unpad-most B c (at + (1 + padRight)))
   where
@@ -240,7 +241,7 @@ module _ (types widths next : List ℕ) (i : ℕ) where
   unpad-plain w s at q d d₁ e f =
       put-as (cellsOf s) at q (q + w) d d₁ (bitsFrom (bitsOf s) at w)
       (cells-plain s at w ∙ ap (λ (A : Shape). unpadShape A (cellsOf s) at) (sym (shape-plain types widths next i w e)))
-      (ap (λ (k : ℕ). q + k) (sym (ap length (cells-plain s at w) ∙ length-cells (λ k. tagOf (cellsOf s k)) at w)))
+      (ap (λ (k : ℕ). q + k) (sym (ap length (cells-plain s at w) ∙ length-from (λ k. tagOf (cellsOf s k)) at w)))
       f
 
   module _ (l r padLeft padRight : ℕ) (e : stepAt types widths next i ≡ Tag l r padLeft padRight) where
@@ -284,14 +285,14 @@ room-inside (suc w) at d n h = every-both (leb (at + suc w) (length d)) (leb (at
 pub room-outside : (w at : ℕ) (d : List Bit) → (w ≡ 0 → ⊥) → length d < at + w → room w at d ≡ false
 unfolding room
 room-outside zero at d n h = absurd (n refl)
-room-outside (suc w) at d n h = every-stop (leb (at + suc w) (length d)) (leb (at + suc w) cellCount ∷ []) (lt-leb (at + suc w) (length d) h)
+room-outside (suc w) at d n h = every-failed (leb (at + suc w) (length d)) (leb (at + suc w) cellCount ∷ []) (lt-leb (at + suc w) (length d) h)
 
 pub room-told : (w at : ℕ) (d : List Bit) → room w at d ≡ true → 0 < w → (at + w ≤ length d) × (at + w ≤ cellCount)
 unfolding room
 room-told zero at d e h = absurd (omega arith)
 room-told (suc w) at d e h =
-    let x = every-true (leb (at + suc w) (length d)) (leb (at + suc w) cellCount ∷ []) e in
-    (leb-true (at + suc w) (length d) (x .0), leb-true (at + suc w) cellCount (every-true (leb (at + suc w) cellCount) [] (x .1) .0))
+    let x = every-all (leb (at + suc w) (length d) ∷ leb (at + suc w) cellCount ∷ []) e in
+    (leb-true (at + suc w) (length d) (x .0), leb-true (at + suc w) cellCount (x .1 .0))
 
 -- the ends of padding and of unpadding
 module _ (A : Shape) (w : ℕ) (bits : List Bit) (p : ℕ) (cells : List Bit) (at : ℕ) where
@@ -313,7 +314,7 @@ module _ (A : Shape) (w : ℕ) (bits : List Bit) (p : ℕ) (cells : List Bit) (a
 module _ (A : Shape) (w : ℕ) (cells : List Bit) (c : Cells) (at : ℕ) (store : List Bit) (q : ℕ) where
   pub unpad-no-cells : false ≡ room w at cells → unpadding NoRoom store ≡ unpadStage A w cells c at store q
   unfolding unpadStage
-  unpad-no-cells e = rw (every-stop (room w at cells) (room w q store ∷ []) (sym e), unpadStage)
+  unpad-no-cells e = rw (every-failed (room w at cells) (room w q store ∷ []) (sym e), unpadStage)
 
   pub unpad-no-room : true ≡ room w at cells → false ≡ room w q store → unpadding NoRoom store ≡ unpadStage A w cells c at store q
   unfolding unpadStage

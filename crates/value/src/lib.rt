@@ -6,7 +6,7 @@
 // its widths, or whose parts do not lie below it, stands for nothing. A table that the check of types passed has no such record.
 ghost use mathlib.Core.Path.{_≡_};
 ghost use mathlib.Core.List.{_∷_};
-ghost use Prim.Native.Nat.{ℕ, _+_, _*_, _-_, _%_, _≤_, _<_, max};
+ghost use Prim.Native.Nat.{_+_, _*_, _-_, _%_, _≤_, _<_, max};
 ghost use lib.ListN.{length, getD, drop};
 ghost use lib.Seq.{sets};
 ghost use Rattle.limits.specs.Limits.{cellCount};
@@ -38,20 +38,6 @@ enum Step {
     Both(usize, usize, u32),
 }
 
-// A width or a place, as 64 bits, so that no sum of two wraps.
-fn wide(width: u32) -> u64
-    ensures { λ r. ⌜ (r ≡ width) × (r < 4294967296) ⌝ }
-{
-    width as u64
-}
-
-// A record's index, as a place in an array.
-fn index(x: u16) -> usize
-    ensures { λ r. ⌜ r ≡ x ⌝ }
-{
-    x as usize
-}
-
 // Whether record j is none after i, and the parts lie below it.
 fn parts_fall(i: usize, j: usize, left: usize, right: usize) -> bool
     ensures { λ r. ⌜ r ≡ falls i j left right ⌝ }
@@ -75,7 +61,7 @@ fn tag_step(own: u32, left: usize, right: usize, a: u32, b: u32) -> Step
     ensures { λ r. ⌜ r ≡ tagStep own left right a b ⌝ }
 {
     let most = larger(a, b);
-    if wide(own) == 1 + wide(most) {
+    if common::wide(own) == 1 + common::wide(most) {
         Step::Tag(left, right, most - a, most - b)
     } else {
         Step::Nothing
@@ -86,7 +72,7 @@ fn tag_step(own: u32, left: usize, right: usize, a: u32, b: u32) -> Step
 fn both_step(own: u32, left: usize, right: usize, a: u32, b: u32) -> Step
     ensures { λ r. ⌜ r ≡ bothStep own left right a b ⌝ }
 {
-    if wide(own) == wide(a) + wide(b) {
+    if common::wide(own) == common::wide(a) + common::wide(b) {
         Step::Both(left, right, a)
     } else {
         Step::Nothing
@@ -108,10 +94,10 @@ fn step_at<'a>(types: &[u8], widths: &'a [u32], next: &'a [u16], i: usize) -> St
     if entry == types::UNPADDED {
         return Step::Plain(own);
     }
-    let j = index(entry);
+    let j = common::index(entry);
     let record = types::record_at(types, j);
-    let left = index(record.left);
-    let right = index(record.right);
+    let left = common::index(record.left);
+    let right = common::index(record.right);
     if !parts_fall(i, j, left, right) {
         return Step::Nothing;
     }
@@ -200,9 +186,9 @@ fn has_room(cells: &[u8], width: u32, at: u32) -> bool
     if width == 0 {
         return true;
     }
-    let end = wide(at) + wide(width);
+    let end = common::wide(at) + common::wide(width);
     if (end + 7) / 8 <= cells.len() as u64 {
-        end <= wide(limits::CELL_COUNT)
+        end <= common::wide(limits::CELL_COUNT)
     } else {
         false
     }

@@ -17,7 +17,7 @@ fn number(record: &[u8], k: u32) -> usize
     requires { ⌜ k < 13 ⌝ }
     ensures { λ r. ⌜ r < 4294967296 ⌝ }
 {
-    packed::number16(record, 2 * k) as usize
+    common::half_at(record, 2 * k as usize) as usize
 }
 
 // Where part k of a record starts, of which 4 is the end: the sizes of the parts are its numbers 9 to 12.
@@ -71,10 +71,10 @@ fn entries_right<'a>(record: &[u8], widths: &'a [u32], next: &'a [u16]) -> bool 
     let entries = part(record, 1);
     let mut k: usize = 0;
     while k < limits::TYPE_COUNT {
-        if types::width_at(widths, k) != packed::number16(entries, 4 * k as u32) {
+        if types::width_at(widths, k) != common::half_at(entries, 4 * k) as u32 {
             return false;
         }
-        if types::next_at(next, k) as u32 != packed::number16(entries, 4 * k as u32 + 2) {
+        if types::next_at(next, k) != common::half_at(entries, 4 * k + 2) {
             return false;
         }
         k += 1;
@@ -192,7 +192,7 @@ fn stores_right<'a>(record: &[u8], widths: &'a [u32], next: &'a [u16]) -> bool {
     if MOST < m {
         return false;
     }
-    let fill = packed::byte(record, 15);
+    let fill = common::byte_at(record, 15);
     let mut cells = [fill; MOST];
     let mut answer = [fill; MOST];
     round_trip_right(record, widths, next, &mut cells[0..n], &mut answer[0..m])

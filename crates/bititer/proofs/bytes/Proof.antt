@@ -14,7 +14,8 @@ use Rattle.scope.specs.Numbers.{streamOf}
 use Rattle.scope.specs.Reading.{got}
 use Rattle.bititer.specs.Answers.{stored, placed}
 use Rattle.bititer.proofs.Streams.{length-stream}
-use Rattle.bititer.proofs.Octets.{length-bytes, byte-here, pasted, bytes-ended, bytes-short, bytes-read}
+use Rattle.common.specs.Bits.{length-bytes}
+use Rattle.bititer.proofs.Octets.{byte-here, pasted, bytes-ended, bytes-short, bytes-read}
 use Rattle.bititer.proofs.bytes.Statement.{statement}
 use Rattle.bititer.proofs.bytes.Tie as tie
 

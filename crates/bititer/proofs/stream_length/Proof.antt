@@ -1,7 +1,8 @@
 -- How many bits a slice's stream has: none above the dossier's limit, and eight for each byte within it.
 use mathlib.Core.Path.{sym}
 use native.Mathlib.Omega.{arith}
-use Rattle.bititer.proofs.Streams.{length-over, length-within}
+use Rattle.common.specs.Bits.{length-within}
+use Rattle.bititer.proofs.Streams.{length-over}
 use borrow.Author.Needs.{needs}
 use Rattle.bititer.proofs.stream_length.Statement.{statement}
 use Rattle.bititer.proofs.stream_length.Tie as tie

@@ -1,7 +1,7 @@
 -- A run of cells copied. The invariant: the copy of all n cells of the old list is that of the cells left, in the list as it is now.
 -- Those cells are the measure.
 use Rattle.cells.proofs.Copies.{copy-start, copy-turn, copy-done}
-use Rattle.cells.specs.Copying.{copyBits}
+use Rattle.common.specs.Cells.{copyBits}
 use Rattle.report.specs.Bits.{bitsOf}
 use lib.ListN.{length}
 use Prim.Native.Nat.{_+_, _-_, _≤_}

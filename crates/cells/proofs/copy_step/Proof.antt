@@ -15,8 +15,8 @@ use Rattle.cells.proofs.copy_step.Tie as tie
 sub-if4 : tie.Need-sub-if4
 sub-if4 c = search needs
 
-byte-at-requires : tie.Need-byte-at-requires
-byte-at-requires c κs = search needs
+eight-at-requires : tie.Need-eight-at-requires
+eight-at-requires c κs = search needs
 
 put-byte-requires : tie.Need-put-byte-requires
 put-byte-requires c κs = search needs
@@ -29,7 +29,7 @@ returns c =
     let a = c .before .before .before .before .before .before .before .before .before .before .before .args in
     let l = bitsOf (a .cells .now) in
     let h : 8 ≤ a .n = c .before .before .before .before .before .before .before .before .before .if1 .taken in
-    let q = eight-put l _ l (a .from) (a .to) (c .before .before .before .before .byte-at .result) (c .before .before .before .before .byte-at .ensures) (eqb-true _ _ (c .before .before .before .before .before .before .before .before .if2 .taken)) (c .before .before .put-byte .ensures) in
+    let q = eight-put l _ l (a .from) (a .to) (c .before .before .before .before .eight-at .result) (c .before .before .before .before .eight-at .ensures) (eqb-true _ _ (c .before .before .before .before .before .before .before .before .if2 .taken)) (c .before .before .put-byte .ensures) in
     let apart : (a .to ≤ a .from) ⊎ (a .from + 8 ≤ a .to) = ⊎-elim (λ w. inl (omega arith)) (λ w. inr (far (a .from) (a .to) (w .0 .left) (sym (w .1) ∙ c .before .before .before .before .before .before .if4 .taken))) (c .before .before .before .before .before .before .before .if3 .came) in
     (search needs, h, copy-step l _ (a .from) (a .to) (a .n) 8 h apart q)
 
@@ -55,7 +55,7 @@ copy-step-spec =
     tie.close
     (tie.spec
     sub-if4
-    byte-at-requires
+    eight-at-requires
     put-byte-requires
     same-length
     returns

@@ -1,7 +1,7 @@
 -- Bits of a source put into the cells. The invariant: putting all n of them into the old list is putting those left into the list as it is now.
 -- Those bits are the measure.
 use Rattle.cells.proofs.Parts.{put-start, put-turn, put-done}
-use Rattle.cells.specs.Copying.{bitsFrom}
+use Rattle.common.specs.Cells.{bitsFrom}
 use lib.Seq.{sets}
 use Rattle.report.specs.Bits.{bitsOf}
 use lib.ListN.{length}

@@ -8,8 +8,8 @@ use borrow.Author.Needs.{needs}
 use Rattle.cells.proofs.put_step.Statement.{statement}
 use Rattle.cells.proofs.put_step.Tie as tie
 
-byte-at-requires : tie.Need-byte-at-requires
-byte-at-requires c κs = search needs
+eight-at-requires : tie.Need-eight-at-requires
+eight-at-requires c κs = search needs
 
 put-byte-requires : tie.Need-put-byte-requires
 put-byte-requires c κs = search needs
@@ -23,7 +23,7 @@ returns c =
     let l = bitsOf (a .cells .now) in
     let s = bitsOf (a .source .now) in
     let h : 8 ≤ a .n = c .before .before .before .before .before .before .if1 .taken in
-    let q = eight-put l _ s (a .p) (a .at) (c .before .before .before .before .byte-at .result) (c .before .before .before .before .byte-at .ensures) (eqb-true _ _ (c .before .before .before .before .before .if2 .taken)) (c .before .before .put-byte .ensures) in
+    let q = eight-put l _ s (a .p) (a .at) (c .before .before .before .before .eight-at .result) (c .before .before .before .before .eight-at .ensures) (eqb-true _ _ (c .before .before .before .before .before .if2 .taken)) (c .before .before .put-byte .ensures) in
     (search needs, h, put-step l _ s (a .p) (a .at) (a .n) 8 h q)
 
 cell-requires : tie.Need-cell-requires
@@ -48,7 +48,7 @@ pub put-step-spec : {M : Type 1} → statement M
 put-step-spec =
     tie.close
     (tie.spec
-    byte-at-requires
+    eight-at-requires
     put-byte-requires
     same-length
     returns

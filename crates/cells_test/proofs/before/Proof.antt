@@ -15,11 +15,11 @@ abbrev μ-loop : tie.MeasureT-loop
 loop-holds : tie.Need-loop-holds Inv-loop μ-loop
 loop-holds c = search needs
 
-add-byte : tie.Need-add-byte Inv-loop μ-loop
-add-byte c = search needs
+add-byte-at : tie.Need-add-byte-at Inv-loop μ-loop
+add-byte-at c = search needs
 
-byte-requires : tie.Need-byte-requires Inv-loop μ-loop
-byte-requires c κs = search needs
+byte-at-requires : tie.Need-byte-at-requires Inv-loop μ-loop
+byte-at-requires c κs = search needs
 
 array-write-cells : tie.Need-array-write-cells Inv-loop μ-loop
 array-write-cells c = search needs
@@ -43,8 +43,8 @@ before-spec =
     Inv-loop
     μ-loop
     loop-holds
-    add-byte
-    byte-requires
+    add-byte-at
+    byte-at-requires
     array-write-cells
     add-i
     loop-less

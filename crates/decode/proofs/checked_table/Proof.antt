@@ -33,8 +33,8 @@ returns c =
     let told = c .before .enum-told .given .1 in
     stopped-means _ _ _ _ _ _ (c .stopped .ensures) told (decode-stops _ _ _ _ (told-read _ _ _ _ _ told (c .before .before .before .before .before .before .before .read-table .ensures)))
 
-wide-requires : tie.Need-wide-requires
-wide-requires c κs = search needs
+place-requires : tie.Need-place-requires
+place-requires c κs = search needs
 
 mul-judged : tie.Need-mul-judged
 mul-judged c = search needs
@@ -47,21 +47,21 @@ slice-reshare-prefix-judged c =
     let hashes = read-table .last .1 .1 .0 in
     let done = read .given .0 .0 in
     let m = told-read _ _ _ nodes hashes (read .given .1) (read-table .ensures) in
-    omega (arith, m .3, c .wide .ensures .0)
+    omega (arith, m .3, c .place .ensures .0)
 
 slice-aggregate-judged : tie.Need-slice-aggregate-judged
 slice-aggregate-judged c =
-    let wide = c .before .wide in
+    let place = c .before .place in
     let read = c .before .before .before .read in
     let read-table = c .before .before .before .before .before .before .before .before .before .read-table in
     let nodes = read-table .last .1 .0 in
     let hashes = read-table .last .1 .1 .0 in
     let done = read .given .0 .0 in
     let m = told-read _ _ _ nodes hashes (read .given .1) (read-table .ensures) in
-    sym (length-take-le (nodeNumbers * wide .result) nodes (omega (arith, m .3, wide .ensures .0)))
+    sym (length-take-le (nodeNumbers * place .result) nodes (omega (arith, m .3, place .ensures .0)))
 
-wide-requires-2 : tie.Need-wide-requires-2
-wide-requires-2 c κs = search needs
+place-requires-2 : tie.Need-place-requires-2
+place-requires-2 c κs = search needs
 
 slice-reshare-prefix-judged-2 : tie.Need-slice-reshare-prefix-judged-2
 slice-reshare-prefix-judged-2 c =
@@ -71,30 +71,30 @@ slice-reshare-prefix-judged-2 c =
     let hashes = read-table .last .1 .1 .0 in
     let done = read .given .0 .0 in
     let m = told-read _ _ _ nodes hashes (read .given .1) (read-table .ensures) in
-    let h : c .wide2 .result ≤ length hashes = omega (arith, m .4, c .wide2 .ensures .0) in
+    let h : c .place2 .result ≤ length hashes = omega (arith, m .4, c .place2 .ensures .0) in
     h
 
 slice-aggregate-judged-2 : tie.Need-slice-aggregate-judged-2
 slice-aggregate-judged-2 c =
-    let wide2 = c .before .wide2 in
+    let place2 = c .before .place2 in
     let read = c .before .before .before .before .before .read in
     let read-table = c .before .before .before .before .before .before .before .before .before .before .before .read-table in
     let nodes = read-table .last .1 .0 in
     let hashes = read-table .last .1 .1 .0 in
     let done = read .given .0 .0 in
     let m = told-read _ _ _ nodes hashes (read .given .1) (read-table .ensures) in
-    sym (length-take-le (wide2 .result) hashes (omega (arith, m .4, wide2 .ensures .0)))
+    sym (length-take-le (place2 .result) hashes (omega (arith, m .4, place2 .ensures .0)))
 
 judged-requires : tie.Need-judged-requires
 judged-requires c κs =
-    let wide = c .before .before .before .wide in
+    let place = c .before .before .before .place in
     let read = c .before .before .before .before .before .read in
     let read-table = c .before .before .before .before .before .before .before .before .before .before .before .read-table in
     let nodes = read-table .last .1 .0 in
     let hashes = read-table .last .1 .1 .0 in
     let done = read .given .0 .0 in
     let m = told-read _ _ _ nodes hashes (read .given .1) (read-table .ensures) in
-    (length-take-le (nodeNumbers * wide .result) nodes (omega (arith, m .3, wide .ensures .0)) ∙ ap (λ (w : ℕ). nodeNumbers * w) (wide .ensures .0), m .1, m .2)
+    (length-take-le (nodeNumbers * place .result) nodes (omega (arith, m .3, place .ensures .0)) ∙ ap (λ (w : ℕ). nodeNumbers * w) (place .ensures .0), m .1, m .2)
 
 same-length-3 : tie.Need-same-length-3
 same-length-3 c = search needs
@@ -104,15 +104,15 @@ same-length-4 c = search needs
 
 returns-2 : tie.Need-returns-2
 returns-2 c =
-    let wide2 = c .before .before .wide2 in
-    let wide = c .before .before .before .before .wide in
+    let place2 = c .before .before .place2 in
+    let place = c .before .before .before .before .place in
     let read = c .before .before .before .before .before .before .read in
     let read-table = c .before .before .before .before .before .before .before .before .before .before .before .before .read-table in
     let nodes = read-table .last .1 .0 in
     let hashes = read-table .last .1 .1 .0 in
     let done = read .given .0 .0 in
     let m = told-read _ _ _ nodes hashes (read .given .1) (read-table .ensures) in
-    fronts-mean _ _ _ nodes hashes done (c .judged .result) m (wide .result) (wide2 .result) (wide .ensures .0) (wide2 .ensures .0) (c .judged .ensures)
+    fronts-mean _ _ _ nodes hashes done (c .judged .result) m (place .result) (place2 .result) (place .ensures .0) (place2 .ensures .0) (c .judged .ensures)
 
 pub checked-table-spec : {M : Type 1} → statement M
 checked-table-spec =
@@ -125,11 +125,11 @@ checked-table-spec =
     same-length
     same-length-2
     returns
-    wide-requires
+    place-requires
     mul-judged
     slice-reshare-prefix-judged
     slice-aggregate-judged
-    wide-requires-2
+    place-requires-2
     slice-reshare-prefix-judged-2
     slice-aggregate-judged-2
     judged-requires

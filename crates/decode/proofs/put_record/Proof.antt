@@ -9,8 +9,8 @@ use Rattle.decode.specs.Stores.{recordPut}
 use Rattle.decode.proofs.put_record.Statement.{statement}
 use Rattle.decode.proofs.put_record.Tie as tie
 
-wide-requires : tie.Need-wide-requires
-wide-requires c κs = search needs
+place-requires : tie.Need-place-requires
+place-requires c κs = search needs
 
 mul-at : tie.Need-mul-at
 mul-at c = search needs
@@ -54,13 +54,13 @@ same-length c = search needs
 returns : tie.Need-returns
 returns c =
     let start = c .before .before in
-    ap (λ (w : ℕ). recordPut (start .args .nodes .now) w (recordOf (start .args .r))) (c .wide .ensures .0)
+    ap (λ (w : ℕ). recordPut (start .args .nodes .now) w (recordOf (start .args .r))) (c .place .ensures .0)
 
 pub put-record-spec : {M : Type 1} → statement M
 put-record-spec =
     tie.close
     (tie.spec
-    wide-requires
+    place-requires
     mul-at
     mul-nodes
     slice-write-nodes

@@ -30,8 +30,8 @@ returns c =
     let room = start .args .room in
     ap numberOf (c .enum-told .given .1) ∙ count-stops bits room _ (number-stopped 0 _ _ _ (c .before .before .number .ensures) (c .enum-told .given .1))
 
-wide-requires : tie.Need-wide-requires
-wide-requires c κs = search needs
+place-requires : tie.Need-place-requires
+place-requires c κs = search needs
 
 returns-2 : tie.Need-returns-2
 returns-2 c =
@@ -39,7 +39,7 @@ returns-2 c =
     let bits = streamOf (start .args .program .now) in
     let room = start .args .room in
     let e = number-got 0 (naturalUpTo bits nodeCount 0) _ _ _ (c .before .before .before .before .before .number .ensures) (c .before .before .before .count .given .1) in
-    count-short bits room _ _ e (omega (arith, c .if1 .taken, c .before .wide .ensures .0))
+    count-short bits room _ _ e (omega (arith, c .if1 .taken, c .before .place .ensures .0))
 
 returns-3 : tie.Need-returns-3
 returns-3 c =
@@ -47,7 +47,7 @@ returns-3 c =
     let bits = streamOf (start .args .program .now) in
     let room = start .args .room in
     let e = number-got 0 (naturalUpTo bits nodeCount 0) _ _ _ (c .before .before .before .before .before .number .ensures) (c .before .before .before .count .given .1) in
-    count-read bits room _ _ e (omega (arith, c .if1 .left, c .before .wide .ensures .0))
+    count-read bits room _ _ e (omega (arith, c .if1 .left, c .before .place .ensures .0))
 
 pub read-count-spec : {M : Type 1} → statement M
 read-count-spec =
@@ -58,6 +58,6 @@ read-count-spec =
     enum-known-count
     enum-told
     returns
-    wide-requires
+    place-requires
     returns-2
     returns-3)

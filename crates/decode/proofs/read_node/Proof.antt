@@ -29,8 +29,8 @@ returns c =
     let told = c .enum-told .given .1 in
     subst (λ (r : HeadRead). NodeMeans bits i held at store r store) (sym told) (head-stops bits i held at store _ (sym (ap (headOf bits i) told) ∙ c .before .before .node-head .ensures))
 
-wide-requires : tie.Need-wide-requires
-wide-requires c κs = search needs
+place-requires : tie.Need-place-requires
+place-requires c κs = search needs
 
 store-bytes-requires : tie.Need-store-bytes-requires
 store-bytes-requires c κs = search needs
@@ -57,7 +57,7 @@ returns-2 c =
     let at = start .args .at in
     let store = start .args .hashes .now in
     let head = sym (ap (headOf bits i) (read .given .1)) ∙ c .before .before .before .before .before .before .before .before .before .before .before .node-head .ensures in
-    node-in bits i held at store (read .given .0 .0) (read .given .0 .1 .0) head _ _ _ (c .before .before .before .before .before .before .wide .ensures .0) (c .before .before .before .before .before .store-bytes .ensures) _ (c .before .bytes .given .1)
+    node-in bits i held at store (read .given .0 .0) (read .given .0 .1 .0) head _ _ _ (c .before .before .before .before .before .before .place .ensures .0) (c .before .before .before .before .before .store-bytes .ensures) _ (c .before .bytes .given .1)
 
 same-length-2 : tie.Need-same-length-2
 same-length-2 c = search needs
@@ -72,7 +72,7 @@ returns-3 c =
     let at = start .args .at in
     let store = start .args .hashes .now in
     let head = sym (ap (headOf bits i) (read .given .1)) ∙ c .before .before .before .before .before .before .before .before .before .before .before .before .node-head .ensures in
-    node-out bits i held at store (read .given .0 .0) (read .given .0 .1 .0) head _ _ _ (c .before .before .before .before .before .before .before .wide .ensures .0) (c .before .before .before .before .before .before .store-bytes .ensures) _ _ (c .before .before .bytes2 .given .1) (c .bytes-refusal .ensures)
+    node-out bits i held at store (read .given .0 .0) (read .given .0 .1 .0) head _ _ _ (c .before .before .before .before .before .before .before .place .ensures .0) (c .before .before .before .before .before .before .store-bytes .ensures) _ _ (c .before .before .bytes2 .given .1) (c .bytes-refusal .ensures)
 
 pub read-node-spec : {M : Type 1} → statement M
 read-node-spec =
@@ -82,7 +82,7 @@ read-node-spec =
     enum-known-read
     enum-told
     returns
-    wide-requires
+    place-requires
     store-bytes-requires
     enum-known-bytes
     enum-known-bytes-2

@@ -1,7 +1,7 @@
 -- `decode::settled` meets its contract, case by case.
 use mathlib.Core.Path.{sym, ap}
 use borrow.Author.Needs.{needs}
-use Rattle.table.specs.declared.Checked.{Checked}
+use Rattle.common.specs.declared.Checked.{Checked}
 use Rattle.decode.specs.Stores.{settledOf}
 use Rattle.decode.proofs.settled.Statement.{statement}
 use Rattle.decode.proofs.settled.Tie as tie

@@ -4,6 +4,7 @@ use Prim.Native.Nat.{ℕ, _+_, _/_, _<_, _≤_}
 use lib.ListN.{length}
 use borrow.Author.Needs.{needs}
 use Rattle.scope.specs.Numbers.{streamOf}
+use Rattle.common.specs.Words.{word-has}
 use Rattle.decode.specs.declared.Follows.{Follows}
 use Rattle.decode.specs.Heads.{followed, atNode, headOf}
 use Rattle.decode.specs.declared.HeadRead.{HeadRead}
@@ -29,8 +30,8 @@ returns c =
     let i = start .args .i in
     let n = start .args .n in
     let first = start .args .first in
-    let w = word-bits .result in
-    word-ended program i n first (start .pre .3) (subst (λ (w : ℕ). length program < (first + w + 7) / 8) (word-bits .ensures .0) (c .if1 .taken))
+    let bits = word-bits .ensures .0 ∙ word-has n (start .pre .0) (start .pre .1) in
+    word-ended program i n first (start .pre .3) (subst (λ (w : ℕ). length program < (first + w + 7) / 8) bits (c .if1 .taken))
 
 cast-head : tie.Need-cast-head
 cast-head c = search needs
@@ -47,9 +48,10 @@ returns-2 c =
     let n = start .args .n in
     let first = start .args .first in
     let w = word-bits .result in
+    let bits = word-bits .ensures .0 ∙ word-has n (start .pre .0) (start .pre .1) in
     ap (λ (h : NodeHead). headOf (streamOf program) i (HeadRead.Read h (first + w))) (c .head .ensures)
-    ∙ ap (λ (w : ℕ). atNode i (followed (streamOf program) (record { kind = 14; first = n; second = first; third = 0 }) Follows.Nothing (first + w))) (word-bits .ensures .0)
-    ∙ word-whole program i n first (start .pre .3) (subst (λ (w : ℕ). (first + w + 7) / 8 ≤ length program) (word-bits .ensures .0) (c .before .if1 .left))
+    ∙ ap (λ (w : ℕ). atNode i (followed (streamOf program) (record { kind = 14; first = n; second = first; third = 0 }) Follows.Nothing (first + w))) bits
+    ∙ word-whole program i n first (start .pre .3) (subst (λ (w : ℕ). (first + w + 7) / 8 ≤ length program) bits (c .before .if1 .left))
 
 pub word-from-spec : {M : Type 1} → statement M
 word-from-spec =

@@ -3,7 +3,7 @@ use mathlib.Core.Path.{sym, _∙_}
 use native.Mathlib.Omega.{arith}
 use borrow.Author.Needs.{needs}
 use Rattle.scope.specs.Header.{headerRule}
-use Rattle.header.proofs.Checks.{first-before}
+use Rattle.common.specs.Checks.{first-before}
 use Rattle.header.proofs.Rules.{too-short, too-long, judged-wrong, judged-right}
 use Rattle.header.proofs.check_header.Statement.{statement}
 use Rattle.header.proofs.check_header.Tie as tie

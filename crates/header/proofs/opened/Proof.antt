@@ -1,5 +1,5 @@
 -- `header::opened` meets its contract: nothing of a header that is refused, and else the section.
-use mathlib.Core.Path.{_≡_, sym, _∙_}
+use mathlib.Core.Path.{sym, _∙_}
 use borrow.Author.Needs.{needs}
 use Rattle.header.proofs.Rules.{opened-passed, opened-refused}
 use Rattle.header.proofs.opened.Statement.{statement}

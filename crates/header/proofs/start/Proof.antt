@@ -1,7 +1,6 @@
 -- `header::start` meets its contract: the loop carries where section j has to start.
-use mathlib.Core.Path.{_≡_, refl, sym, ap, _∙_}
-use Prim.Native.Nat.{ℕ, suc, _+_, _*_, _-_, _^_, _≤_, _<_}
-use native.Mathlib.Omega.{arith}
+use mathlib.Core.Path.{_≡_, refl, ap, _∙_}
+use Prim.Native.Nat.{_+_, _*_, _-_, _^_, _≤_}
 use borrow.Author.Needs.{needs}
 use Rattle.scope.specs.Header as Header
 use Rattle.header.proofs.Rules.{next-start}

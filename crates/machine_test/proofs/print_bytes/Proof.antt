@@ -14,8 +14,8 @@ abbrev μ-loop : tie.MeasureT-loop
 loop-holds : tie.Need-loop-holds Inv-loop μ-loop
 loop-holds c = search needs
 
-byte-requires : tie.Need-byte-requires Inv-loop μ-loop
-byte-requires c κs = search needs
+byte-at-requires : tie.Need-byte-at-requires Inv-loop μ-loop
+byte-at-requires c κs = search needs
 
 cast-row-after : tie.Need-cast-row-after Inv-loop μ-loop
 cast-row-after c = search needs
@@ -45,7 +45,7 @@ print-bytes-spec =
     Inv-loop
     μ-loop
     loop-holds
-    byte-requires
+    byte-at-requires
     cast-row-after
     row-after-requires
     add-i

@@ -2,8 +2,7 @@
 -- `walk_from` at node i is measured by 2 * i + 1, `walk_child` at a child of node i by 2 * i.
 use Rattle.table.proofs.Steps.{child-below, child-not-below, walk-done, left-stops, right-stops, both-pass}
 use Rattle.table.specs.Answers.{walkedOf}
-use native.Mathlib.Omega.{arith}
-use mathlib.Core.Path.{_≡_, sym, ap, _∙_, refl}
+use mathlib.Core.Path.{sym, ap, _∙_, refl}
 use borrow.Author.Needs.{needs}
 use Prim.Native.Nat.{ℕ, _<_, _+_, _*_}
 use borrow.Fn.Kinds.{In}

@@ -1,19 +1,9 @@
 -- `table::allowed` meets its contract: a hidden node, a case, any other node.
 use Rattle.table.proofs.Steps.{asks-hidden, asks-case, asks-other}
-use mathlib.Core.Path.{_≡_, sym, ap, _∙_}
+use mathlib.Core.Path.{sym, _∙_}
 use borrow.Author.Needs.{needs}
 use Rattle.table.proofs.allowed.Statement.{statement}
 use Rattle.table.proofs.allowed.Tie as tie
-use Rattle.table.proofs.allowed.Reads as reads
-use Rattle.table.proofs.allowed.Lts as lts
-use Rattle.table.proofs.hidden_at.Reads as hidden-at-reads
-use Rattle.table.proofs.is_hidden.Reads as is-hidden-reads
-use Rattle.table.proofs.left_child.Reads as left-child-reads
-use Rattle.table.proofs.none_hidden.Reads as none-hidden-reads
-use Rattle.table.proofs.not_repeated.Reads as not-repeated-reads
-use Rattle.table.proofs.one_hidden.Reads as one-hidden-reads
-use Rattle.table.proofs.record_at.Reads as record-at-reads
-use Rattle.table.proofs.right_child.Reads as right-child-reads
 
 record-at-requires : tie.Need-record-at-requires
 record-at-requires c κs = search needs

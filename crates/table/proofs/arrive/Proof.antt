@@ -1,15 +1,10 @@
 -- `table::arrive` meets its contract: the order is judged first, then what the node asks.
 use Rattle.table.proofs.Steps.{turn-refused, turn-passed}
-use Rattle.table.specs.Answers.{checkOf}
-use mathlib.Core.Path.{_≡_, sym, ap, _∙_}
+use Rattle.common.specs.Answers.{checkOf}
+use mathlib.Core.Path.{ap}
 use borrow.Author.Needs.{needs}
 use Rattle.table.proofs.arrive.Statement.{statement}
 use Rattle.table.proofs.arrive.Tie as tie
-use Rattle.table.proofs.arrive.Reads as reads
-use Rattle.table.proofs.arrive.Lts as lts
-use Rattle.table.proofs.allowed.Reads as allowed-reads
-use Rattle.table.proofs.first_refusal.Reads as first-refusal-reads
-use Rattle.table.proofs.in_order.Reads as in-order-reads
 
 in-order-requires : tie.Need-in-order-requires
 in-order-requires c κs = search needs

@@ -1,12 +1,8 @@
 -- `table::child_count` meets its contract: the groups of kinds.
 use Rattle.table.proofs.Groups.{count-by}
 use borrow.Author.Tests.{le-leb, lt-leb, eq-eqb, ne-eqb}
-use mathlib.Core.Path.{sym, _∙_}
-use borrow.Author.Needs.{needs}
 use Rattle.table.proofs.child_count.Statement.{statement}
 use Rattle.table.proofs.child_count.Tie as tie
-use Rattle.table.proofs.child_count.Reads as reads
-use Rattle.table.proofs.child_count.Lts as lts
 
 returns : tie.Need-returns
 returns c = rw (count-by (c .before .args .kind), le-leb _ _ (c .if1 .taken))

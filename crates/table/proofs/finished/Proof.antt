@@ -4,8 +4,6 @@ use mathlib.Core.Path.{sym, ap}
 use borrow.Author.Needs.{needs}
 use Rattle.table.proofs.finished.Statement.{statement}
 use Rattle.table.proofs.finished.Tie as tie
-use Rattle.table.proofs.finished.Reads as reads
-use Rattle.table.proofs.finished.Lts as lts
 
 enum-told : tie.Need-enum-told
 enum-told c = search needs

@@ -7,10 +7,6 @@ use mathlib.Core.Path.{sym, ap, _∙_}
 use borrow.Author.Needs.{needs}
 use Rattle.table.proofs.hidden_at.Statement.{statement}
 use Rattle.table.proofs.hidden_at.Tie as tie
-use Rattle.table.proofs.hidden_at.Reads as reads
-use Rattle.table.proofs.hidden_at.Lts as lts
-use Rattle.table.proofs.is_hidden.Reads as is-hidden-reads
-use Rattle.table.proofs.record_at.Reads as record-at-reads
 
 record-at-requires : tie.Need-record-at-requires
 record-at-requires c κs = search needs

@@ -1,18 +1,14 @@
 -- `table::hidden_before` meets its contract. The loop's invariant: a node below i hides the hash exactly if one below j does.
-use Rattle.table.proofs.Hashes.{one-below, none-here, none-left}
+use Rattle.common.specs.Checks.{any-found, any-later, any-none}
 use Rattle.table.specs.Lent.{lentNodes}
 use Rattle.scope.specs.Walk.{hides}
 use Rattle.scope.specs.Numbers.{anyBelow}
 use native.Mathlib.Omega.{arith}
-use Prim.Native.Nat.{ℕ, _≤_}
-use mathlib.Core.Bool.{Bool, true, false}
-use mathlib.Core.Path.{_≡_, sym, refl, ap, _∙_}
+use Prim.Native.Nat.{_≤_}
+use mathlib.Core.Path.{_≡_, sym, refl, _∙_}
 use borrow.Author.Needs.{needs}
 use Rattle.table.proofs.hidden_before.Statement.{statement}
 use Rattle.table.proofs.hidden_before.Tie as tie
-use Rattle.table.proofs.hidden_before.Reads as reads
-use Rattle.table.proofs.hidden_before.Lts as lts
-use Rattle.table.proofs.hides.Reads as hides-reads
 
 abbrev Inv-loop : tie.InvT-loop
 Inv-loop nodes hashes hash i j₀ j = (anyBelow i (hides (lentNodes hashes nodes) hash) ≡ anyBelow j (hides (lentNodes hashes nodes) hash)) × (j ≤ i)
@@ -30,16 +26,16 @@ hides-requires : tie.Need-hides-requires Inv-loop μ-loop
 hides-requires c κs = search needs
 
 returns : tie.Need-returns Inv-loop μ-loop
-returns c = sym (c .before .before .before .loop .inv .0 ∙ one-below _ _ (c .before .before .loop-test .taken) (sym (c .before .hides .ensures) ∙ c .if1 .taken))
+returns c = sym (c .before .before .before .loop .inv .0 ∙ any-found _ _ (c .before .before .loop-test .taken) (sym (c .before .hides .ensures) ∙ c .if1 .taken))
 
 loop-less : tie.Need-loop-less Inv-loop μ-loop
 loop-less c = search needs
 
 loop-again : tie.Need-loop-again Inv-loop μ-loop
-loop-again c = (c .before .before .before .loop .inv .0 ∙ none-here _ _ (c .before .before .loop-test .taken) (sym (c .before .hides .ensures) ∙ c .if1 .left), omega arith)
+loop-again c = (c .before .before .before .loop .inv .0 ∙ any-later _ _ (c .before .before .loop-test .taken) (sym (c .before .hides .ensures) ∙ c .if1 .left), omega arith)
 
 returns-2 : tie.Need-returns-2 Inv-loop μ-loop
-returns-2 c = sym (c .before .loop .inv .0 ∙ none-left _ _ (c .loop-test .left))
+returns-2 c = sym (c .before .loop .inv .0 ∙ any-none _ _ (c .loop-test .left))
 
 pub hidden-before-spec : {M : Type 1} → statement M
 hidden-before-spec =

@@ -1,25 +1,18 @@
 -- `table::hides` meets its contract: a hidden record's bytes are compared, and no other's.
 use Rattle.table.proofs.Hashes.{hides-kind}
 use Rattle.table.specs.Lent.{hiddenKind, hashIs, nodeIs}
-use Rattle.table.specs.Answers.{recordOf}
 use Rattle.scope.specs.Stages.{noRecord}
 use Rattle.scope.specs.Nodes.{NodeRecord, nodeRecords}
 use Rattle.scope.specs.Numbers.{same}
 use lib.ListN.{getD}
 use borrow.Author.Tests.{not-true, not-false}
 use Prim.Native.Nat.{ℕ}
-use mathlib.Core.List.{List, []}
-use mathlib.Core.Bool.{Bool, true, false}
+use mathlib.Core.List.{List}
+use mathlib.Core.Bool.{true, false}
 use mathlib.Core.Path.{sym, ap, _∙_, _≡_}
 use borrow.Author.Needs.{needs}
 use Rattle.table.proofs.hides.Statement.{statement}
 use Rattle.table.proofs.hides.Tie as tie
-use Rattle.table.proofs.hides.Reads as reads
-use Rattle.table.proofs.hides.Lts as lts
-use Rattle.table.proofs.hash_of.Reads as hash-of-reads
-use Rattle.table.proofs.is_hidden.Reads as is-hidden-reads
-use Rattle.table.proofs.record_at.Reads as record-at-reads
-use Rattle.table.proofs.same_bytes.Reads as same-bytes-reads
 
 record-at-requires : tie.Need-record-at-requires
 record-at-requires c κs = search needs

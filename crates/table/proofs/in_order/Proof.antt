@@ -1,11 +1,8 @@
 -- `table::in_order` meets its contract: the test decides.
 use Rattle.scope.specs.Check.{require}
 use borrow.Author.Tests.{eq-eqb, ne-eqb}
-use borrow.Author.Needs.{needs}
 use Rattle.table.proofs.in_order.Statement.{statement}
 use Rattle.table.proofs.in_order.Tie as tie
-use Rattle.table.proofs.in_order.Reads as reads
-use Rattle.table.proofs.in_order.Lts as lts
 
 returns : tie.Need-returns
 unfolding require

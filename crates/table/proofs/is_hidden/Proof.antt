@@ -1,11 +1,8 @@
 -- `table::is_hidden` meets its contract: the kind hidden, and whatever is no kind.
 use Rattle.table.proofs.Groups.{hidden-by}
 use borrow.Author.Tests.{eq-eqb, ne-eqb}
-use borrow.Author.Needs.{needs}
 use Rattle.table.proofs.is_hidden.Statement.{statement}
 use Rattle.table.proofs.is_hidden.Tie as tie
-use Rattle.table.proofs.is_hidden.Reads as reads
-use Rattle.table.proofs.is_hidden.Lts as lts
 
 returns : tie.Need-returns
 returns c = rw (hidden-by (c .before .args .kind), eq-eqb _ _ (c .if1 .taken))

@@ -1,13 +1,10 @@
 -- `table::left_child` meets its contract: the first number of a kind with a child.
 use Rattle.table.proofs.Groups.{left-first, left-none}
 use native.Mathlib.Omega.{arith}
-use mathlib.Core.Path.{sym, subst}
+use mathlib.Core.Path.{sym}
 use borrow.Author.Needs.{needs}
 use Rattle.table.proofs.left_child.Statement.{statement}
 use Rattle.table.proofs.left_child.Tie as tie
-use Rattle.table.proofs.left_child.Reads as reads
-use Rattle.table.proofs.left_child.Lts as lts
-use Rattle.table.proofs.child_count.Reads as child-count-reads
 
 child-count-requires : tie.Need-child-count-requires
 child-count-requires c κs = search needs

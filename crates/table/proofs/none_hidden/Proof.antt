@@ -1,10 +1,7 @@
 -- `table::none_hidden` meets its contract: the two flags decide.
 use Rattle.table.proofs.Steps.{none-hidden-by}
-use borrow.Author.Needs.{needs}
 use Rattle.table.proofs.none_hidden.Statement.{statement}
 use Rattle.table.proofs.none_hidden.Tie as tie
-use Rattle.table.proofs.none_hidden.Reads as reads
-use Rattle.table.proofs.none_hidden.Lts as lts
 
 returns : tie.Need-returns
 returns c = rw (none-hidden-by, c .if1 .taken)

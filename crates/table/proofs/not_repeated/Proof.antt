@@ -6,15 +6,10 @@ use Rattle.scope.specs.Numbers.{anyBelow}
 use Rattle.scope.specs.Check.{require}
 use Prim.Native.Nat.{ℕ}
 use mathlib.Core.List.{List}
-use mathlib.Core.Bool.{Bool, true, false}
-use mathlib.Core.Path.{_≡_, sym, ap, _∙_}
+use mathlib.Core.Path.{sym, ap, _∙_}
 use borrow.Author.Needs.{needs}
 use Rattle.table.proofs.not_repeated.Statement.{statement}
 use Rattle.table.proofs.not_repeated.Tie as tie
-use Rattle.table.proofs.not_repeated.Reads as reads
-use Rattle.table.proofs.not_repeated.Lts as lts
-use Rattle.table.proofs.hash_of.Reads as hash-of-reads
-use Rattle.table.proofs.hidden_before.Reads as hidden-before-reads
 
 hash-of-requires : tie.Need-hash-of-requires
 hash-of-requires c κs = search needs

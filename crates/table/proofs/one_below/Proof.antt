@@ -1,13 +1,10 @@
 -- `table::one_below` meets its contract: each answer is what the tests on the way to it found.
-use Rattle.table.proofs.Tests.{every-one}
+use Rattle.common.specs.Checks.{every-one}
 use Rattle.scope.specs.Numbers.{every}
 use borrow.Author.Tests.{le-ltb, lt-ltb, eq-eqb, ne-eqb}
 use mathlib.Core.Path.{sym}
-use borrow.Author.Needs.{needs}
 use Rattle.table.proofs.one_below.Statement.{statement}
 use Rattle.table.proofs.one_below.Tie as tie
-use Rattle.table.proofs.one_below.Reads as reads
-use Rattle.table.proofs.one_below.Lts as lts
 
 returns : tie.Need-returns
 unfolding every

@@ -1,11 +1,8 @@
 -- `table::one_hidden` meets its contract: the two flags decide.
 use Rattle.table.proofs.Steps.{one-hidden-by}
 use borrow.Author.Tests.{not-true, not-false}
-use borrow.Author.Needs.{needs}
 use Rattle.table.proofs.one_hidden.Statement.{statement}
 use Rattle.table.proofs.one_hidden.Tie as tie
-use Rattle.table.proofs.one_hidden.Reads as reads
-use Rattle.table.proofs.one_hidden.Lts as lts
 
 returns : tie.Need-returns
 returns c = rw (one-hidden-by, not-true (c .before .args .left) (c .if1 .taken))

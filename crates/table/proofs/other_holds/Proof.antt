@@ -2,18 +2,10 @@
 use Rattle.table.proofs.Groups.{rule-unknown, above-kinds}
 use Rattle.scope.specs.Stages.{numbersRule}
 use Rattle.scope.specs.Nodes.{kindOf}
-use Rattle.scope.specs.Numbers.{every}
-use native.Mathlib.Omega.{arith}
 use mathlib.Core.Path.{sym}
 use borrow.Author.Needs.{needs}
 use Rattle.table.proofs.other_holds.Statement.{statement}
 use Rattle.table.proofs.other_holds.Tie as tie
-use Rattle.table.proofs.other_holds.Reads as reads
-use Rattle.table.proofs.other_holds.Lts as lts
-use Rattle.table.proofs.one_below.Reads as one-below-reads
-use Rattle.table.proofs.stored_within.Reads as stored-within-reads
-use Rattle.table.proofs.unused.Reads as unused-reads
-use Rattle.table.proofs.word_within.Reads as word-within-reads
 
 cast-stored-within : tie.Need-cast-stored-within
 cast-stored-within c = search needs

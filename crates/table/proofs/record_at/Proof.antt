@@ -1,17 +1,14 @@
 -- `table::record_at` meets its contract: the four numbers of record i are where its definition reads them.
-use Rattle.table.proofs.Records.{record-in, record-past}
-use Rattle.scope.specs.Nodes.{NodeRecord, nodeRecord}
+use Rattle.common.specs.Nodes.{record-in, record-past}
+use Rattle.scope.specs.Nodes.{nodeRecord}
 use native.Mathlib.Omega.{arith}
 use mathlib.Core.Path.{sym, ap, _∙_}
 use borrow.Author.Needs.{needs}
 use Rattle.table.proofs.record_at.Statement.{statement}
 use Rattle.table.proofs.record_at.Tie as tie
-use Rattle.table.proofs.record_at.Reads as reads
-use Rattle.table.proofs.record_at.Lts as lts
-use Rattle.table.proofs.wide.Reads as wide-reads
 
-wide-requires : tie.Need-wide-requires
-wide-requires c κs = search needs
+place-requires : tie.Need-place-requires
+place-requires c κs = search needs
 
 mul-at : tie.Need-mul-at
 mul-at c = search needs
@@ -52,7 +49,7 @@ shared-slice-read-t22 c = search needs
 returns : tie.Need-returns
 unfolding nodeRecord
 returns c =
-    ap (nodeRecord (c .before .before .before .before .before .before .before .args .nodes .now)) (c .before .before .before .before .before .wide .ensures .0) ∙ sym (record-in (c .before .before .before .before .before .before .before .args .nodes .now) (c .before .before .before .before .before .before .before .args .i) (omega arith))
+    ap (nodeRecord (c .before .before .before .before .before .before .before .args .nodes .now)) (c .before .before .before .before .before .place .ensures .0) ∙ sym (record-in (c .before .before .before .before .before .before .before .args .nodes .now) (c .before .before .before .before .before .before .before .args .i) (omega arith))
 
 returns-2 : tie.Need-returns-2
 returns-2 c = sym (record-past (c .before .before .before .args .nodes .now) (c .before .before .before .args .i) (omega arith))
@@ -61,7 +58,7 @@ pub record-at-spec : {M : Type 1} → statement M
 record-at-spec =
     tie.close
     (tie.spec
-    wide-requires
+    place-requires
     mul-at
     mul-t8
     shared-slice-read-t10

@@ -1,16 +1,9 @@
 -- `table::record_holds` meets its contract: the groups of kinds.
 use Rattle.table.proofs.Groups.{rule-by}
 use borrow.Author.Tests.{le-leb, lt-leb}
-use mathlib.Core.Path.{sym, _∙_}
 use borrow.Author.Needs.{needs}
 use Rattle.table.proofs.record_holds.Statement.{statement}
 use Rattle.table.proofs.record_holds.Tie as tie
-use Rattle.table.proofs.record_holds.Reads as reads
-use Rattle.table.proofs.record_holds.Lts as lts
-use Rattle.table.proofs.one_below.Reads as one-below-reads
-use Rattle.table.proofs.other_holds.Reads as other-holds-reads
-use Rattle.table.proofs.two_below.Reads as two-below-reads
-use Rattle.table.proofs.unused.Reads as unused-reads
 
 two-below-requires : tie.Need-two-below-requires
 two-below-requires c κs = search needs

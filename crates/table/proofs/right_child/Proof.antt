@@ -1,13 +1,10 @@
 -- `table::right_child` meets its contract: the second number of a kind with two children.
 use Rattle.table.proofs.Groups.{right-second, right-none}
 use native.Mathlib.Omega.{arith}
-use mathlib.Core.Path.{sym, subst}
+use mathlib.Core.Path.{sym}
 use borrow.Author.Needs.{needs}
 use Rattle.table.proofs.right_child.Statement.{statement}
 use Rattle.table.proofs.right_child.Tie as tie
-use Rattle.table.proofs.right_child.Reads as reads
-use Rattle.table.proofs.right_child.Lts as lts
-use Rattle.table.proofs.child_count.Reads as child-count-reads
 
 child-count-requires : tie.Need-child-count-requires
 child-count-requires c κs = search needs

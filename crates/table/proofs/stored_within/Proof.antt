@@ -1,5 +1,5 @@
 -- `table::stored_within` meets its contract: each answer is what the tests on the way to it found. The sum of two 32-bit numbers fits.
-use Rattle.table.proofs.Tests.{every-one}
+use Rattle.common.specs.Checks.{every-one}
 use Rattle.scope.specs.Numbers.{every}
 use borrow.Author.Tests.{lt-leb, le-leb, eq-eqb, ne-eqb}
 use native.Mathlib.Omega.{arith}
@@ -8,15 +8,12 @@ use mathlib.Core.Path.{sym}
 use borrow.Author.Needs.{needs}
 use Rattle.table.proofs.stored_within.Statement.{statement}
 use Rattle.table.proofs.stored_within.Tie as tie
-use Rattle.table.proofs.stored_within.Reads as reads
-use Rattle.table.proofs.stored_within.Lts as lts
-use Rattle.table.proofs.wide.Reads as wide-reads
 
-wide-requires : tie.Need-wide-requires
-wide-requires c κs = search needs
+place-requires : tie.Need-place-requires
+place-requires c κs = search needs
 
-wide-requires-2 : tie.Need-wide-requires-2
-wide-requires-2 c κs = search needs
+place-requires-2 : tie.Need-place-requires-2
+place-requires-2 c κs = search needs
 
 add-if1 : tie.Need-add-if1
 add-if1 c = search needs
@@ -39,4 +36,4 @@ returns-3 c =
 
 pub stored-within-spec : {M : Type 1} → statement M
 stored-within-spec =
-    tie.close (tie.spec wide-requires wide-requires-2 add-if1 returns returns-2 returns-3)
+    tie.close (tie.spec place-requires place-requires-2 add-if1 returns returns-2 returns-3)

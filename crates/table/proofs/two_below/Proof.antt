@@ -1,13 +1,10 @@
 -- `table::two_below` meets its contract: each answer is what the tests on the way to it found.
 use mathlib.Core.Path.{sym}
-use Rattle.table.proofs.Tests.{every-one}
+use Rattle.common.specs.Checks.{every-one}
 use Rattle.scope.specs.Numbers.{every}
 use borrow.Author.Tests.{le-ltb, lt-ltb}
-use borrow.Author.Needs.{needs}
 use Rattle.table.proofs.two_below.Statement.{statement}
 use Rattle.table.proofs.two_below.Tie as tie
-use Rattle.table.proofs.two_below.Reads as reads
-use Rattle.table.proofs.two_below.Lts as lts
 
 returns : tie.Need-returns
 unfolding every

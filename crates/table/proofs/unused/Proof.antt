@@ -1,13 +1,10 @@
 -- `table::unused` meets its contract: each answer is what the tests on the way to it found.
-use Rattle.table.proofs.Tests.{every-one}
+use Rattle.common.specs.Checks.{every-one}
 use Rattle.scope.specs.Numbers.{every}
 use borrow.Author.Tests.{eq-eqb, ne-eqb}
 use mathlib.Core.Path.{sym}
-use borrow.Author.Needs.{needs}
 use Rattle.table.proofs.unused.Statement.{statement}
 use Rattle.table.proofs.unused.Tie as tie
-use Rattle.table.proofs.unused.Reads as reads
-use Rattle.table.proofs.unused.Lts as lts
 
 returns : tie.Need-returns
 unfolding every

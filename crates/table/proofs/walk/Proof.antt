@@ -1,21 +1,14 @@
 -- `table::walk` meets its contract: the count, then the walk from the last node, which is not hidden.
 use Rattle.table.proofs.Stages.{count-refuses-walk, walk-stops, walk-ends}
-use Rattle.table.proofs.Records.{length-records, fine-records}
-use Rattle.table.specs.Answers.{checkOf, walkedOf, finishOf}
+use Rattle.common.specs.Nodes.{length-records, fine-records}
+use Rattle.common.specs.Answers.{checkOf}
+use Rattle.table.specs.Answers.{walkedOf, finishOf}
 use Rattle.scope.specs.Check.{require}
-use Rattle.refusal.specs.declared.Refusal.the-variants.{HiddenElsewhere}
 use native.Mathlib.Omega.{arith}
-use mathlib.Core.Bool.{Bool, not}
-use mathlib.Core.Path.{_≡_, sym, ap, _∙_}
+use mathlib.Core.Path.{sym, ap, _∙_}
 use borrow.Author.Needs.{needs}
 use Rattle.table.proofs.walk.Statement.{statement}
 use Rattle.table.proofs.walk.Tie as tie
-use Rattle.table.proofs.walk.Reads as reads
-use Rattle.table.proofs.walk.Lts as lts
-use Rattle.table.proofs.check_count.Reads as check-count-reads
-use Rattle.table.proofs.finished.Reads as finished-reads
-use Rattle.table.proofs.hidden_at.Reads as hidden-at-reads
-use Rattle.table.proofs.walk_from.Reads as walk-from-reads
 
 check-count-requires : tie.Need-check-count-requires
 check-count-requires c κs = search needs

@@ -1,14 +1,10 @@
 -- `table::walk_stage` meets its contract: 4 and 26, then the program's length, then the walk.
 use Rattle.table.proofs.Stages.{stage-refused, stage-too-long, stage-walks}
-use Rattle.table.specs.Answers.{checkOf}
-use mathlib.Core.Path.{_≡_, sym, ap, _∙_}
+use Rattle.common.specs.Answers.{checkOf}
+use mathlib.Core.Path.{sym, ap, _∙_}
 use borrow.Author.Needs.{needs}
 use Rattle.table.proofs.walk_stage.Statement.{statement}
 use Rattle.table.proofs.walk_stage.Tie as tie
-use Rattle.table.proofs.walk_stage.Reads as reads
-use Rattle.table.proofs.walk_stage.Lts as lts
-use Rattle.table.proofs.check_records.Reads as check-records-reads
-use Rattle.table.proofs.walk.Reads as walk-reads
 
 check-records-requires : tie.Need-check-records-requires
 check-records-requires c κs = search needs

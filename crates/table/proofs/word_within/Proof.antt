@@ -1,16 +1,12 @@
 -- `table::word_within` meets its contract: a word's last bit is told by whole bytes, so that no sum passes 2^34.
+use Rattle.common.specs.Words.{word-has}
 use Rattle.table.proofs.Tests.{word-none, word-over, word-third, word-end}
-use native.Mathlib.Omega.{arith}
 use lib.Dec.{leb}
-use Prim.Native.Nat.{ℕ, _+_, _-_, _^_, _/_}
-use mathlib.Core.Path.{_≡_, ap, _∙_, ap₂}
+use Prim.Native.Nat.{ℕ, _+_, _/_}
+use mathlib.Core.Path.{_∙_, ap₂}
 use borrow.Author.Needs.{needs}
 use Rattle.table.proofs.word_within.Statement.{statement}
 use Rattle.table.proofs.word_within.Tie as tie
-use Rattle.table.proofs.word_within.Reads as reads
-use Rattle.table.proofs.word_within.Lts as lts
-use Rattle.table.proofs.wide.Reads as wide-reads
-use Rattle.table.proofs.word_bits.Reads as word-bits-reads
 
 returns : tie.Need-returns
 returns c = word-none _ _ _ _ (c .if1 .taken)
@@ -21,8 +17,8 @@ returns-2 c = word-over _ _ _ _ (c .before .before .if1 .left) (c .if2 .taken)
 returns-3 : tie.Need-returns-3
 returns-3 c = word-third _ _ _ _ (c .before .before .before .before .if1 .left) (c .before .before .if2 .left) (c .if3 .taken)
 
-wide-requires : tie.Need-wide-requires
-wide-requires c κs = search needs
+place-requires : tie.Need-place-requires
+place-requires c κs = search needs
 
 word-bits-requires : tie.Need-word-bits-requires
 word-bits-requires c κs = search needs
@@ -35,8 +31,10 @@ add-result c = search needs
 
 returns-4 : tie.Need-returns-4
 returns-4 c =
-    let e = ap₂ (λ (x y : ℕ). leb ((x + y + 7) / 8) (c .before .before .before .before .before .before .before .before .args .bytes)) (c .before .wide .ensures .0) (c .word-bits .ensures .0) in
-    e ∙ word-end _ _ _ _ (c .before .before .before .before .before .before .if1 .left) (c .before .before .before .before .if2 .left) (c .before .before .if3 .left)
+    let one-or-more = c .before .before .before .before .before .before .if1 .left in
+    let few = c .before .before .before .before .if2 .left in
+    let e = ap₂ (λ (x y : ℕ). leb ((x + y + 7) / 8) (c .before .before .before .before .before .before .before .before .args .bytes)) (c .before .place .ensures .0) (c .word-bits .ensures .0 ∙ word-has _ one-or-more few) in
+    e ∙ word-end _ _ _ _ one-or-more few (c .before .before .if3 .left)
 
 pub word-within-spec : {M : Type 1} → statement M
 word-within-spec =
@@ -45,7 +43,7 @@ word-within-spec =
     returns
     returns-2
     returns-3
-    wide-requires
+    place-requires
     word-bits-requires
     add-end
     add-result

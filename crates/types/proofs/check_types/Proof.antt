@@ -3,7 +3,7 @@
 use mathlib.Core.Path.{_≡_, ap, ap₂, sym, _∙_}
 use mathlib.Core.Logic.{⊎-elim}
 use mathlib.Core.List.{List}
-use Prim.Native.Nat.{ℕ, _+_, _-_, _/_, _≤_}
+use Prim.Native.Nat.{ℕ, _-_, _/_, _≤_}
 use native.Mathlib.Omega.{arith}
 use lib.ListN.{length, set, length-set, length-replicate}
 use borrow.Author.Needs.{needs}
@@ -12,12 +12,14 @@ use Rattle.limits.specs.Limits.{typeCount, typeBytes}
 use Rattle.refusal.specs.declared.Refusal.the-variants.{TypeRecord}
 use Rattle.scope.specs.Check.{firstFailing}
 use Rattle.scope.specs.Types.{typeRecords, typeAt, typeRule}
+use Rattle.common.specs.Checks.{counted-none, counted-over, counted-fine}
+use Rattle.common.specs.Passes.{Passing, pass-start, pass-more, first-failed, none-failed}
 use Rattle.types.specs.Records.{recordJudged, recordNext, nextAt}
 use Rattle.types.specs.Table.{arrayOf}
 use Rattle.types.specs.declared.TypeAnswer.{TypeAnswer}
 use Rattle.types.specs.declared.TypeAnswer.the-variants.{Records, Refused}
 use Rattle.types.specs.declared.TypeTable.{TypeTable}
-use Rattle.types.proofs.Check.{array-none, array-more, widthFor, good-record, bad-record, next-record, failing-later, failing-here, failing-none, counted-good, counted-none, counted-many, table-uncounted, table-bad, table-good}
+use Rattle.types.proofs.Check.{array-none, array-more, widthFor, good-record, bad-record, next-record, table-uncounted, table-bad, table-good}
 use Rattle.types.proofs.Records.{length-records}
 use Rattle.types.proofs.check_types.Statement.{statement}
 use Rattle.types.proofs.check_types.Tie as tie
@@ -27,10 +29,9 @@ tabled says widths next = record { answer = says; widths = widths; next = next }
 
 abbrev Inv-loop : tie.InvT-loop
 Inv-loop types widths₀ next₀ count i₀ widths next i =
-    (firstFailing (typeRule (typeRecords types)) count 0 ≡ firstFailing (typeRule (typeRecords types)) (count - i) i)
+    Passing (typeRule (typeRecords types)) count i
     × (widths ≡ arrayOf i (widthFor (typeRecords types)))
     × (next ≡ arrayOf i (nextAt (typeRecords types)))
-    × (i ≤ count)
     × (count ≤ typeCount)
     × (length widths ≡ typeCount)
     × (length next ≡ typeCount)
@@ -43,13 +44,13 @@ unfolding arrayOf
 returns c =
     let b = c .before .before .args .types .now in
     let s : length (typeRecords b) ≡ length b / typeBytes = length-records b in
-    table-uncounted b (⊎-elim (λ w. counted-none (length (typeRecords b)) typeCount (omega arith)) (λ w. counted-many (length (typeRecords b)) typeCount (omega (arith, ltb-true typeCount (length b / typeBytes) (w .1 .taken)))) (c .if1 .came))
+    table-uncounted b (⊎-elim (λ w. counted-none (length (typeRecords b)) typeCount (omega arith)) (λ w. counted-over (length (typeRecords b)) typeCount (omega (arith, ltb-true typeCount (length b / typeBytes) (w .1 .taken)))) (c .if1 .came))
 
 loop-holds : tie.Need-loop-holds Inv-loop μ-loop
 loop-holds c =
     let b = c .before .before .before .args .types .now in
     let T = typeRecords b in
-    (ap (λ (k : ℕ). firstFailing (typeRule T) k 0) (let e : length b / typeBytes ≡ length b / typeBytes - 0 = omega arith in e), sym (array-none (widthFor T)), sym (array-none (nextAt T)), omega arith, ltb-false _ _ (c .if2 .left), length-replicate {A = ℕ} typeCount 0, length-replicate {A = ℕ} typeCount 0)
+    (pass-start (typeRule T) (length b / typeBytes), sym (array-none (widthFor T)), sym (array-none (nextAt T)), ltb-false _ _ (c .if2 .left), length-replicate {A = ℕ} typeCount 0, length-replicate {A = ℕ} typeCount 0)
 
 slice-aggregate-judge : tie.Need-slice-aggregate-judge Inv-loop μ-loop
 slice-aggregate-judge c = search needs
@@ -73,10 +74,9 @@ returns-2 c =
     let T = typeRecords b in
     let n = length b / typeBytes in
     let s : length T ≡ n = length-records b in
-    let some = counted-good (length T) typeCount (omega arith) (omega arith) in
-    let j : n - l .i ≡ n - (l .i + 1) + 1 = omega arith in
+    let some = counted-fine (length T) typeCount (omega arith) (omega arith) in
     let broken = bad-record T (l .i) (omega arith) (sym (c .enum-told .given .1) ∙ c .before .before .judge .ensures ∙ ap (λ (w : List ℕ). recordJudged T w (l .i)) (l .inv .1)) in
-    let first : firstFailing (typeRule T) (length T) 0 ≡ l .i = ap (λ (k : ℕ). firstFailing (typeRule T) k 0) s ∙ l .inv .0 ∙ ap (λ (k : ℕ). firstFailing (typeRule T) k (l .i)) j ∙ failing-here (typeRule T) (n - (l .i + 1)) (l .i) broken in
+    let first : firstFailing (typeRule T) (length T) 0 ≡ l .i = ap (λ (k : ℕ). firstFailing (typeRule T) k 0) s ∙ first-failed (typeRule T) n (l .i) (omega arith) broken (l .inv .0) in
     ap₂ (tabled (Refused (TypeRecord (l .i)))) (l .inv .1) (l .inv .2) ∙ table-bad b some (l .i) (omega arith) first
 
 slice-aggregate-next-record : tie.Need-slice-aggregate-next-record Inv-loop μ-loop
@@ -113,18 +113,16 @@ loop-again c =
     let T = typeRecords b in
     let n = length b / typeBytes in
     let s : length T ≡ n = length-records b in
-    let j : n - l .i ≡ n - (l .i + 1) + 1 = omega arith in
     let g = c .before .before .before .before .width .given in
     let r = good-record T (l .i) (omega arith) (g .0 .0) (sym (g .1) ∙ c .before .before .before .before .before .before .judge .ensures ∙ ap (λ (w : List ℕ). recordJudged T w (l .i)) (l .inv .1)) in
     let x : c .next-record .result ≡ nextAt T (l .i) =
     c .next-record .ensures ∙ ap₂ (λ (w y : List ℕ). recordNext (typeAt T (l .i)) w y (l .i)) (l .inv .1) (l .inv .2) ∙ next-record T (l .i) (omega arith) (r .0) in (
-      l .inv .0 ∙ ap (λ (k : ℕ). firstFailing (typeRule T) k (l .i)) j ∙ failing-later (typeRule T) (n - (l .i + 1)) (l .i) (r .1),
+      pass-more (typeRule T) n (l .i) (omega arith) (r .1) (l .inv .0),
       ap (λ (w : List ℕ). set w (l .i) (g .0 .0)) (l .inv .1) ∙ array-more (widthFor T) (l .i) (g .0 .0) (omega arith) (r .2),
       ap (λ (w : List ℕ). set w (l .i) (c .next-record .result)) (l .inv .2) ∙ array-more (nextAt T) (l .i) (c .next-record .result) (omega arith) x,
-      omega arith,
-      l .inv .4,
-      length-set (l .widths) (l .i) (g .0 .0) ∙ l .inv .5,
-      length-set (l .next) (l .i) (c .next-record .result) ∙ l .inv .6,
+      l .inv .3,
+      length-set (l .widths) (l .i) (g .0 .0) ∙ l .inv .4,
+      length-set (l .next) (l .i) (c .next-record .result) ∙ l .inv .5,
     )
 
 returns-3 : tie.Need-returns-3 Inv-loop μ-loop
@@ -134,10 +132,9 @@ returns-3 c =
     let T = typeRecords b in
     let n = length b / typeBytes in
     let s : length T ≡ n = length-records b in
-    let some = counted-good (length T) typeCount (omega arith) (omega arith) in
-    let z : n - l .i ≡ 0 = omega arith in
+    let some = counted-fine (length T) typeCount (omega arith) (omega arith) in
     let y : l .i ≡ n = omega arith in
-    let first : firstFailing (typeRule T) (length T) 0 ≡ n = ap (λ (k : ℕ). firstFailing (typeRule T) k 0) s ∙ l .inv .0 ∙ ap (λ (k : ℕ). firstFailing (typeRule T) k (l .i)) z ∙ failing-none (typeRule T) (l .i) ∙ y in
+    let first : firstFailing (typeRule T) (length T) 0 ≡ n = ap (λ (k : ℕ). firstFailing (typeRule T) k 0) s ∙ none-failed (typeRule T) n (l .i) (omega arith) (l .inv .0) in
     ap₂ (tabled (Records n)) (l .inv .1 ∙ ap (λ (k : ℕ). arrayOf k (widthFor T)) y) (l .inv .2 ∙ ap (λ (k : ℕ). arrayOf k (nextAt T)) y) ∙ table-good b some n (sym s) first
 
 pub check-types-spec : {M : Type 1} → statement M

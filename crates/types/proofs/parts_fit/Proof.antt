@@ -3,7 +3,8 @@ use mathlib.Core.Path.{sym, _∙_}
 use mathlib.Core.List.{[], _∷_}
 use lib.Dec.{eqb, ltb}
 use borrow.Author.Tests.{eq-eqb, ne-eqb, lt-ltb, le-ltb}
-use Rattle.types.proofs.Records.{rule-unit, rule-pair, rule-none, every-both, every-stop}
+use Rattle.common.specs.Checks.{every-failed}
+use Rattle.types.proofs.Records.{rule-unit, rule-pair, rule-none, every-both}
 use Rattle.types.proofs.parts_fit.Statement.{statement}
 use Rattle.types.proofs.parts_fit.Tie as tie
 
@@ -15,7 +16,7 @@ returns c =
 returns-2 : tie.Need-returns-2
 returns-2 c =
     let a = c .before .before .args in
-    sym (rule-unit [] (a .i) (a .tag) (a .left) (a .right) (c .before .if1 .taken) ∙ every-stop _ (eqb (a .right) 0 ∷ []) (ne-eqb (a .left) 0 (c .if2 .left)))
+    sym (rule-unit [] (a .i) (a .tag) (a .left) (a .right) (c .before .if1 .taken) ∙ every-failed _ (eqb (a .right) 0 ∷ []) (ne-eqb (a .left) 0 (c .if2 .left)))
 
 returns-3 : tie.Need-returns-3
 returns-3 c =
@@ -25,7 +26,7 @@ returns-3 c =
 returns-4 : tie.Need-returns-4
 returns-4 c =
     let a = c .before .before .before .args in
-    sym (rule-pair [] (a .i) (a .tag) (a .left) (a .right) (c .before .before .if1 .left) (c .before .if3 .taken) ∙ every-stop _ (ltb (a .right) (a .i) ∷ []) (le-ltb (a .left) (a .i) (c .if4 .left)))
+    sym (rule-pair [] (a .i) (a .tag) (a .left) (a .right) (c .before .before .if1 .left) (c .before .if3 .taken) ∙ every-failed _ (ltb (a .right) (a .i) ∷ []) (le-ltb (a .left) (a .i) (c .if4 .left)))
 
 returns-5 : tie.Need-returns-5
 returns-5 c =

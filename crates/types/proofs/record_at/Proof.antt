@@ -27,17 +27,17 @@ mul-at c = search needs
 shared-slice-read-t8 : tie.Need-shared-slice-read-t8
 shared-slice-read-t8 c = search needs
 
-add-index-at : tie.Need-add-index-at
-add-index-at c = search needs
+add-half-at : tie.Need-add-half-at
+add-half-at c = search needs
 
-index-at-requires : tie.Need-index-at-requires
-index-at-requires c κs = search needs
+half-at-requires : tie.Need-half-at-requires
+half-at-requires c κs = search needs
 
-add-index-at-2 : tie.Need-add-index-at-2
-add-index-at-2 c = search needs
+add-half-at-2 : tie.Need-add-half-at-2
+add-half-at-2 c = search needs
 
-index-at-requires-2 : tie.Need-index-at-requires-2
-index-at-requires-2 c κs = search needs
+half-at-requires-2 : tie.Need-half-at-requires-2
+half-at-requires-2 c κs = search needs
 
 returns-2 : tie.Need-returns-2
 unfolding typeRecord
@@ -45,8 +45,8 @@ returns-2 c =
     let a = c .before .before .before .before .before .args in
     let e : a .i * typeBytes ≡ typeBytes * a .i = omega arith in
     let tag : getD (a .types .now) (a .i * typeBytes) 0 ≡ (typeRecord (a .types .now) (a .i)) .tag = ap (λ (k : ℕ). getD (a .types .now) k 0) e in
-    let left : c .before .index-at .result ≡ (typeRecord (a .types .now) (a .i)) .left = c .before .index-at .ensures ∙ ap (λ (k : ℕ). be16 (a .types .now) (k + 1)) e in
-    let right : c .index-at2 .result ≡ (typeRecord (a .types .now) (a .i)) .right = c .index-at2 .ensures ∙ ap (λ (k : ℕ). be16 (a .types .now) (k + 3)) e in
+    let left : c .before .half-at .result ≡ (typeRecord (a .types .now) (a .i)) .left = c .before .half-at .ensures ∙ ap (λ (k : ℕ). be16 (a .types .now) (k + 1)) e in
+    let right : c .half-at2 .result ≡ (typeRecord (a .types .now) (a .i)) .right = c .half-at2 .ensures ∙ ap (λ (k : ℕ). be16 (a .types .now) (k + 3)) e in
     made tag left right ∙ ap recordOf (sym (record-in (a .types .now) (a .i) (omega arith)))
 
 pub record-at-spec : {M : Type 1} → statement M
@@ -56,8 +56,8 @@ record-at-spec =
     returns
     mul-at
     shared-slice-read-t8
-    add-index-at
-    index-at-requires
-    add-index-at-2
-    index-at-requires-2
+    add-half-at
+    half-at-requires
+    add-half-at-2
+    half-at-requires-2
     returns-2)

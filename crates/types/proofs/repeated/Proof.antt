@@ -1,12 +1,12 @@
 -- `types::repeated` meets its contract. The loop goes down from i: that an earlier record equals record i is that one below j does.
-use mathlib.Core.Path.{refl, _≡_, ap, ap₂, sym, _∙_}
-use Prim.Native.Nat.{_-_, _≤_, ℕ, _+_}
+use mathlib.Core.Path.{refl, _≡_, ap₂, sym, _∙_}
+use Prim.Native.Nat.{_-_, _≤_}
 use native.Mathlib.Omega.{arith}
 use borrow.Author.Needs.{needs}
 use Rattle.scope.specs.Numbers.{anyBelow}
 use Rattle.scope.specs.Types.{typeRecords, typeAt, sameType}
 use Rattle.types.specs.Table.{recordOf, sameRecord}
-use Rattle.types.proofs.Records.{any-none, any-here, any-below}
+use Rattle.common.specs.Checks.{any-found, any-later, any-none}
 use Rattle.types.proofs.repeated.Statement.{statement}
 use Rattle.types.proofs.repeated.Tie as tie
 
@@ -39,8 +39,7 @@ returns c =
     let T = typeRecords (a .types .now) in
     let test = sameType T (a .i) in
     let s : c .before .same .result ≡ test (l .j - 1) = c .before .same .ensures ∙ ap₂ sameRecord (l .inv .0) (c .before .before .record-at2 .ensures) in
-    let j : l .j ≡ l .j - 1 + 1 = omega arith in
-    sym (l .inv .1 ∙ ap (λ (k : ℕ). anyBelow k test) j ∙ any-here test (l .j - 1) (sym s ∙ c .if1 .taken))
+    sym (l .inv .1 ∙ any-found (l .j) test (omega arith) (sym s ∙ c .if1 .taken))
 
 loop-less : tie.Need-loop-less Inv-loop μ-loop
 loop-less c = search needs
@@ -53,8 +52,7 @@ loop-again c =
     let T = typeRecords (a .types .now) in
     let test = sameType T (a .i) in
     let s : c .before .same .result ≡ test (l .j - 1) = c .before .same .ensures ∙ ap₂ sameRecord (l .inv .0) (c .before .before .record-at2 .ensures) in
-    let j : l .j ≡ l .j - 1 + 1 = omega arith in
-    (l .inv .0, l .inv .1 ∙ ap (λ (k : ℕ). anyBelow k test) j ∙ any-below test (l .j - 1) (sym s ∙ c .if1 .left), omega arith)
+    (l .inv .0, l .inv .1 ∙ any-later (l .j) test (omega arith) (sym s ∙ c .if1 .left), omega arith)
 
 returns-2 : tie.Need-returns-2 Inv-loop μ-loop
 returns-2 c =
@@ -62,8 +60,7 @@ returns-2 c =
     let a = c .before .before .before .before .args in
     let T = typeRecords (a .types .now) in
     let test = sameType T (a .i) in
-    let z : l .j ≡ 0 = omega arith in
-    sym (l .inv .1 ∙ ap (λ (k : ℕ). anyBelow k test) z ∙ any-none test)
+    sym (l .inv .1 ∙ any-none (l .j) test (omega arith))
 
 pub repeated-spec : {M : Type 1} → statement M
 repeated-spec =

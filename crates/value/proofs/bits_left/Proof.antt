@@ -2,7 +2,8 @@
 use native.Mathlib.Omega.{arith}
 use lib.ListN.{length-drop}
 use borrow.Author.Needs.{needs}
-use Rattle.bititer.proofs.Streams.{length-over, length-within}
+use Rattle.common.specs.Bits.{length-within}
+use Rattle.bititer.proofs.Streams.{length-over}
 use Rattle.scope.specs.Numbers.{streamOf}
 use Rattle.value.proofs.bits_left.Statement.{statement}
 use Rattle.value.proofs.bits_left.Tie as tie

@@ -5,7 +5,7 @@ use native.Mathlib.Omega.{arith}
 use lib.Dec.{leb}
 use borrow.Author.Needs.{needs}
 use Rattle.report.specs.Bits.{bitsOf}
-use Rattle.bititer.proofs.Bits.{length-bits}
+use Rattle.common.specs.Bits.{length-bits}
 use Rattle.value.proofs.Ways.{room-none, room-inside, room-outside}
 use Rattle.value.proofs.has_room.Statement.{statement}
 use Rattle.value.proofs.has_room.Tie as tie

@@ -20,14 +20,14 @@ loop-holds c = search needs
 width-at-requires : tie.Need-width-at-requires Inv-loop μ-loop
 width-at-requires c κs = search needs
 
-cast-number16 : tie.Need-cast-number16 Inv-loop μ-loop
-cast-number16 c = search needs
+mul-half-at : tie.Need-mul-half-at Inv-loop μ-loop
+mul-half-at c = search needs
 
-mul-number16 : tie.Need-mul-number16 Inv-loop μ-loop
-mul-number16 c = search needs
+half-at-requires : tie.Need-half-at-requires Inv-loop μ-loop
+half-at-requires c κs = search needs
 
-number16-requires : tie.Need-number16-requires Inv-loop μ-loop
-number16-requires c κs = search needs
+cast-if1 : tie.Need-cast-if1 Inv-loop μ-loop
+cast-if1 c = search needs
 
 returns : tie.Need-returns Inv-loop μ-loop
 returns c = search needs
@@ -35,20 +35,14 @@ returns c = search needs
 next-at-requires : tie.Need-next-at-requires Inv-loop μ-loop
 next-at-requires c κs = search needs
 
-cast-if2 : tie.Need-cast-if2 Inv-loop μ-loop
-cast-if2 c = search needs
+mul-half-at-2 : tie.Need-mul-half-at-2 Inv-loop μ-loop
+mul-half-at-2 c = search needs
 
-cast-number16-2 : tie.Need-cast-number16-2 Inv-loop μ-loop
-cast-number16-2 c = search needs
+add-half-at : tie.Need-add-half-at Inv-loop μ-loop
+add-half-at c = search needs
 
-mul-number16-2 : tie.Need-mul-number16-2 Inv-loop μ-loop
-mul-number16-2 c = search needs
-
-add-number16 : tie.Need-add-number16 Inv-loop μ-loop
-add-number16 c = search needs
-
-number16-requires-2 : tie.Need-number16-requires-2 Inv-loop μ-loop
-number16-requires-2 c κs = search needs
+half-at-requires-2 : tie.Need-half-at-requires-2 Inv-loop μ-loop
+half-at-requires-2 c κs = search needs
 
 returns-2 : tie.Need-returns-2 Inv-loop μ-loop
 returns-2 c = search needs
@@ -74,16 +68,14 @@ entries-right-spec =
     part-requires
     loop-holds
     width-at-requires
-    cast-number16
-    mul-number16
-    number16-requires
+    mul-half-at
+    half-at-requires
+    cast-if1
     returns
     next-at-requires
-    cast-if2
-    cast-number16-2
-    mul-number16-2
-    add-number16
-    number16-requires-2
+    mul-half-at-2
+    add-half-at
+    half-at-requires-2
     returns-2
     add-k
     loop-less

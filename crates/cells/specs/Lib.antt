@@ -1,2 +1,0 @@
--- Copying in a list of bits.
-pub mod Copying

@@ -1,0 +1,13 @@
+pub mod Lists
+pub mod Tables
+pub mod Filling
+pub mod Checks
+pub mod Passes
+pub mod Numbers
+pub mod Bits
+pub mod Cells
+pub mod Types
+pub mod Nodes
+pub mod Stores
+pub mod Words
+pub mod Answers
