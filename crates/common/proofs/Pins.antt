@@ -7,6 +7,8 @@ use contract.Lifetimes.{Lfts}
 use denote.Ref.{now}
 use denote.Triple.Clauses.{AtExit}
 use Rattle.common.specs.Answers.{OneResult, check-tells}
+use Rattle.common.proofs.answer_of.Kinds as answer-of-kinds
+use Rattle.common.proofs.answer_of.Reads as answer-of-reads
 use Rattle.common.proofs.first_refusal.Kinds as first-refusal-kinds
 use Rattle.common.proofs.first_refusal.Reads as first-refusal-reads
 use Rattle.common.proofs.index.Kinds as index-kinds
@@ -36,6 +38,9 @@ use Rattle.common.proofs.clear_bytes.Reads as clear-bytes-reads
 
 pub first-refusal : OneResult 0 first-refusal-kinds.ps first-refusal-kinds.r first-refusal-reads.Post
 first-refusal κs a s t x y p q = check-tells s t (p ∙ sym q)
+
+pub answer-of : OneResult 0 answer-of-kinds.ps answer-of-kinds.r answer-of-reads.Post
+answer-of κs a s t x y p q = p ∙ sym q
 
 pub index : OneResult 0 index-kinds.ps index-kinds.r index-reads.Post
 index κs a s t x y p q = p .0 ∙ sym (q .0)

@@ -1,13 +1,14 @@
 // What several crates ask of numbers, bytes and stores: a number in a wider type, a number in bytes with the high byte first,
 // a part of a slice, whether two slices hold the same bytes, zeros from an index on; and the answer of a check.
 // Each call answers on every input: past the end of a slice stand zeros, and a part ends where its slice does.
+use refusal::Answer;
 use refusal::Refusal;
 ghost use mathlib.Core.Path.{_≡_};
 ghost use Prim.Native.Nat.{_^_, _<_};
 ghost use lib.ListN.{getD, take, drop};
 ghost use Rattle.limits.specs.Limits.{wordMost};
 ghost use Rattle.scope.specs.Numbers.{be16, be32, bytesFor, same};
-ghost use Rattle.common.specs.Answers.{checkOf, inTurn};
+ghost use Rattle.common.specs.Answers.{checkOf, inTurn, answerOf};
 ghost use Rattle.common.specs.Stores.{cleared};
 ghost use Rattle.common.specs.Words.{wordBits};
 
@@ -25,6 +26,16 @@ pub fn first_refusal(first: Checked, second: Checked) -> Checked
         return first;
     };
     second
+}
+
+// A check as the answer of a job that has nothing to tell.
+pub fn answer_of(check: Checked) -> Answer
+    ensures { λ r. ⌜ r ≡ answerOf check ⌝ }
+{
+    match check {
+        Checked::Passed => Answer::Value(0),
+        Checked::Refused(why) => Answer::Refused(why),
+    }
 }
 
 // An index of 16 bits as a place.

@@ -3,11 +3,11 @@ use mathlib.Core.Path.{_≡_, sym, _∙_}
 use mathlib.Core.List.{List}
 use Prim.Native.Nat.{ℕ}
 use Rattle.scope.specs.Header.{count, checkHeader, section, opened}
-use Rattle.header.specs.Answer.{headerAnswer}
-use Rattle.header.specs.declared.HeaderAnswer.{HeaderAnswer}
+use Rattle.common.specs.declared.Checked.{Checked}
+use Rattle.common.specs.Answers.{checkOf, check-tells}
 
-pub check-header : (d : List ℕ) (r q : HeaderAnswer) → r ≡ headerAnswer (checkHeader d) → q ≡ headerAnswer (checkHeader d) → r ≡ q
-check-header d r q e f = e ∙ sym f
+pub check-header : (d : List ℕ) (r q : Checked) → checkOf r ≡ checkHeader d → checkOf q ≡ checkHeader d → r ≡ q
+check-header d r q e f = check-tells r q (e ∙ sym f)
 
 pub count-of : (d : List ℕ) (k r q : ℕ) → r ≡ count d k → q ≡ count d k → r ≡ q
 count-of d k r q e f = e ∙ sym f

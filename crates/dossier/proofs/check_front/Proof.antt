@@ -8,7 +8,6 @@ use Rattle.dossier.proofs.check_front.Tie as tie
 use Rattle.dossier.proofs.check_front.Reads as reads
 use Rattle.dossier.proofs.check_front.Lts as lts
 use Rattle.arrow.proofs.types_hold.Reads as types-hold-reads
-use Rattle.dossier.proofs.check_header.Reads as check-header-reads
 use Rattle.header.proofs.section.Reads as section-reads
 
 check-header-requires : tie.Need-check-header-requires
