@@ -10,9 +10,9 @@ use borrow.Author.Tests.{ne-eqb}
 use Rattle.limits.specs.Limits.{arrowBytes}
 use Rattle.report.specs.Nodes.{Node, case, disconnect}
 use Rattle.scope.specs.Numbers.{every}
-use Rattle.scope.specs.Types.{TypeRecord}
+use Rattle.scope.specs.Types.{TypeRecord, isSum, isProduct, isWord, leftAt, rightAt}
 use Rattle.scope.specs.Nodes.{kindOf, nodeOf, NodeRecord, nodeRecords, nodeAt, onOneChild}
-use Rattle.scope.specs.Arrows.{Arrow, noArrow, arrowRecord, arrowRecords, source, target, isSum, isProduct, isWord, leftAt, rightAt, branchRule, kindRule, arrowRule, noOneChild}
+use Rattle.scope.specs.Arrows.{Arrow, noArrow, arrowRecord, arrowRecords, source, target, branchRule, kindRule, arrowRule, noOneChild}
 use Rattle.scope.specs.Walk.{hiddenAt}
 use Rattle.scope.specs.Stages.{noRecord}
 use Rattle.table.specs.Lent.{lentNodes, nodeIs}

@@ -16,7 +16,7 @@ use Rattle.header.specs.declared.HeaderAnswer.the-variants.{Passed, Refused}
 use Rattle.table.specs.Answers.{checkOf}
 use Rattle.table.specs.declared.Checked.{Checked}
 use Rattle.table.specs.declared.Checked.the-variants as Checked
-use Rattle.arrow.specs.Stage.{countedTypes}
+use Rattle.stages.specs.Stage.{countedTypes}
 use Rattle.dossier.specs.Ends.{front}
 use Rattle.dossier.proofs.Decoded.{types-counted}
 

@@ -17,8 +17,7 @@ use Rattle.report.specs.Table.{entries}
 use Rattle.report.specs.Types.{Ty, one, width}
 use Rattle.scope.specs.Check.{passed}
 use Rattle.scope.specs.Numbers.{anyBelow}
-use Rattle.scope.specs.Types.{TypeRecord, typeFrom, typeMake, noType, tyAt, typeAt, sameType, partsRule, typeRule, checkTypes}
-use Rattle.scope.specs.Arrows.{leftAt, rightAt}
+use Rattle.scope.specs.Types.{TypeRecord, typeFrom, typeMake, noType, tyAt, typeAt, sameType, partsRule, typeRule, checkTypes, leftAt, rightAt}
 use Rattle.exactness.specs.Table.{entries-at}
 use Rattle.exactness.specs.Checks.{clash, AllTrue, every-all, all-every, none-below, each-holds, holds-each}
 

@@ -22,7 +22,7 @@ use Rattle.exactness.specs.Checks.{clash, then-passes}
 use Rattle.theory.specs.NodeTerms.{cells-alike, frames-alike}
 use Rattle.table.specs.declared.Checked.the-variants.{Passed, Refused}
 use Rattle.table.proofs.Stages.{first-refused}
-use Rattle.arrow.proofs.Passed.{hashes-passed}
+use Rattle.stages.proofs.Passed.{hashes-passed}
 use Rattle.analysis.specs.Limits.{boundedOf, countedBounds}
 use Rattle.analysis.specs.declared.BoundsAnswer.the-variants.{Bounded, Refused as OverLimits}
 use Rattle.analysis.proofs.Stage.{judgedBounds, bounded-says, refused-says, whole-judged}
@@ -169,14 +169,14 @@ module _ (types nodes arrows program hashes given witness : List ℕ) (witnessBi
     arrowed = hashes-passed types nodes program hashes arrows given held .0
 
     -- what the bounds of the lent tables say of the program
-    judged : countedBounds (typeWidths types) nodes arrows ≡ judgedBounds P
+    judged : countedBounds types (typeWidths types) nodes arrows ≡ judgedBounds P
     judged = whole-judged types nodes arrows program hashes arrowed given witness witnessBits input inputBits []
 
-    pub bounds-stop : (why : Refusal) → boundedOf (OverLimits why) ≡ countedBounds (typeWidths types) nodes arrows
+    pub bounds-stop : (why : Refusal) → boundedOf (OverLimits why) ≡ countedBounds types (typeWidths types) nodes arrows
         → unprepared why ≡ prepared types nodes arrows program hashes given witness witnessBits input inputBits (zeros cells) (zeros frames) (zeros answer)
     bounds-stop why e = bounds-refused why (refused-says P why (e ∙ judged))
 
-    module _ (cellBound frameBound cost : ℕ) (e : boundedOf (Bounded cellBound frameBound cost) ≡ countedBounds (typeWidths types) nodes arrows)
+    module _ (cellBound frameBound cost : ℕ) (e : boundedOf (Bounded cellBound frameBound cost) ≡ countedBounds types (typeWidths types) nodes arrows)
         (r : WitnessTable) (is : r ≡ suppliedTable (typeRecords types) (nodesOf (streamOf program) hashes (nodeRecords nodes)) (arrowRecords arrows)
         witness witnessBits input inputBits cellBound frameBound cells frames answer) where
       said : (checkBounds P ≡ passed tt) × (cellBound ≡ wholeCells P) × (frameBound ≡ wholeFrames P)

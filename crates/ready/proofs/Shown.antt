@@ -41,7 +41,7 @@ use Rattle.theory.specs.LentTables.{lent-checked}
 use Rattle.theory.specs.NodeTerms.{cells-alike, frames-alike, target-alike, source-alike}
 use Rattle.theory.specs.Theorems.{never-stuck, whole-safe}
 use Rattle.table.proofs.Records.{length-nodes}
-use Rattle.arrow.proofs.Passed.{LentPassed, lent-passed, stage-passed, stage-arrows, hashes-passed}
+use Rattle.stages.proofs.Passed.{LentPassed, lent-passed, stage-passed, stage-arrows, hashes-passed}
 use Rattle.types.specs.Table.{checkTable, typeWidths, typeNext}
 use Rattle.types.proofs.Sound.{counted-passed}
 use Rattle.types.proofs.Tables.{length-tabulate, tabulate-at, tabulate-more}

@@ -31,6 +31,10 @@ hidden-kind bits hashes rs j =
     ∙ by-hidden bits hashes (kindOf (getD rs j noRecord .kind)) (getD rs j noRecord .first) (getD rs j noRecord .second) (λ hash. true) false
     ∙ itself (hiddenKind (getD rs j noRecord .kind))
 
+-- so it is hidden or not whatever the bits of words and the bytes of hashes
+pub hidden-alike : (bits hashes : List ℕ) (rs : List NodeRecord) (j : ℕ) → hiddenAt (nodesOf bits hashes rs) j ≡ hiddenAt (nodesOf [] [] rs) j
+hidden-alike bits hashes rs j = hidden-kind bits hashes rs j ∙ sym (hidden-kind [] [] rs j)
+
 -- and it has a hash where its record's bytes are that hash
 pub hides-kind : (bits hashes : List ℕ) (rs : List NodeRecord) (hash : List ℕ) (j : ℕ) → hides (nodesOf bits hashes rs) hash j
     ≡ elim (hiddenKind (getD rs j noRecord .kind)) [ true ↦ same (hashIs (nodeIs hashes (getD rs j noRecord))) hash | false ↦ false ]

@@ -5,4 +5,5 @@ pub mod Hashes
 pub mod Steps
 pub mod AnyBits
 pub mod Stages
+pub mod Passes
 pub mod Pins

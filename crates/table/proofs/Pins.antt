@@ -3,6 +3,9 @@ use mathlib.Core.Path.{_≡_, refl, sym, ap, ap₂, _∙_}
 use mathlib.Core.Bool.{Bool}
 use mathlib.Core.List.{List, []}
 use Prim.Native.Nat.{ℕ, _*_}
+use borrow.Fn.Kinds.{PK, RK, Out, Dens, endedOf, resT}
+use contract.Lifetimes.{Lfts}
+use denote.Triple.Clauses.{AtExit}
 use lib.ListN.{length, getD}
 use Rattle.limits.specs.Limits.{nodeCount}
 use Rattle.scope.specs.Check.{Check, passed, refused}
@@ -18,6 +21,13 @@ use Rattle.table.specs.Answers.{recordOf, checkOf}
 use Rattle.table.specs.Lent.{lentNodes}
 use Rattle.table.specs.Walking.{inTurn}
 use Rattle.table.specs.Stage.{countedRecords, countedWalk}
+use Rattle.table.proofs.record_in.Kinds as record-in-kinds
+use Rattle.table.proofs.record_in.Reads as record-in-reads
+
+-- two results that a promise allows of the same arguments are the same
+abbrev pub OneResult : (n : ℕ) (ps : List (PK n)) (r : RK n) → Out n ps r → Type 0
+OneResult n ps r Post =
+    (κs : Lfts n) (a : Dens κs ps) (s t : resT r κs .Denot) (x y : AtExit (endedOf n ps r) κs) → Post κs a s x → Post κs a t y → s ≡ t
 
 -- a check's answer tells it, and a record's numbers tell it
 pub check-tells : (c d : Checked) → checkOf c ≡ checkOf d → c ≡ d
@@ -28,6 +38,9 @@ check-tells (Refused why) (Refused other) e = ap Refused (cc)
 
 pub record-tells : (r q : Lent) → recordOf r ≡ recordOf q → r ≡ q
 record-tells r q e = ap (λ (x : NodeRecord). record { kind = x .kind; first = x .first; second = x .second; third = x .third }) e
+
+pub record-in : OneResult 1 record-in-kinds.ps record-in-kinds.r record-in-reads.Post
+record-in κs a s t x y p q = record-tells s t (p ∙ sym q)
 
 pub record-at : (nodes : List ℕ) (i : ℕ) (r q : Lent) → recordOf r ≡ getD (nodeRecords nodes) i noRecord → recordOf q ≡ getD (nodeRecords nodes) i noRecord → r ≡ q
 record-at nodes i r q d e = record-tells r q (d ∙ sym e)

@@ -23,12 +23,17 @@ number-at-requires-2 c κs = search needs
 
 returns : tie.Need-returns
 unfolding arrowRecords arrowRecord
-returns c = ap₂ (λ s t. record { source = s; target = t }) (c .before .number-at .ensures) (c .number-at2 .ensures)
-    ∙ sym (tabulate-at (arrowRecord (c .before .before .before .before .args .arrows .now)) (length (c .before .before .before .before .args .arrows .now) / arrowBytes) (c .before .before .before .before .args .i) noArrow (c .before .before .if1 .taken))
+returns c =
+    let args = c .before .before .before .before .args in
+    let if1-found = c .before .before .if1 in
+    ap₂ (λ s t. record { source = s; target = t }) (c .before .number-at .ensures) (c .number-at2 .ensures)
+    ∙ sym (tabulate-at (arrowRecord (args .arrows .now)) (length (args .arrows .now) / arrowBytes) (args .i) noArrow (if1-found .taken))
 
 returns-2 : tie.Need-returns-2
 unfolding arrowRecords arrowRecord
-returns-2 c = sym (tabulate-past (arrowRecord (c .before .before .args .arrows .now)) (length (c .before .before .args .arrows .now) / arrowBytes) (c .before .before .args .i) noArrow (c .if1 .left))
+returns-2 c =
+    let args = c .before .before .args in
+    sym (tabulate-past (arrowRecord (args .arrows .now)) (length (args .arrows .now) / arrowBytes) (args .i) noArrow (c .if1 .left))
 
 pub arrow-at-spec : {M : Type 1} → statement M
 arrow-at-spec =

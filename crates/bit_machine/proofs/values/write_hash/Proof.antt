@@ -5,7 +5,7 @@ use Rattle.bit_machine.proofs.values.write_hash.Reads as reads
 use Rattle.bit_machine.proofs.values.write_hash.Lts as lts
 use Rattle.bit_machine.proofs.rules.write_bits.Reads as write-bits-reads
 use Rattle.bit_machine.proofs.wide.Reads as wide-reads
-use Rattle.branch.proofs.branch_hash.Reads as branch-hash-reads
+use Rattle.hashes.proofs.branch_hash.Reads as branch-hash-reads
 use native.Mathlib.Omega.{arith}
 use mathlib.Core.Path.{_≡_, refl, sym, ap, _∙_, subst}
 use mathlib.Core.List.{List, []}
