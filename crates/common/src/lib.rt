@@ -8,6 +8,7 @@ ghost use Prim.Native.Nat.{_^_, _<_};
 ghost use lib.ListN.{getD, take, drop};
 ghost use Rattle.limits.specs.Limits.{wordMost};
 ghost use Rattle.scope.specs.Numbers.{be16, be32, bytesFor, same};
+ghost use Rattle.scope.specs.Stages.{counted};
 ghost use Rattle.common.specs.Answers.{checkOf, inTurn, answerOf};
 ghost use Rattle.common.specs.Stores.{cleared};
 ghost use Rattle.common.specs.Words.{wordBits};
@@ -26,6 +27,19 @@ pub fn first_refusal(first: Checked, second: Checked) -> Checked
         return first;
     };
     second
+}
+
+// A count is at least one, and not above the most (4).
+pub fn check_count(count: usize, most: usize) -> Checked
+    ensures { λ r. ⌜ checkOf r ≡ counted count most ⌝ }
+{
+    if count < 1 {
+        return Checked::Refused(Refusal::Natural(0));
+    }
+    if most < count {
+        return Checked::Refused(Refusal::Natural(0));
+    }
+    Checked::Passed
 }
 
 // A check as the answer of a job that has nothing to tell.
@@ -84,6 +98,17 @@ pub fn number_at(bytes: &[u8], at: usize) -> u32
         return 0;
     }
     half_at(bytes, at) as u32 * 65536 + half_at(bytes, at + 2) as u32
+}
+
+// The number at a place of a table of them; 0 past the end.
+pub fn entry_at(numbers: &[u32], at: usize) -> u32
+    ensures { λ r. ⌜ r ≡ getD (now (numbers .entry)) at 0 ⌝ }
+{
+    if at < numbers.len() {
+        numbers[at]
+    } else {
+        0
+    }
 }
 
 // The part of n bytes from a place on, as far as there are any.

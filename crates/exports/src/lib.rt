@@ -123,7 +123,7 @@ pub extern "C" fn drevaloci_arrows(
     ensures { λ r. ⌜ judged r (now (place .exit))
         ≡ judgedBy (arrowStage (now (types .entry)) (now (nodes .entry)) (now (arrows .entry)) (now (program .entry)) (now (hashes .entry))) ⌝ }
 {
-    let said = common::answer_of(arrow::arrow_stage(types, nodes, arrows, program, hashes));
+    let said = common::answer_of(stages::arrow_stage(types, nodes, arrows, program, hashes));
     *place = answer_told(said);
     answer_code(said)
 }
@@ -142,7 +142,7 @@ pub extern "C" fn drevaloci_hashes(
     ensures { λ r. ⌜ judged r (now (place .exit))
         ≡ judgedBy (hashStage (now (types .entry)) (now (nodes .entry)) (now (arrows .entry)) (now (program .entry)) (now (hashes .entry)) (now (given .entry))) ⌝ }
 {
-    let said = common::answer_of(arrow::hash_stage(types, nodes, arrows, program, hashes, given));
+    let said = common::answer_of(stages::hash_stage(types, nodes, arrows, program, hashes, given));
     *place = answer_told(said);
     answer_code(said)
 }

@@ -1,6 +1,6 @@
 -- What the public call promises has one outcome: over its own promise, `Post`, two results are the same.
 use mathlib.Core.Path.{sym, _∙_}
-use Rattle.types.proofs.Pins.{OneResult}
+use Rattle.common.specs.Answers.{OneResult}
 use Rattle.ready.proofs.check_run.Kinds as check-run-kinds
 use Rattle.ready.proofs.check_run.Reads as check-run-reads
 

@@ -10,14 +10,19 @@ use Rattle.scope.specs.Walk.{hiddenAt}
 use Rattle.scope.specs.Stages.{counted, numbersRule, noRecord, walkStage}
 use Rattle.table.specs.declared.NodeRecord.{NodeRecord as Lent}
 use Rattle.common.specs.declared.Checked.{Checked}
-use Rattle.common.specs.Answers.{checkOf, check-tells}
+use Rattle.common.specs.Answers.{checkOf, check-tells, OneResult}
 use Rattle.table.specs.Answers.{recordOf}
 use Rattle.table.specs.Lent.{lentNodes}
 use Rattle.table.specs.Stage.{countedRecords, countedWalk}
+use Rattle.table.proofs.record_in.Kinds as record-in-kinds
+use Rattle.table.proofs.record_in.Reads as record-in-reads
 
 -- a record's numbers tell it
 pub record-tells : (r q : Lent) → recordOf r ≡ recordOf q → r ≡ q
 record-tells r q e = ap (λ (x : NodeRecord). record { kind = x .kind; first = x .first; second = x .second; third = x .third }) e
+
+pub record-in : OneResult 1 record-in-kinds.ps record-in-kinds.r record-in-reads.Post
+record-in κs a s t x y p q = record-tells s t (p ∙ sym q)
 
 pub record-at : (nodes : List ℕ) (i : ℕ) (r q : Lent) → recordOf r ≡ getD (nodeRecords nodes) i noRecord → recordOf q ≡ getD (nodeRecords nodes) i noRecord → r ≡ q
 record-at nodes i r q d e = record-tells r q (d ∙ sym e)

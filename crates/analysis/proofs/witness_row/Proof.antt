@@ -24,7 +24,10 @@ of-requires c κs = search needs
 returns : tie.Need-returns
 unfolding witnessRow
 returns c =
-    let cells : c .before .before .up-to .result ≡ upTo cellCount (c .before .before .before .before .args .width) = c .before .before .up-to .ensures ∙ ap (upTo cellCount) (c .before .before .before .wide .ensures .0) in
+    let args = c .before .before .before .before .args in
+    let wide-call = c .before .before .before .wide in
+    let up-to-call = c .before .before .up-to in
+    let cells : up-to-call .result ≡ upTo cellCount (args .width) = up-to-call .ensures ∙ ap (upTo cellCount) (wide-call .ensures .0) in
     bound-eq cells refl (c .of .ensures ∙ ap (λ w. upTo costLimit (nodeCost + w)) (c .before .wide2 .ensures .0))
 
 pub witness-row-spec : {M : Type 1} → statement M

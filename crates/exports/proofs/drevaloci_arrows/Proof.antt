@@ -6,7 +6,7 @@ use Rattle.exports.proofs.drevaloci_arrows.Statement.{statement}
 use Rattle.exports.proofs.drevaloci_arrows.Tie as tie
 use Rattle.exports.proofs.drevaloci_arrows.Reads as reads
 use Rattle.exports.proofs.drevaloci_arrows.Lts as lts
-use Rattle.arrow.proofs.arrow_stage.Reads as arrow-stage-reads
+use Rattle.stages.proofs.arrow_stage.Reads as arrow-stage-reads
 use Rattle.exports.proofs.answer_code.Reads as answer-code-reads
 use Rattle.exports.proofs.answer_told.Reads as answer-told-reads
 

@@ -6,7 +6,7 @@ use Rattle.exports.proofs.drevaloci_hashes.Statement.{statement}
 use Rattle.exports.proofs.drevaloci_hashes.Tie as tie
 use Rattle.exports.proofs.drevaloci_hashes.Reads as reads
 use Rattle.exports.proofs.drevaloci_hashes.Lts as lts
-use Rattle.arrow.proofs.hash_stage.Reads as hash-stage-reads
+use Rattle.stages.proofs.hash_stage.Reads as hash-stage-reads
 use Rattle.exports.proofs.answer_code.Reads as answer-code-reads
 use Rattle.exports.proofs.answer_told.Reads as answer-told-reads
 
