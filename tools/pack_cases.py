@@ -108,9 +108,10 @@ def output(row):
     return made
 
 
-# The original's bounds of a dossier, or the first limit that one of them is over.
+# The original's bounds of a dossier, or the first limit that one of them is over. Its column `cells` counts a witness's width;
+# here a witness takes no cells (docs/DIFFERENCES.md), so the cells are those of its column `cells less witnesses`.
 def bound(row):
-    name, cells, frames, cost, _, _, _, dossier = row
+    name, _, frames, cost, _, _, _, cells, dossier = row
     found = [int(cells), int(frames), int(cost)]
     over = [place for place in range(3) if found[place] > LIMITS[place]]
     if over:

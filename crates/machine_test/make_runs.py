@@ -132,8 +132,6 @@ def bounds(p):
         elif kind == DISCONNECT:
             s, t, first = p.widths[p.source(a)], p.widths[p.target(a)], p.widths[p.records[p.target(a)][1]]
             rows.append((s + t + most[0], 2 + most[1], 100 + 2 * s + t + first + both))
-        elif kind == WITNESS:
-            rows.append((width, 0, 100 + width))
         else:
             rows.append((0, 0, {FAIL: 0, HIDDEN: 0, UNIT: 100}.get(kind, 100 + width)))
     cells, frames, cost = rows[-1]

@@ -2,20 +2,22 @@
 # edges of document 01's limits.
 
 from asking import field, number
-from coding import text
+from coding import FAIL, WITNESS, text
 from dossiers import assemble, drawn, judged, known, made, small_types, wide_types, widths
 from graphs import Graph
 from type_table import TypeTable, UNIT_TYPE
 
 COST_LIMIT = 50_000_000
-COLUMNS = "name\tcells\tframes\tcost\textra cells\textra frames\twitness nodes\tdossier"
+COLUMNS = "name\tcells\tframes\tcost\textra cells\textra frames\twitness nodes\tcells less witnesses\tdossier"
 NOTES = [
     "NodeBounds of the last node, as the original gives it: extra cells, extra frames, cost.",
     "cells: source width + target width + extra cells, the widths being the original's.",
     "frames: extra frames + 2. The original's cost stops at 4294967295.",
-    "By its own limits document 01 refuses cells above 262144 as 14 at 0, else frames above 1024",
-    "as 14 at 1, else cost above 50000000 as 14 at 2.",
     "witness nodes: how many; the original counts their widths among the extra cells.",
+    "cells less witnesses: the original's cells of the same program with fail nodes for its",
+    "witness nodes, since its row for a fail has no cells. Frames are the same. These are the",
+    "cells of a run here: above 262144 they are refused as 14 at 0, else frames above 1024 as 14",
+    "at 1, else cost above 50000000 as 14 at 2.",
     "No two nodes of a program are equal in kind, children, bits and arrow, but witness nodes and",
     "disconnects may be.",
 ]
@@ -135,20 +137,36 @@ def random_ones(rng):
     return rows + [drawn(f"random wide {k}", rng, wide_types, 4, 5, 40) for k in range(50)]
 
 
-# One row of a dossier, its answer and its widths.
-def row(whole, answer, source, target):
+# The same program with fail nodes for its witness nodes, no two of them equal.
+def without_witnesses(typed):
+    nodes = [
+        node._replace(kind=FAIL, data=f"{at:0512b}") if node.kind == WITNESS else node
+        for at, node in enumerate(typed.nodes)
+    ]
+    return typed._replace(nodes=nodes)
+
+
+# One row of a dossier, its answer, the answer to it without witnesses, and its widths.
+def row(whole, answer, bare, source, target):
     extra = number(answer, "extra_cells")
     frames = number(answer, "extra_frames")
+    less = number(bare, "extra_cells")
+    assert number(bare, "extra_frames") == frames, "a witness has no frame"
+    assert less <= extra and (whole.witnesses or less == extra), "a fail node has no cells"
     cells = source + target + extra
     held = len(field(answer, "cells")) // 2
     assert held == (cells + 7) // 8, "the machine's cells are others than its bounds say"
     cost = number(answer, "cost")
-    return whole.name, cells, frames + 2, cost, extra, frames, whole.witnesses, text(whole.data)
+    numbers = cells, frames + 2, cost, extra, frames, whole.witnesses, source + target + less
+    return whole.name, *numbers, text(whole.data)
 
 
 # All rows.
 def rows(oracle, rng):
-    wholes = assemble(oracle, purposes() + random_ones(rng), rng)
+    programs = purposes() + random_ones(rng)
+    wholes = assemble(oracle, programs, rng)
     answers = judged(oracle, wholes)
     sizes = widths(oracle, wholes)
-    return [row(whole, answer, *size) for whole, answer, size in zip(wholes, answers, sizes)]
+    bare = judged(oracle, assemble(oracle, list(map(without_witnesses, programs)), rng))
+    asked = zip(wholes, answers, bare, sizes)
+    return [row(whole, answer, other, *size) for whole, answer, other, size in asked]

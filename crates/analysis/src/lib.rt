@@ -188,10 +188,11 @@ fn disconnect_row(source: u32, kept: u32, handed: u32, left: Bound, right: Bound
 fn witness_row(width: u32) -> Bound
     ensures { λ r. ⌜ r ≡ held (witnessRow width) ⌝ }
 {
+    let w = wide(width);
     Bound {
-        cells: up_to(limits::CELL_COUNT, wide(width)),
+        cells: 0, // it goes straight into the write frame
         frames: 0,
-        cost: Cost::of(wide(width)),
+        cost: Cost::of(w),
     }
 }
 

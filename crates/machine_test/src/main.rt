@@ -9,7 +9,7 @@ const NODES: usize = 8_192;
 
 const CELLS: usize = 4_096;
 
-const FRAMES: usize = 3_074;
+const FRAMES: usize = limits::FRAME_NUMBERS * limits::FRAME_COUNT as usize + 2;
 
 const ANSWER: usize = 1_024;
 

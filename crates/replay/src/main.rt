@@ -13,7 +13,7 @@ const HASHES: usize = 32_768;
 
 const CELLS: usize = 32_768;
 
-const FRAMES: usize = 3_072;
+const FRAMES: usize = limits::FRAME_NUMBERS * limits::FRAME_COUNT as usize;
 
 const ANSWER: usize = 4_096;
 
@@ -178,8 +178,6 @@ fn main() {
     t = replay_file(b"random0", none);
     t = replay_file(b"random1", t);
     t = replay_file(b"random2", t);
-    t = replay_file(b"random3", t);
-    t = replay_file(b"random4", t);
     packed::print_tally(b"random", t);
     t = replay_file(b"bounds0", none);
     t = replay_file(b"bounds1", t);

@@ -42,9 +42,9 @@ compRow m left right = record { cells = m + max (left .cells) (right .cells); fr
 unfoldable pub disconnectRow : (s t b : ℕ) → Bound → Bound → Bound
 disconnectRow s t b left right = record { cells = s + t + max (left .cells) (right .cells); frames = 2 + max (left .frames) (right .frames); cost = nodeCost + (2 * s + t + b) + (left .cost + right .cost) }
 
--- witness of width w
+-- witness of width w, which goes straight into the write frame
 unfoldable pub witnessRow : (w : ℕ) → Bound
-witnessRow w = record { cells = w; frames = 0; cost = nodeCost + w }
+witnessRow w = record { cells = 0; frames = 0; cost = nodeCost + w }
 
 unfoldable pub failRow : Bound
 failRow = record { cells = 0; frames = 0; cost = 0 }

@@ -3,10 +3,11 @@
 use mathlib.Core.Path.{_≡_, refl}
 use mathlib.Core.Bool.{Bool, true, false}
 use mathlib.Core.List.{List, [], _∷_}
-use Prim.Native.Nat.{ℕ}
+use Prim.Native.Nat.{ℕ, zero, suc, _+_}
 use lib.Dec.{eqb}
+use Rattle.limits.specs.Limits.{cellCount}
 use Rattle.refusal.specs.Numbers.{numberOf, placeOf}
-use Rattle.report.specs.Types.{Ty, one, sum, prod, wordTy}
+use Rattle.report.specs.Types.{Ty, one, sum, prod, width, wordTy}
 use Rattle.report.specs.Values.{Val, ⟨⟩}
 use Rattle.report.specs.Terms.{Term, iden, comp, unit, injl, injr, case, pair, take, drop, assertl, assertr, fail, witness, word, disconnect}
 use Rattle.scope.specs.Check.{Check, passed, refused}
@@ -66,13 +67,26 @@ table =
     ∷ cells (comp b4 right left) 13 ∷ frames (comp b4 right left) 3 ∷ cost (comp b4 right left) 918
     ∷ cells (disconnect b1 b4 b8 ⟨⟩ left right) 278 ∷ frames (disconnect b1 b4 b8 ⟨⟩ left right) 4 ∷ cost (disconnect b1 b4 b8 ⟨⟩ left right) 1444
     ∷ cells (disconnect b1 b4 b8 ⟨⟩ right left) 278 ∷ frames (disconnect b1 b4 b8 ⟨⟩ right left) 4 ∷ cost (disconnect b1 b4 b8 ⟨⟩ right left) 1444
-    ∷ cells (witness b4 ⟨⟩) 4 ∷ frames (witness b4 ⟨⟩) 0 ∷ cost (witness b4 ⟨⟩) 104
+    ∷ cells (witness b4 ⟨⟩) 0 ∷ frames (witness b4 ⟨⟩) 0 ∷ cost (witness b4 ⟨⟩) 104
     ∷ cells (fail 7) 0 ∷ frames (fail 7) 0 ∷ cost (fail 7) 0
     ∷ []
 
 table-holds : allSo table ≡ true
 unfolding table allSo
 table-holds = refl
+
+-- a witness of the widest type under seven comps with iden: its middles and its target take all the cells that there are
+widest : Ty
+unfolding wordTy
+widest = wordTy 15
+
+under : (comps : ℕ) → Term
+under zero = witness widest ⟨⟩
+under (suc n) = comp widest (under n) (iden widest)
+
+witness-fits : eqb (width widest + (bounds (under 7)) .cells) cellCount ≡ true
+unfolding widest under bounds width
+witness-fits = refl
 
 -- a check as numbers: nothing where it passes
 unfoldable pub told : Check (Unit {0}) → List ℕ

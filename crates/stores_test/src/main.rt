@@ -13,7 +13,7 @@ const HASHES: usize = 32_768;
 
 const CELLS: usize = 32_768;
 
-const FRAMES: usize = 3_074;
+const FRAMES: usize = limits::FRAME_NUMBERS * limits::FRAME_COUNT as usize + 2;
 
 const ANSWER: usize = 4_096;
 
@@ -201,10 +201,14 @@ fn main() {
     let mut t = replay_file(b"stores0", false, none);
     t = replay_file(b"stores1", false, t);
     t = replay_file(b"stores2", false, t);
+    t = replay_file(b"stores3", false, t);
+    t = replay_file(b"stores4", false, t);
     packed::print_tally(b"stores", t);
     t = replay_file(b"stores0", true, none);
     t = replay_file(b"stores1", true, t);
     t = replay_file(b"stores2", true, t);
+    t = replay_file(b"stores3", true, t);
+    t = replay_file(b"stores4", true, t);
     packed::print_tally(b"stores with odd numbers more", t);
     packed::print_tally(b"lengths", replay_file(b"lengths", false, none));
     t = replay_file(b"outputs0", false, none);

@@ -1,5 +1,5 @@
 -- The Bit Machine computes the meaning, at any point of a run: the value is left at the old write cursor, all frames are back, and nothing else is changed.
--- It stops exactly where the meaning fails or is pruned, at that place. Shown for the room that a run really uses, and so for the requirements' bounds.
+-- It stops exactly where the meaning fails or is pruned, at that place. Shown within the requirements' bounds, which are just the room that a run may use.
 use mathlib.Core.Path.{_≡_, refl, ap, subst}
 use mathlib.Core.List.{List}
 use Prim.Native.Nat.{ℕ, _+_, _≤_}
@@ -13,7 +13,6 @@ use Rattle.report.specs.Meaning.{Out, done, failed, pruned, stuck, _>>=_, Means
 use Rattle.scope.specs.Machine.{Frame, State, Step, state, exec}
 use Rattle.scope.specs.Bounds.{Bound, bounds}
 use Rattle.common.specs.Checks.{clash}
-use Rattle.theory.specs.Room.{tightCells, tight-within}
 use Rattle.theory.specs.Cells.{Apart, Kept}
 use Rattle.theory.specs.Meets.{Agrees, meets}
 use Rattle.theory.specs.Instructions.{At, advance}
@@ -49,28 +48,14 @@ module _ (B : Ty) (wr nx x : ℕ) (rs ws : List Frame) (c : Cells) where
       rw e (Prunes (rw e′ at k))
   ends (Agrees.Pruned k) stuck h = clash (cc)
 
--- what may be changed may be told more widely
-ends-wider : {B : Ty} {wr nx x y : ℕ} {rs ws : List Frame} {c : Cells} {o : Means} {e : Step} → x ≤ y → Ends B wr nx x rs ws c o e → Ends B wr nx y rs ws c o e
-ends-wider l (Value q k) = Value q (λ j out free. k j out (λ i. free (omega arith)))
-ends-wider l (Fails k) = Fails (λ j out free. k j out (λ i. free (omega arith)))
-ends-wider l (Prunes k) = Prunes (λ j out free. k j out (λ i. free (omega arith)))
-
 -- MACHINE = MEANING, at any point of a run: the cells at the read cursor hold a value, the write frame has room, the two are apart,
--- and there are as many cells and frames as the run really uses.
-pub exec-correct : {t : Term} {A B : Ty} → Typed t A B → (size most : ℕ) (rs ws : List Frame) (rd wr nx : ℕ) (c : Cells)
-    → At rs rd (width A) → At ws wr (width B) → rd + width A ≤ nx → wr + width B ≤ nx → Apart rd (width A) wr (width B)
-    → nx + tightCells t ≤ size → length rs + length ws + (bounds t) .frames ≤ most
-    → Ends B wr nx (tightCells t) rs ws c (eval t (valueAt A c rd)) (exec size most t (state c rs ws nx))
-exec-correct {t} {A} {B} h size most rs ws rd wr nx c hr hw ra wb apart hc hf =
-    ends B wr nx (tightCells t) rs ws c (meets h rd wr nx c ra wb apart) (exec size most t (state c rs ws nx)) (does h size most rs ws rd wr nx c hr hw hc hf)
-
--- the same within the requirements' bounds
+-- and there are as many cells and frames as the bounds say.
 pub exec-within : {t : Term} {A B : Ty} → Typed t A B → (size most : ℕ) (rs ws : List Frame) (rd wr nx : ℕ) (c : Cells)
     → At rs rd (width A) → At ws wr (width B) → rd + width A ≤ nx → wr + width B ≤ nx → Apart rd (width A) wr (width B)
     → nx + (bounds t) .cells ≤ size → length rs + length ws + (bounds t) .frames ≤ most
     → Ends B wr nx ((bounds t) .cells) rs ws c (eval t (valueAt A c rd)) (exec size most t (state c rs ws nx))
-exec-within {t} h size most rs ws rd wr nx c hr hw ra wb apart hc hf =
-    ends-wider (tight-within t) (exec-correct h size most rs ws rd wr nx c hr hw ra wb apart (omega (arith, tight-within t)) hf)
+exec-within {t} {A} {B} h size most rs ws rd wr nx c hr hw ra wb apart hc hf =
+    ends B wr nx ((bounds t) .cells) rs ws c (meets h rd wr nx c ra wb apart) (exec size most t (state c rs ws nx)) (does h size most rs ws rd wr nx c hr hw hc hf)
 
 -- the value that a run to B leaves at a place, or how and where it stopped
 unfoldable pub endAt : (B : Ty) → (wr : ℕ) → Step → Means

@@ -15,7 +15,6 @@ use Rattle.report.specs.Meaning.{Out, done, failed, pruned, stuck, _>>=_}
 use Rattle.scope.specs.Machine.{Frame, frameFrom, State, state, forward, reset, putBits, copyCells, moveFrame, writeBits, skip, fwd, back, exec}
 use Rattle.scope.specs.Bounds.{Bound, bounds}
 use Rattle.layout.specs.Match.{bind-bind}
-use Rattle.theory.specs.Room.{tightCells, extraFrames}
 use Rattle.theory.specs.Cursors.{onCells}
 use Rattle.theory.specs.Instructions.{At, advance, advance-none, advance-advance, length-advance, at-less, at-advance, newFrame-does, writeBits-does, skip-does, copy-does, fwd-does, back-does, peek-does, dropFrame-does, value-does}
 
@@ -42,13 +41,13 @@ bare-bind (failed p s) k = refl
 bare-bind (pruned p s) k = refl
 bare-bind stuck k = refl
 
--- there are as many cells from nx on, and as many frames above these, as a term uses
+-- there are as many cells from nx on, and as many frames above these, as the bounds of a term say
 abbrev pub EnoughCells : (size nx : ℕ) → Term → Type 0
-EnoughCells size nx t = nx + tightCells t ≤ size
+EnoughCells size nx t = nx + (bounds t) .cells ≤ size
 
 -- frames
 abbrev pub EnoughFrames : (most : ℕ) → (rs ws : List Frame) → Term → Type 0
-EnoughFrames most rs ws t = length rs + length ws + extraFrames t ≤ most
+EnoughFrames most rs ws t = length rs + length ws + (bounds t) .frames ≤ most
 
 -- The machine with n cells to read and m to write does what `onCells` does, and its frames are left as they were, the write cursor m further on.
 abbrev pub Does : Term → ℕ → ℕ → Type 0
@@ -68,7 +67,7 @@ bind-then o f k g j h = bind-last o f k (λ x. g x >>= j) h ∙ sym (bind-bind o
 
 -- comp: its frame is written by the left child, read by the right one, and goes
 does-comp : (s t : Term) (B : Ty) (n m : ℕ) → Does s n (width B) → Does t (width B) m → Does (comp B s t) n m
-unfolding bare exec onCells _>>=_ tightCells bounds At advance forward moveFrame reset state
+unfolding bare exec onCells _>>=_ bounds At advance forward moveFrame reset state
 does-comp s t B n m hs ht size most rs ws rd wr nx c hr hw hc hf =
     let fr : Frame = frameFrom nx (width B) in
     rw (
@@ -105,21 +104,21 @@ does-inj b pad t n m h size most rs ws rd wr nx c hr hw hc hf =
 
 -- injl
 does-injl : (t : Term) (B C : Ty) (n : ℕ) → Does t n (width B) → Does (injl B C t) n (width (sum B C))
-unfolding bare exec onCells tightCells bounds width padL
+unfolding bare exec onCells bounds width padL
 does-injl t B C n h size most rs ws rd wr nx c hr hw hc hf =
     let e : width (sum B C) ≡ 1 + padL B C + width B = omega arith in
     rw e (does-inj 0 (padL B C) t n (width B) h size most rs ws rd wr nx c hr (rw e at hw) hc hf)
 
 -- injr
 does-injr : (t : Term) (B C : Ty) (n : ℕ) → Does t n (width C) → Does (injr B C t) n (width (sum B C))
-unfolding bare exec onCells tightCells bounds width padR
+unfolding bare exec onCells bounds width padR
 does-injr t B C n h size most rs ws rd wr nx c hr hw hc hf =
     let e : width (sum B C) ≡ 1 + padR B C + width C = omega arith in
     rw e (does-inj 1 (padR B C) t n (width C) h size most rs ws rd wr nx c hr (rw e at hw) hc hf)
 
 -- pair: left, then right
 does-pair : (s t : Term) (B : Ty) (n m : ℕ) → Does s n (width B) → Does t n m → Does (pair B s t) n (width B + m)
-unfolding bare exec onCells _>>=_ tightCells bounds
+unfolding bare exec onCells _>>=_ bounds
 does-pair s t B n m hs ht size most rs ws rd wr nx c hr hw hc hf =
     rw (bare-bind (exec size most s (state c rs ws nx)), hs size most rs ws rd wr nx c hr (at-less ws wr (width B + m) (width B) (omega arith) hw) (omega arith) (omega arith))
     (bind-then (onCells s rd wr nx c) _ _ _ _ (λ c.
@@ -131,7 +130,7 @@ does-pair s t B n m hs ht size most rs ws rd wr nx c hr hw hc hf =
 
 -- take
 does-take : (t : Term) (n k m : ℕ) → Does t n m → Does (take t) (n + k) m
-unfolding bare exec onCells tightCells bounds
+unfolding bare exec onCells bounds
 does-take t n k m h size most rs ws rd wr nx c hr hw hc hf = h size most rs ws rd wr nx c (at-less rs rd (n + k) n (omega arith) hr) hw hc hf
 
 -- with the read cursor k cells further on
@@ -150,7 +149,7 @@ does-on t k n m h size most rs ws rd wr nx c hr hw hc hf =
 
 -- drop: the read cursor goes on and comes back
 does-drop : (t : Term) (A : Ty) (n m : ℕ) → Does t n m → Does (drop A t) (width A + n) m
-unfolding bare exec onCells tightCells bounds
+unfolding bare exec onCells bounds
 does-drop t A n m h size most rs ws rd wr nx c hr hw hc hf = does-on t (width A) n m h size most rs ws rd wr nx c hr hw hc hf
 
 -- the branch of a case, or of an assertion
@@ -163,7 +162,7 @@ does-branch t k x n y m e h size most rs ws rd wr nx c hr =
 
 -- case
 does-case : (s t : Term) (A B : Ty) (n m : ℕ) → Does s (width A + n) m → Does t (width B + n) m → Does (case A B s t) (width (sum A B) + n) m
-unfolding bare exec onCells _>>=_ tightCells bounds width padL padR
+unfolding bare exec onCells _>>=_ bounds width padL padR
 does-case s t A B n m hs ht size most rs ws rd wr nx c hr hw hc hf =
     rw (peek-does c rs ws nx rd 0 (at-less rs rd (width (sum A B) + n) 1 (omega arith) hr)) (go (c rd) refl)
   where
@@ -177,7 +176,7 @@ does-case s t A B n m hs ht size most rs ws rd wr nx c hr hw hc hf =
 
 -- a case with its right branch pruned
 does-assertl : (p : ℕ) (s : Term) (A B : Ty) (n m : ℕ) → Does s (width A + n) m → Does (assertl p A B s) (width (sum A B) + n) m
-unfolding bare exec onCells _>>=_ tightCells bounds width padL padR
+unfolding bare exec onCells _>>=_ bounds width padL padR
 does-assertl p s A B n m hs size most rs ws rd wr nx c hr hw hc hf =
     rw (peek-does c rs ws nx rd 0 (at-less rs rd (width (sum A B) + n) 1 (omega arith) hr)) (go (c rd) refl)
   where
@@ -191,7 +190,7 @@ does-assertl p s A B n m hs size most rs ws rd wr nx c hr hw hc hf =
 
 -- a case with its left branch pruned
 does-assertr : (p : ℕ) (t : Term) (A B : Ty) (n m : ℕ) → Does t (width B + n) m → Does (assertr p A B t) (width (sum A B) + n) m
-unfolding bare exec onCells _>>=_ tightCells bounds width padL padR
+unfolding bare exec onCells _>>=_ bounds width padL padR
 does-assertr p t A B n m ht size most rs ws rd wr nx c hr hw hc hf =
     rw (peek-does c rs ws nx rd 0 (at-less rs rd (width (sum A B) + n) 1 (omega arith) hr)) (go (c rd) refl)
   where
@@ -206,7 +205,7 @@ does-assertr p t A B n m ht size most rs ws rd wr nx c hr hw hc hf =
 -- disconnect: two frames, which go in order
 does-disconnect : (s t : Term) (h : Val) (A B C : Ty) (m : ℕ) → HasTy h (wordTy 8) → Does s (width (wordTy 8) + width A) (width B + width C) → Does t (width C) m
     → Does (disconnect A B C h s t) (width A) (width B + m)
-unfolding bare exec onCells _>>=_ tightCells bounds At advance forward moveFrame reset state
+unfolding bare exec onCells _>>=_ bounds At advance forward moveFrame reset state
 does-disconnect s t h A B C m hh hs ht size most rs ws rd wr nx c hr hw hc hf =
     let W : ℕ = width (wordTy 8) in
     let e₁ : ℕ = nx + (W + width A) in

@@ -1,7 +1,6 @@
 pub mod Safety
 pub mod Denotation
 pub mod Visits
-pub mod Room
 pub mod Cells
 pub mod Cursors
 pub mod Meets

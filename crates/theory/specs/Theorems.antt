@@ -2,7 +2,7 @@
 -- `exactness` (what the checks accept). The order: meaning, the machine at any point of a run, the room that it needs, nodes of a table, whole runs, the job,
 -- the store machine, and the checks. A statement `P ↔ Q` is read "P exactly if Q".
 -- Notions that the statements name, beside the definitions of `report` and `scope`: Good (Safety), El and den (Denotation), Apart (Cells), At (Instructions),
--- tightCells (Room), Ends and endAt (Correct), Ran (WholeRuns), Sound (Sound), told and output (Answers), BitCells and BitsAfter (BinaryCells); those of
+-- Ends and endAt (Correct), Ran (WholeRuns), Sound (Sound), told and output (Answers), BitCells and BitsAfter (BinaryCells); those of
 -- `layout` and `exactness` stand in the modules that the names begin with, or that they are taken from.
 use mathlib.Core.Path.{_≡_, refl, sym, ap, _∙_, subst}
 use mathlib.Core.Logic.{_↔_}
@@ -64,10 +64,9 @@ use Rattle.layout.specs.Stores.{cells-lent, cells-left}
 use Rattle.theory.specs.Safety.{Good, safe}
 use Rattle.theory.specs.Denotation.{El, plain, plainly, den, eval-den}
 use Rattle.theory.specs.Visits.{visits-bound}
-use Rattle.theory.specs.Room.{tightCells, tight-within}
 use Rattle.theory.specs.Cells.{Apart}
 use Rattle.theory.specs.Instructions.{At}
-use Rattle.theory.specs.Correct.{Ends, endAt, exec-correct, exec-within, ends-as}
+use Rattle.theory.specs.Correct.{Ends, endAt, exec-within, ends-as}
 use Rattle.theory.specs.WholeRuns.{Ran}
 use Rattle.theory.specs.NodeTerms.{term-step, bounds-alike}
 use Rattle.theory.specs.Sound.{Sound, term-typed}
@@ -91,12 +90,12 @@ visits-within-cost = visits-bound
 
 -- MACHINE = MEANING at any point of a run. The read frame holds width A cells at rd and the write frame has room for width B at wr, both below nx and apart.
 -- The run ends as the meaning of the value at rd does: the value at wr, the write cursor on by width B, all else as it was; or it stops at that place.
--- Only the write range and `tightCells` cells from nx on are changed, also where it stops.
+-- THE FIT: cells and frames of just the bounds suffice, and only the write range and the cells of the bounds from nx on are changed, also where it stops.
 pub machine-is-meaning : {t : Term} {A B : Ty} → Typed t A B → (size most : ℕ) (rs ws : List Frame) (rd wr nx : ℕ) (c : Cells)
     → At rs rd (width A) → At ws wr (width B) → rd + width A ≤ nx → wr + width B ≤ nx → Apart rd (width A) wr (width B)
-    → nx + tightCells t ≤ size → length rs + length ws + (bounds t) .frames ≤ most
-    → Ends B wr nx (tightCells t) rs ws c (eval t (valueAt A c rd)) (exec size most t (state c rs ws nx))
-machine-is-meaning = exec-correct
+    → nx + (bounds t) .cells ≤ size → length rs + length ws + (bounds t) .frames ≤ most
+    → Ends B wr nx ((bounds t) .cells) rs ws c (eval t (valueAt A c rd)) (exec size most t (state c rs ws nx))
+machine-is-meaning = exec-within
 
 -- So it ends with the meaning's value at wr, or stops where and as the meaning does.
 pub machine-ends-as-meaning : {B : Ty} {wr nx x : ℕ} {rs ws : List Frame} {c : Cells} {o : Means} {e : Step} → Ends B wr nx x rs ws c o e → endAt B wr e ≡ o
@@ -105,22 +104,6 @@ machine-ends-as-meaning = ends-as
 -- Cells that are bits stay bits, for every term, typed or not, and wherever it stops.
 pub cells-stay-bits : (size most : ℕ) (t : Term) (s : State) → BitCells (s .cells) → BitsAfter (exec size most t s)
 cells-stay-bits = exec-bits
-
--- THE FIT. The machine needs `tightCells` cells beyond its frames: the requirements' table of bounds with 0 in the row of a witness.
-pub witness-takes-no-cells : (A : Ty) (v : Val) → tightCells (witness A v) ≡ 0
-unfolding tightCells
-witness-takes-no-cells A v = refl
-
--- The requirements' bounds leave that room and more, a witness's row too.
-pub bounds-suffice : (t : Term) → tightCells t ≤ (bounds t) .cells
-bounds-suffice = tight-within
-
--- So the machine is the meaning within the bounds of the requirements.
-pub machine-within-bounds : {t : Term} {A B : Ty} → Typed t A B → (size most : ℕ) (rs ws : List Frame) (rd wr nx : ℕ) (c : Cells)
-    → At rs rd (width A) → At ws wr (width B) → rd + width A ≤ nx → wr + width B ≤ nx → Apart rd (width A) wr (width B)
-    → nx + (bounds t) .cells ≤ size → length rs + length ws + (bounds t) .frames ≤ most
-    → Ends B wr nx ((bounds t) .cells) rs ws c (eval t (valueAt A c rd)) (exec size most t (state c rs ws nx))
-machine-within-bounds = exec-within
 
 -- NODES. A node's term is made of its children's terms.
 pub term-of-node : (P : Program) (i : ℕ) → AllBelow i (children (nodeAt (P .nodes) i)) → termAt P i ≡ termOf P i (nodeAt (P .nodes) i) (termAt P)

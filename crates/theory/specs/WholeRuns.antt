@@ -15,10 +15,9 @@ use Rattle.report.specs.Meaning.{done, failed, pruned, _>>=_, Means, eval}
 use Rattle.scope.specs.Machine.{Frame, frameFrom, State, Step, state, forward, reset, putBits, writeBits, moveFrame, exec, input, output, machine, answer}
 use Rattle.scope.specs.Bounds.{Bound, bounds}
 use Rattle.exactness.specs.Values.{length-padded}
-use Rattle.theory.specs.Room.{tightCells, tight-within}
 use Rattle.theory.specs.Cells.{Kept, bits-out, value-written}
 use Rattle.theory.specs.Instructions.{At, advance, newFrame-does, writeBits-does}
-use Rattle.theory.specs.Correct.{Ends, Value, Fails, Prunes, exec-correct}
+use Rattle.theory.specs.Correct.{Ends, Value, Fails, Prunes, exec-within}
 
 -- an input of n bits: a read frame of n cells, or none where n is 0
 input-does : (size most n : ℕ) (bits : List Bit) (c : Cells) → length bits ≡ n → n ≤ size → 1 ≤ most
@@ -68,12 +67,12 @@ ran A B v x rs ws c hv h = go h
     go (Fails {s = s} k) = RanFail (old (s .cells) k)
     go (Prunes {s = s} k) = RanPrune (old (s .cells) k)
 
--- A WHOLE RUN, with as many cells and frames as it really uses
-pub machine-correct : {t : Term} {A B : Ty} {v : Val} → Typed t A B → HasTy v A → (size most : ℕ) (c : Cells)
-    → width A + width B + tightCells t ≤ size → (bounds t) .frames + 2 ≤ most
-    → Ran B (width A) (width A + width B + tightCells t) c (eval t v) (machine size most t A B v c)
+-- A WHOLE RUN, with as many cells and frames as the bounds say
+pub machine-within : {t : Term} {A B : Ty} {v : Val} → Typed t A B → HasTy v A → (size most : ℕ) (c : Cells)
+    → width A + width B + (bounds t) .cells ≤ size → (bounds t) .frames + 2 ≤ most
+    → Ran B (width A) (width A + width B + (bounds t) .cells) c (eval t v) (machine size most t A B v c)
 unfolding machine _>>=_
-machine-correct {t} {A} {B} {v} h hv size most c hc hf =
+machine-within {t} {A} {B} {v} h hv size most c hc hf =
     let bits : List Bit = padded A v in
     let i = input-does size most (width A) bits c (length-padded hv) (omega arith) (omega arith) in
     let rs : List Frame = i .0 in
@@ -81,23 +80,9 @@ machine-correct {t} {A} {B} {v} h hv size most c hc hf =
     let o = output-does size most (width B) c₁ rs (width A) (omega arith) (omega arith) in
     let ws : List Frame = o .0 in
     rw (i .1, o .1)
-    (subst (λ (v′ : Val). Ran B (width A) (width A + width B + tightCells t) c (eval t v′) (exec size most t (state c₁ rs ws (width A + width B)))) (value-written hv c 0)
-    (ran A B v (tightCells t) rs ws c hv
-    (exec-correct h size most rs ws 0 (width A) (width A + width B) c₁ (i .2) (o .2) (omega arith) (omega arith) (omega arith) (omega arith) (omega (arith, i .3, o .3)))))
-
--- what is told of the cells past a bound holds past a larger one
-pub ran-wider : {B : Ty} {at m n : ℕ} {c : Cells} {o : Means} {e : Step} → m ≤ n → Ran B at m c o e → Ran B at n c o e
-ran-wider l (RanValue k) = RanValue (λ j h. k j (omega arith))
-ran-wider l (RanFail k) = RanFail (λ j h. k j (omega arith))
-ran-wider l (RanPrune k) = RanPrune (λ j h. k j (omega arith))
-
--- the same within the requirements' bounds
-pub machine-within : {t : Term} {A B : Ty} {v : Val} → Typed t A B → HasTy v A → (size most : ℕ) (c : Cells)
-    → width A + width B + (bounds t) .cells ≤ size → (bounds t) .frames + 2 ≤ most
-    → Ran B (width A) (width A + width B + (bounds t) .cells) c (eval t v) (machine size most t A B v c)
-machine-within {t} {A} {B} h hv size most c hc hf =
-    let l : width A + width B + tightCells t ≤ width A + width B + (bounds t) .cells = omega (arith, tight-within t) in
-    ran-wider l (machine-correct h hv size most c (omega arith) hf)
+    (subst (λ (v′ : Val). Ran B (width A) (width A + width B + (bounds t) .cells) c (eval t v′) (exec size most t (state c₁ rs ws (width A + width B)))) (value-written hv c 0)
+    (ran A B v ((bounds t) .cells) rs ws c hv
+    (exec-within h size most rs ws 0 (width A) (width A + width B) c₁ (i .2) (o .2) (omega arith) (omega arith) (omega arith) (omega arith) (omega (arith, i .3, o .3)))))
 
 -- a run that ended so answers the meaning
 pub ran-answer : (A : Ty) {B : Ty} {total : ℕ} {c : Cells} {o : Means} {e : Step} → Ran B (width A) total c o e → answer A B e ≡ o

@@ -118,7 +118,7 @@ impl<'a> Facts<'a> {
         }
         let last = arrows.last().unwrap();
         self.answer_bytes = last.target.bit_width().div_ceil(8);
-        let needs = nodes::needs(&nodes::make(rows, &arrows, &nodes::zeros(rows, &arrows)));
+        let needs = nodes::needs_without_witnesses(rows, &arrows);
         self.needs = Some(needs);
         if let Some(refused) = over_limit(&needs) {
             return Err(refused);
@@ -210,7 +210,9 @@ impl<'a> Facts<'a> {
     /// The other stores after a run, and how it ended.
     pub fn put_run(&self, left: &mut Contents) -> Option<(Option<Verdict>, Option<Vec<bool>>)> {
         let (ended, needs) = (self.ended.as_ref()?, self.needs?);
-        left.cells[..ended.cells.len()].copy_from_slice(&ended.cells);
+        // The original has cells for witnesses as well, which may be more than are lent here.
+        let held = ended.cells.len().min(left.cells.len());
+        left.cells[..held].copy_from_slice(&ended.cells[..held]);
         left.frames[..FRAME_RECORD * needs.frames].fill(0);
         match &ended.result {
             Ok(output) => {

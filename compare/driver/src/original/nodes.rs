@@ -91,7 +91,7 @@ pub struct Needs {
     pub cost: u64,
 }
 
-/// The needs of the last node as a program: the original's extra cells and frames, with source,
+/// The original's needs of the last node as a program: its extra cells and frames, with source,
 /// target and the two frames for them.
 pub fn needs(nodes: &Nodes) -> Needs {
     let root = nodes.last().unwrap().as_ref().unwrap();
@@ -101,4 +101,16 @@ pub fn needs(nodes: &Nodes) -> Needs {
         frames: bounds.extra_frames + 2,
         cost: bounds.cost.to_string().parse().unwrap(),
     }
+}
+
+/// The same where a witness takes no cells, which is the one row of the library's table that is not the
+/// original's. The cells are the original's for the same rows with a fail in place of each witness, since
+/// its row for a fail has no cells; frames and cost are those of the rows themselves.
+pub fn needs_without_witnesses(rows: &[Row], arrows: &[FinalArrow]) -> Needs {
+    let own = needs(&make(rows, arrows, &zeros(rows, arrows)));
+    let failing = |row: &Row| if matches!(row, Row::Witness) { Row::Fail([0; 64]) } else { row.clone() };
+    let bare: Vec<Row> = rows.iter().map(failing).collect();
+    let less = needs(&make(&bare, arrows, &[]));
+    assert!(less.cells <= own.cells && less.frames == own.frames, "a witness has cells and no frame");
+    Needs { cells: less.cells, ..own }
 }
