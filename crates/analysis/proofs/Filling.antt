@@ -8,7 +8,7 @@ use native.Mathlib.Decide.{decLt}
 use lib.ListN.{length, getD, set, replicate, length-append, length-replicate, getD-replicate, List·getD-append, List·getD-eq-default}
 use lib.Seq.{set-at, getD-append-add, ext-getD}
 use Rattle.scope.specs.Numbers.{tabulate, tabulateFrom}
-use Rattle.types.proofs.Tables.{length-tabulate, tabulate-at, tabulate-more}
+use Rattle.common.specs.Tables.{length-tabulate, tabulate-at, tabulate-more}
 
 module _ {X : Type 0} (f : ℕ → X) (none : X) (size : ℕ) where
   abbrev pub upToward : ℕ → List X

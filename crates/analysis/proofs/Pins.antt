@@ -2,7 +2,7 @@
 use mathlib.Core.Path.{_≡_, sym, ap, _∙_}
 use Prim.Native.Nat.{ℕ}
 use Rattle.scope.specs.Bounds as scope
-use Rattle.exactness.specs.Checks.{clash}
+use Rattle.common.specs.Checks.{clash}
 use Rattle.promise.specs.Outcomes.{OneResult}
 use Rattle.analysis.specs.Limits.{boundedOf}
 use Rattle.analysis.specs.declared.BoundsAnswer.{BoundsAnswer}
@@ -28,10 +28,10 @@ bounds-tell (Refused why) (Refused other) p = ap Refused (cc)
 pub cost-add : OneResult 0 add-kinds.ps add-kinds.r add-reads.Post
 cost-add κs a s t x y p q = ap (λ (n : ℕ). record { units = n }) (p ∙ sym q)
 
-pub node-rows : OneResult 3 node-rows-kinds.ps node-rows-kinds.r node-rows-reads.Post
+pub node-rows : OneResult 4 node-rows-kinds.ps node-rows-kinds.r node-rows-reads.Post
 node-rows κs a s t x y p q = p ∙ sym q
 
-pub bounds : OneResult 3 bounds-kinds.ps bounds-kinds.r bounds-reads.Post
+pub bounds : OneResult 4 bounds-kinds.ps bounds-kinds.r bounds-reads.Post
 bounds κs a s t x y p q = bounds-tell s t (p ∙ sym q)
 
 pub bounds-stage : OneResult 5 bounds-stage-kinds.ps bounds-stage-kinds.r bounds-stage-reads.Post

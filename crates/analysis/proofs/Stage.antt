@@ -6,24 +6,22 @@ use Prim.Native.Nat.{ℕ}
 use lib.ListN.{length, getD}
 use Rattle.limits.specs.Limits.{typeCount, nodeCount}
 use Rattle.refusal.specs.declared.Refusal.{Refusal}
-use Rattle.report.specs.Types.{width}
+use Rattle.report.specs.Types.{width, leftOf}
 use Rattle.report.specs.Values.{Val}
 use Rattle.scope.specs.Check.{Check, passed, refused, _>>=_}
 use Rattle.scope.specs.Numbers.{streamOf}
-use Rattle.scope.specs.Types.{typeRecords, tyAt, checkTypes}
+use Rattle.scope.specs.Types.{typeRecords, tyAt, leftAt, checkTypes}
 use Rattle.scope.specs.Nodes.{nodeRecords}
 use Rattle.scope.specs.Arrows.{arrowRecords}
 use Rattle.scope.specs.Program.{Program, termAt}
 use Rattle.scope.specs.Bounds.{Bound, bounds, wholeCells, wholeFrames, wholeCost, checkBounds}
 use Rattle.scope.specs.Run.{programOf}
 use Rattle.scope.specs.Stages.{counted, lent, arrowStage, boundsStage}
-use Rattle.exactness.specs.Checks.{clash, then-passes}
-use Rattle.exactness.specs.Types.{types-pass}
+use Rattle.common.specs.Checks.{clash, then-passes, then-then, passes}
 use Rattle.types.specs.Table.{checkTable, typeWidths}
-use Rattle.types.proofs.Sound.{passed-table, widths-are}
-use Rattle.table.proofs.Steps.{then-then}
-use Rattle.arrow.proofs.Passed.{LentPassed, lent-passed, lent-below, stage-passed, stage-arrows}
-use Rattle.arrow.proofs.Passes.{passes}
+use Rattle.types.proofs.Sound.{Passed, passed-table, widths-are}
+use Rattle.types.proofs.Parts.{left-type}
+use Rattle.stages.proofs.Passed.{LentPassed, lent-passed, lent-below, stage-passed}
 use Rattle.analysis.specs.Rows.{boundAt}
 use Rattle.analysis.specs.Limits.{boundedOf, limited, lentTotals, countedBounds, programTotals, stageBounds}
 use Rattle.analysis.specs.declared.BoundsAnswer.the-variants.{Bounded, Refused}
@@ -56,13 +54,21 @@ module _ (P : Program) where
   refused-says why e = judged-refused (checkBounds P) why (programTotals P) e
 
 module _ (types nodes arrows program hashes : List ℕ) where
-  -- the widths of a checked type table are those of its types
-  pub passed-widths : LentPassed types nodes program hashes → (j : ℕ) → getD (typeWidths types) j 0 ≡ width (tyAt (typeRecords types) j)
+  -- the type table passed, so its widths are those of its types and its parts stand for theirs
+  passed-types : LentPassed types nodes program hashes → Passed types (length (typeRecords types))
   unfolding checkTable
-  passed-widths p =
-      widths-are types (length (typeRecords types)) (passed-table types (length (typeRecords types))
-      (then-passes (counted (length (typeRecords types)) typeCount) (λ some. checkTypes (typeRecords types) >>= λ sound. passed (length (typeRecords types))) tt (p .types-counted)
-      ∙ then-passes (checkTypes (typeRecords types)) (λ sound. passed (length (typeRecords types))) tt (p .types-kept)))
+  passed-types p =
+      passed-table types (length (typeRecords types))
+      (then-passes (counted (length (typeRecords types)) typeCount)
+      (λ some. checkTypes (typeRecords types) >>= λ sound. passed (length (typeRecords types))) tt (p .types-counted)
+      ∙ then-passes (checkTypes (typeRecords types)) (λ sound. passed (length (typeRecords types))) tt (p .types-kept))
+
+  pub passed-widths : LentPassed types nodes program hashes → (j : ℕ) → getD (typeWidths types) j 0 ≡ width (tyAt (typeRecords types) j)
+  passed-widths p = widths-are types (length (typeRecords types)) (passed-types p)
+
+  passed-parts : LentPassed types nodes program hashes → (j : ℕ) → leftOf (tyAt (typeRecords types) j)
+      ≡ tyAt (typeRecords types) (leftAt (typeRecords types) j)
+  passed-parts p = left-type (typeRecords types) (passed-types p .some) (passed-types p .sound)
 
   module _ (e : arrowStage types nodes arrows program hashes ≡ passed tt)
       (given witness : List ℕ) (witnessBits : ℕ) (input : List ℕ) (inputBits : ℕ) (values : List Val) where
@@ -75,30 +81,34 @@ module _ (types nodes arrows program hashes : List ℕ) where
     tables = lent-passed types nodes program hashes (stage-passed types nodes program hashes arrows e .0)
 
     -- THE BOUNDS OF EVERY NODE ARE THOSE OF ITS TERM
-    pub node-bounds : (i : ℕ) → boundAt (typeWidths types) (nodeRecords nodes) (arrowRecords arrows) i ≡ bounds (termAt lentProgram i)
+    pub node-bounds : (i : ℕ) → boundAt (typeRecords types) (typeWidths types) (nodeRecords nodes) (arrowRecords arrows) i
+        ≡ bounds (termAt lentProgram i)
     unfolding programOf lent
     node-bounds =
         bounds-are (typeRecords types) (nodeRecords nodes) (arrowRecords arrows) (streamOf program) hashes values (lentProgram .hash)
-        (typeWidths types) (passed-widths tables) (types-pass (typeRecords types) (tables .types-kept))
-        (lent-below types nodes program hashes tables) (stage-arrows types nodes program hashes arrows e)
+        (typeWidths types) (passed-widths tables) (passed-parts tables) (lent-below types nodes program hashes tables)
 
     -- THE WHOLE PROGRAM'S BOUNDS ARE JUDGED AS THE REQUIREMENTS ASK
-    pub whole-judged : countedBounds (typeWidths types) nodes arrows ≡ judgedBounds lentProgram
+    pub whole-judged : countedBounds types (typeWidths types) nodes arrows ≡ judgedBounds lentProgram
     unfolding countedBounds programOf lent
     whole-judged =
-        then-passes (counted (length (nodeRecords nodes)) nodeCount) (λ some. limited (lentTotals (typeWidths types) (nodeRecords nodes) (arrowRecords arrows))) tt (tables .nodes-counted)
+        then-passes (counted (length (nodeRecords nodes)) nodeCount)
+        (λ some. limited (lentTotals (typeRecords types) (typeWidths types) (nodeRecords nodes) (arrowRecords arrows))) tt (tables .nodes-counted)
         ∙ limits-judge (typeRecords types) (nodeRecords nodes) (arrowRecords arrows) (streamOf program) hashes values (lentProgram .hash)
-        (typeWidths types) (passed-widths tables) (types-pass (typeRecords types) (tables .types-kept))
-        (lent-below types nodes program hashes tables) (stage-arrows types nodes program hashes arrows e)
+        (typeWidths types) (passed-widths tables) (passed-parts tables) (lent-below types nodes program hashes tables)
 
   -- the stage in its two parts
-  pub stage-by : (arrowStage types nodes arrows program hashes >>= λ arrowed. judgedBounds (programOf (lent types nodes arrows program hashes [] [] 0 [] 0) []))
+  pub stage-by : (arrowStage types nodes arrows program hashes >>= λ arrowed. judgedBounds
+      (programOf (lent types nodes arrows program hashes [] [] 0 [] 0) []))
       ≡ stageBounds types nodes arrows program hashes
   unfolding stageBounds boundsStage
   stage-by =
-      sym (then-then (arrowStage types nodes arrows program hashes) (λ arrowed. checkBounds (programOf (lent types nodes arrows program hashes [] [] 0 [] 0) []))
+      sym (then-then (arrowStage types nodes arrows program hashes)
+      (λ arrowed. checkBounds (programOf (lent types nodes arrows program hashes [] [] 0 [] 0) []))
       (λ within. passed (programTotals (programOf (lent types nodes arrows program hashes [] [] 0 [] 0) []))))
 
   -- what follows the arrows, where they passed
-  pub stage-last : arrowStage types nodes arrows program hashes ≡ passed tt → countedBounds (typeWidths types) nodes arrows ≡ stageBounds types nodes arrows program hashes
-  stage-last e = whole-judged e [] [] 0 [] 0 [] ∙ passes e (λ arrowed. judgedBounds (programOf (lent types nodes arrows program hashes [] [] 0 [] 0) [])) ∙ stage-by
+  pub stage-last : arrowStage types nodes arrows program hashes ≡ passed tt → countedBounds types (typeWidths types) nodes arrows
+      ≡ stageBounds types nodes arrows program hashes
+  stage-last e = whole-judged e [] [] 0 [] 0 []
+      ∙ passes e (λ arrowed. judgedBounds (programOf (lent types nodes arrows program hashes [] [] 0 [] 0) [])) ∙ stage-by

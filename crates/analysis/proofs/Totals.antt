@@ -11,16 +11,18 @@ use borrow.Author.Tests.{le-leb, lt-leb}
 use Rattle.limits.specs.Limits.{nodeCount, cellCount, frameCount, costLimit}
 use Rattle.refusal.specs.declared.Refusal.{Refusal}
 use Rattle.scope.specs.Check.{Check, _>>=_, require}
+use Rattle.scope.specs.Types.{TypeRecord}
 use Rattle.scope.specs.Nodes.{NodeRecord}
 use Rattle.scope.specs.Numbers.{tabulate}
 use Rattle.scope.specs.Arrows.{Arrow}
 use Rattle.scope.specs.Bounds.{Bound, checkLimits}
-use Rattle.table.specs.Answers.{checkOf}
-use Rattle.table.specs.declared.Checked.{Checked}
-use Rattle.table.specs.declared.Checked.the-variants.{Refused as Stopped}
-use Rattle.types.proofs.Tables.{tabulate-at}
+use Rattle.common.specs.Answers.{checkOf}
+use Rattle.common.specs.declared.Checked.{Checked}
+use Rattle.common.specs.declared.Checked.the-variants.{Refused as Stopped}
+use Rattle.common.specs.Tables.{tabulate-at}
 use Rattle.analysis.specs.Held.{upTo}
-use Rattle.analysis.specs.Rows.{sourceWidth, targetWidth, boundAt}
+use Rattle.lookup.specs.Lookup.{sourceWidth, targetWidth}
+use Rattle.analysis.specs.Rows.{boundAt}
 use Rattle.analysis.specs.Limits.{boundedOf, refusedOf, limited, lentTotals}
 use Rattle.analysis.specs.declared.Bound as code
 use Rattle.analysis.proofs.Tables.{heldAt}
@@ -48,7 +50,13 @@ limited-held b = go (decLe (b .cells) cellCount) (decLe (b .frames) frameCount) 
     go : Dec (b .cells ≤ cellCount) → Dec (b .frames ≤ frameCount) → Dec (b .cost ≤ costLimit) → limited (heldNumbers b) ≡ limited b
     go (no n) f c = rw (over cellCount (b .cells) (omega arith), lt-leb (b .cells) cellCount (omega arith))
     go (yes h) (no n) c =
-        rw (within cellCount (b .cells) h, le-leb (b .cells) cellCount h, over frameCount (b .frames) (omega arith), lt-leb (b .frames) frameCount (omega arith))
+        rw (
+          within cellCount (b .cells) h,
+          le-leb (b .cells) cellCount h,
+          over frameCount (b .frames) (omega arith),
+          lt-leb (b .frames) frameCount
+              (omega arith),
+        )
     go (yes h) (yes g) (no n) =
         rw (
           within cellCount (b .cells) h,
@@ -64,24 +72,24 @@ limited-held b = go (decLe (b .cells) cellCount) (decLe (b .frames) frameCount) 
         let r = within costLimit (b .cost) k in
         λ i. limited (record { cells = p i; frames = q i; cost = r i })
 
-module _ (widths : List ℕ) (records : List NodeRecord) (arrows : List Arrow) where
+module _ (types : List TypeRecord) (widths : List ℕ) (records : List NodeRecord) (arrows : List Arrow) where
   -- the last node's row, where the rows stand in an array
-  pub row-read : (rows : List code.Bound) (i : ℕ) → i < nodeCount → rows ≡ tabulate nodeCount (heldAt widths records arrows)
-      → getD rows i (record { cells = 0; frames = 0; cost = record { units = 0 } }) ≡ heldAt widths records arrows i
+  pub row-read : (rows : List code.Bound) (i : ℕ) → i < nodeCount → rows ≡ tabulate nodeCount (heldAt types widths records arrows)
+      → getD rows i (record { cells = 0; frames = 0; cost = record { units = 0 } }) ≡ heldAt types widths records arrows i
   row-read rows i h e =
       ap (λ l. getD l i (record { cells = 0; frames = 0; cost = record { units = 0 } })) e
-      ∙ tabulate-at (heldAt widths records arrows) nodeCount i (record { cells = 0; frames = 0; cost = record { units = 0 } }) h
+      ∙ tabulate-at (heldAt types widths records arrows) nodeCount i (record { cells = 0; frames = 0; cost = record { units = 0 } }) h
 
   -- what is judged is the whole program
-  pub totals-judged : (own : code.Bound) (s t cells frames cost : ℕ) → own ≡ heldAt widths records arrows (length records - 1)
-      → s ≡ sourceWidth widths records arrows (length records - 1) → t ≡ targetWidth widths records arrows (length records - 1)
+  pub totals-judged : (own : code.Bound) (s t cells frames cost : ℕ) → own ≡ heldAt types widths records arrows (length records - 1)
+      → s ≡ sourceWidth widths arrows (length records - 1) → t ≡ targetWidth widths arrows (length records - 1)
       → cells ≡ upTo cellCount (s + t + own .cells) → frames ≡ upTo frameCount (own .frames + 2) → cost ≡ own .cost .units
-      → limited (record { cells = cells; frames = frames; cost = cost }) ≡ limited (lentTotals widths records arrows)
+      → limited (record { cells = cells; frames = frames; cost = cost }) ≡ limited (lentTotals types widths records arrows)
   unfolding lentTotals
   totals-judged own s t cells frames cost e p q u v w =
-      let b : Bound = boundAt widths records arrows (length records - 1) in
-      let c : cells ≡ upTo cellCount (sourceWidth widths records arrows (length records - 1) + targetWidth widths records arrows (length records - 1) + b .cells) =
+      let b : Bound = boundAt types widths records arrows (length records - 1) in
+      let c : cells ≡ upTo cellCount (sourceWidth widths arrows (length records - 1) + targetWidth widths arrows (length records - 1) + b .cells) =
       omega (arith, ap (λ x. x .cells) e) in
       let f : frames ≡ upTo frameCount (b .frames + 2) = omega (arith, ap (λ x. x .frames) e) in
       let k : cost ≡ upTo costLimit (b .cost) = w ∙ ap (λ x. x .cost .units) e in
-      (λ i. limited (record { cells = c i; frames = f i; cost = k i })) ∙ limited-held (lentTotals widths records arrows)
+      (λ i. limited (record { cells = c i; frames = f i; cost = k i })) ∙ limited-held (lentTotals types widths records arrows)

@@ -4,15 +4,17 @@ use Prim.Native.Nat.{ℕ, _+_, _-_}
 use lib.ListN.{length}
 use Rattle.limits.specs.Limits.{nodeCount}
 use Rattle.scope.specs.Check.{Check, passed, refused, _>>=_}
+use Rattle.scope.specs.Types.{TypeRecord, typeRecords}
 use Rattle.scope.specs.Nodes.{NodeRecord, nodeRecords}
 use Rattle.scope.specs.Arrows.{Arrow, arrowRecords}
 use Rattle.scope.specs.Program.{Program}
 use Rattle.scope.specs.Bounds.{Bound, checkLimits, wholeCells, wholeFrames, wholeCost}
 use Rattle.scope.specs.Run.{programOf}
 use Rattle.scope.specs.Stages.{counted, lent, boundsStage}
-use Rattle.table.specs.declared.Checked.{Checked}
-use Rattle.table.specs.declared.Checked.the-variants.{Passed, Refused as Stopped}
-use Rattle.analysis.specs.Rows.{sourceWidth, targetWidth, boundAt}
+use Rattle.common.specs.declared.Checked.{Checked}
+use Rattle.common.specs.declared.Checked.the-variants.{Passed, Refused as Stopped}
+use Rattle.lookup.specs.Lookup.{sourceWidth, targetWidth}
+use Rattle.analysis.specs.Rows.{boundAt}
 use Rattle.analysis.specs.declared.BoundsAnswer.{BoundsAnswer}
 use Rattle.analysis.specs.declared.BoundsAnswer.the-variants.{Bounded, Refused}
 
@@ -34,19 +36,19 @@ limited b = do
   passed b
 
 -- the whole program is the last node: source, target and extra cells; extra frames and two; the cost
-unfoldable pub lentTotals : (widths : List ℕ) → (records : List NodeRecord) → (arrows : List Arrow) → Bound
-unfolding sourceWidth targetWidth boundAt
-lentTotals widths records arrows =
+unfoldable pub lentTotals : (types : List TypeRecord) → (widths : List ℕ) → (records : List NodeRecord) → (arrows : List Arrow) → Bound
+unfolding boundAt
+lentTotals types widths records arrows =
     let last = length records - 1 in
-    let b = boundAt widths records arrows last in
-    record { cells = sourceWidth widths records arrows last + targetWidth widths records arrows last + b .cells; frames = b .frames + 2; cost = b .cost }
+    let b = boundAt types widths records arrows last in
+    record { cells = sourceWidth widths arrows last + targetWidth widths arrows last + b .cells; frames = b .frames + 2; cost = b .cost }
 
 -- 4 of the nodes, then 14
-unfoldable pub countedBounds : (widths nodes arrows : List ℕ) → Check Bound
+unfoldable pub countedBounds : (types widths nodes arrows : List ℕ) → Check Bound
 unfolding _>>=_ counted limited lentTotals
-countedBounds widths nodes arrows = do
+countedBounds types widths nodes arrows = do
   some ← counted (length (nodeRecords nodes)) nodeCount
-  limited (lentTotals widths (nodeRecords nodes) (arrowRecords arrows))
+  limited (lentTotals (typeRecords types) widths (nodeRecords nodes) (arrowRecords arrows))
 
 -- the same numbers of a program
 unfoldable pub programTotals : Program → Bound

@@ -3,15 +3,17 @@
 -- Widths are numbers of a table; that they are the widths of the types is what a check of the types gives.
 use mathlib.Core.Bool.{Bool, true, false}
 use mathlib.Core.List.{List, []}
-use Prim.Native.Nat.{ℕ, _+_, _-_}
+use Prim.Native.Nat.{ℕ, _+_}
 use lib.Dec.{ltb}
 use lib.ListN.{length, getD}
 use Rattle.report.specs.Table.{entries}
 use Rattle.report.specs.Types.{width, wordTy}
+use Rattle.scope.specs.Types.{TypeRecord}
 use Rattle.scope.specs.Nodes.{Kind, kComp, kCase, kPair, kDisconnect, kInjl, kInjr, kTake, kDrop, kIden, kUnit, kFail, kDisconnect1, kWitness, kHidden, kWord, kUnknown, kindOf, NodeRecord, nodesOf}
 use Rattle.scope.specs.Walk.{hiddenAt}
-use Rattle.scope.specs.Arrows.{Arrow, source, target}
+use Rattle.scope.specs.Arrows.{Arrow}
 use Rattle.scope.specs.Bounds.{Bound, unitRow, copyRow, childRow, pairRow, caseRow, compRow, disconnectRow, witnessRow, failRow, noRow}
+use Rattle.lookup.specs.Lookup.{sourceWidth, targetWidth, keptWidth}
 
 -- a case, by which of its children are hidden: with one hidden it is an assertion
 unfoldable pub caseBound : (leftHidden rightHidden : Bool) → (left right : Bound) → Bound
@@ -24,38 +26,26 @@ caseBound true true left right = noRow
 unfoldable pub belowOr : (child i : ℕ) → ℕ
 belowOr child i = elim (ltb child i) [ true ↦ child | false ↦ i ]
 
-module _ (widths : List ℕ) (records : List NodeRecord) (arrows : List Arrow) where
-  -- the widths of the source and of the target of node i
-  unfoldable pub sourceWidth : (i : ℕ) → ℕ
-  sourceWidth i = getD widths (source arrows i) 0
-
-  unfoldable pub targetWidth : (i : ℕ) → ℕ
-  targetWidth i = getD widths (target arrows i) 0
-
-  -- what a disconnect keeps of its left child's target: its own target without the right child's
-  unfoldable pub keptWidth : (i right : ℕ) → ℕ
-  unfolding targetWidth
-  keptWidth i right = targetWidth i - targetWidth right
-
+module _ (types : List TypeRecord) (widths : List ℕ) (records : List NodeRecord) (arrows : List Arrow) where
   -- node i of a kind with its first two numbers, of the bounds of its children
   unfoldable pub rowOf : (i : ℕ) → Kind → (a b : ℕ) → (left right : Bound) → Bound
-  unfolding sourceWidth targetWidth keptWidth caseBound hiddenAt
-  rowOf i kComp a b left right = compRow (targetWidth a) left right
+  unfolding caseBound hiddenAt
+  rowOf i kComp a b left right = compRow (targetWidth widths arrows a) left right
   rowOf i kCase a b left right = caseBound (hiddenAt (nodesOf [] [] records) a) (hiddenAt (nodesOf [] [] records) b) left right
   rowOf i kPair a b left right = pairRow left right
   rowOf i kDisconnect a b left right =
-      disconnectRow (width (wordTy 8) + sourceWidth i) (keptWidth i b + sourceWidth b) (keptWidth i b) left right
+      disconnectRow (width (wordTy 8) + sourceWidth widths arrows i) (keptWidth types widths arrows i + sourceWidth widths arrows b) (keptWidth types widths arrows i) left right
   rowOf i kInjl a b left right = childRow left
   rowOf i kInjr a b left right = childRow left
   rowOf i kTake a b left right = childRow left
   rowOf i kDrop a b left right = childRow left
-  rowOf i kIden a b left right = copyRow (sourceWidth i)
+  rowOf i kIden a b left right = copyRow (sourceWidth widths arrows i)
   rowOf i kUnit a b left right = unitRow
   rowOf i kFail a b left right = failRow
   rowOf i kDisconnect1 a b left right = noRow
-  rowOf i kWitness a b left right = witnessRow (targetWidth i)
+  rowOf i kWitness a b left right = witnessRow (targetWidth widths arrows i)
   rowOf i kHidden a b left right = noRow
-  rowOf i kWord a b left right = copyRow (targetWidth i)
+  rowOf i kWord a b left right = copyRow (targetWidth widths arrows i)
   rowOf i kUnknown a b left right = noRow
 
   -- the same of a record, of the bounds of the nodes before it

@@ -1,7 +1,7 @@
 // The bounds of a run (14), after analysis.rs: extra cells, extra frames and cost of every node by the requirements' table, in one pass upwards.
 // A number over its limit is held at the limit plus one: such a program is refused, so no answer shows the number itself.
 use refusal::Refusal;
-use table::Checked;
+use common::Checked;
 use table::NodeRecord;
 ghost use mathlib.Core.Path.{_≡_};
 ghost use mathlib.Core.List.{List};
@@ -10,13 +10,14 @@ ghost use lib.ListN.{length};
 ghost use Rattle.limits.specs.Limits.{nodeCount, costLimit, nodeCost};
 ghost use Rattle.report.specs.Types.{width, wordTy};
 ghost use Rattle.scope.specs.Numbers.{tabulate};
+ghost use Rattle.scope.specs.Types.{TypeRecord, typeRecords};
 ghost use Rattle.scope.specs.Nodes.{kindOf, nodeRecords};
 ghost use Rattle.scope.specs.Nodes.{NodeRecord as ScopeRecord};
 ghost use Rattle.scope.specs.Arrows.{arrowRecords};
 ghost use Rattle.scope.specs.Bounds.{unitRow, copyRow, childRow, pairRow, caseRow, compRow, disconnectRow, witnessRow, failRow};
 ghost use Rattle.scope.specs.Bounds.{Bound as ScopeBound};
 ghost use Rattle.analysis.specs.Held.{upTo, held, plain};
-ghost use Rattle.analysis.specs.Rows.{caseBound, sourceWidth, targetWidth, keptWidth, rowOf, belowOr, boundAt};
+ghost use Rattle.analysis.specs.Rows.{caseBound, rowOf, belowOr, boundAt};
 ghost use Rattle.analysis.specs.Limits.{boundedOf, refusedOf, limited, countedBounds, stageBounds};
 
 // The cells of a hash.
@@ -206,31 +207,6 @@ fn fail_row() -> Bound
     }
 }
 
-// The width of the source of node i.
-fn source_width(widths: &[u32], arrows: &[u8], i: u32) -> u32
-    ensures { λ r. ⌜ ((rs : List ScopeRecord) → r ≡ sourceWidth (now (widths .entry)) rs (arrowRecords (now (arrows .entry))) i) ⌝ }
-{
-    let own = arrow::arrow_at(arrows, i);
-    types::width_at(widths, own.source)
-}
-
-// The width of the target of node i.
-fn target_width(widths: &[u32], arrows: &[u8], i: u32) -> u32
-    ensures { λ r. ⌜ ((rs : List ScopeRecord) → r ≡ targetWidth (now (widths .entry)) rs (arrowRecords (now (arrows .entry))) i) ⌝ }
-{
-    let own = arrow::arrow_at(arrows, i);
-    types::width_at(widths, own.target)
-}
-
-// What a disconnect keeps of its left child's target: its own target without the right child's.
-fn kept_width(widths: &[u32], arrows: &[u8], i: u32, right: u32) -> u32
-    ensures { λ r. ⌜ ((rs : List ScopeRecord) → r ≡ keptWidth (now (widths .entry)) rs (arrowRecords (now (arrows .entry))) i right) ⌝ }
-{
-    let whole = target_width(widths, arrows, i);
-    let part = target_width(widths, arrows, right);
-    if part < whole { whole - part } else { 0 }
-}
-
 // A case, by whether its first and its second child are hidden: with one hidden it is an assertion.
 fn case_bound(first: bool, second: bool, left: Bound, right: Bound) -> Bound
     ensures { λ r. ⌜ r ≡ held (caseBound first second (plain left) (plain right)) ⌝ }
@@ -249,6 +225,7 @@ fn case_bound(first: bool, second: bool, left: Bound, right: Bound) -> Bound
 
 // The nodes with two children.
 fn two_row(
+    types: &[u8],
     widths: &[u32],
     nodes: &[u32],
     arrows: &[u8],
@@ -258,11 +235,11 @@ fn two_row(
     right: Bound,
 ) -> Bound
     requires { ⌜ r .kind < 4 ⌝ }
-    ensures { λ b. ⌜ b ≡ held (rowOf (now (widths .entry)) (nodeRecords (now (nodes .entry))) (arrowRecords (now (arrows .entry))) i (kindOf (r .kind)) (r .first) (r .second) (plain left) (plain right)) ⌝ }
+    ensures { λ b. ⌜ b ≡ held (rowOf (typeRecords (now (types .entry))) (now (widths .entry)) (nodeRecords (now (nodes .entry))) (arrowRecords (now (arrows .entry))) i (kindOf (r .kind)) (r .first) (r .second) (plain left) (plain right)) ⌝ }
 {
     let kind = r.kind;
     match kind {
-        table::COMP => comp_row(target_width(widths, arrows, r.first), left, right),
+        table::COMP => comp_row(lookup::target_width(arrows, widths, r.first), left, right),
         table::CASE => case_bound(
             table::hidden_at(nodes, r.first),
             table::hidden_at(nodes, r.second),
@@ -271,9 +248,9 @@ fn two_row(
         ),
         table::PAIR => pair_row(left, right),
         _ => disconnect_row(
-            source_width(widths, arrows, i),
-            kept_width(widths, arrows, i, r.second),
-            source_width(widths, arrows, r.second),
+            lookup::source_width(arrows, widths, i),
+            lookup::kept_width(types, widths, arrows, i),
+            lookup::source_width(arrows, widths, r.second),
             left,
             right,
         ),
@@ -283,19 +260,20 @@ fn two_row(
 // The nodes with none, and what is never run.
 fn leaf_row(widths: &[u32], arrows: &[u8], kind: u32, i: u32) -> Bound
     requires { ⌜ 7 < kind ⌝ }
-    ensures { λ r. ⌜ ((rs : List ScopeRecord) (a b : ℕ) (x y : ScopeBound) → r ≡ held (rowOf (now (widths .entry)) rs (arrowRecords (now (arrows .entry))) i (kindOf kind) a b x y)) ⌝ }
+    ensures { λ r. ⌜ ((ts : List TypeRecord) (rs : List ScopeRecord) (a b : ℕ) (x y : ScopeBound) → r ≡ held (rowOf ts (now (widths .entry)) rs (arrowRecords (now (arrows .entry))) i (kindOf kind) a b x y)) ⌝ }
 {
     match kind {
-        table::IDEN => copy_row(source_width(widths, arrows, i)),
+        table::IDEN => copy_row(lookup::source_width(arrows, widths, i)),
         table::UNIT => unit_row(),
-        table::WITNESS => witness_row(target_width(widths, arrows, i)),
-        table::WORD => copy_row(target_width(widths, arrows, i)),
+        table::WITNESS => witness_row(lookup::target_width(arrows, widths, i)),
+        table::WORD => copy_row(lookup::target_width(arrows, widths, i)),
         _ => fail_row(),
     }
 }
 
 // The row of node i, of its record and the bounds of its children.
 fn row(
+    types: &[u8],
     widths: &[u32],
     nodes: &[u32],
     arrows: &[u8],
@@ -304,10 +282,10 @@ fn row(
     left: Bound,
     right: Bound,
 ) -> Bound
-    ensures { λ b. ⌜ b ≡ held (rowOf (now (widths .entry)) (nodeRecords (now (nodes .entry))) (arrowRecords (now (arrows .entry))) i (kindOf (r .kind)) (r .first) (r .second) (plain left) (plain right)) ⌝ }
+    ensures { λ b. ⌜ b ≡ held (rowOf (typeRecords (now (types .entry))) (now (widths .entry)) (nodeRecords (now (nodes .entry))) (arrowRecords (now (arrows .entry))) i (kindOf (r .kind)) (r .first) (r .second) (plain left) (plain right)) ⌝ }
 {
     if r.kind <= table::DISCONNECT {
-        return two_row(widths, nodes, arrows, r, i, left, right);
+        return two_row(types, widths, nodes, arrows, r, i, left, right);
     }
     if r.kind <= table::DROP {
         return child_row(left);
@@ -339,8 +317,13 @@ fn row_count(nodes: &[u32]) -> u32
 }
 
 // The bounds of every node, in one pass upwards; where there is no node there is nothing.
-pub fn node_rows(widths: &[u32], nodes: &[u32], arrows: &[u8]) -> [Bound; limits::NODE_COUNT]
-    ensures { λ r. ⌜ r ≡ tabulate nodeCount (λ i. held (boundAt (now (widths .entry)) (nodeRecords (now (nodes .entry))) (arrowRecords (now (arrows .entry))) i)) ⌝ }
+pub fn node_rows(
+    types: &[u8],
+    widths: &[u32],
+    nodes: &[u32],
+    arrows: &[u8],
+) -> [Bound; limits::NODE_COUNT]
+    ensures { λ r. ⌜ r ≡ tabulate nodeCount (λ i. held (boundAt (typeRecords (now (types .entry))) (now (widths .entry)) (nodeRecords (now (nodes .entry))) (arrowRecords (now (arrows .entry))) i)) ⌝ }
 {
     let none = fail_row();
     let mut rows = [none; limits::NODE_COUNT];
@@ -352,7 +335,7 @@ pub fn node_rows(widths: &[u32], nodes: &[u32], arrows: &[u8]) -> [Bound; limits
         let b = below(r.second, i);
         let left = rows[a];
         let right = rows[b];
-        let own = row(widths, nodes, arrows, r, i, left, right);
+        let own = row(types, widths, nodes, arrows, r, i, left, right);
         let at = i as usize;
         rows[at] = own;
         i += 1;
@@ -387,18 +370,19 @@ fn refused(c: Checked) -> BoundsAnswer
 }
 
 // The bounds of the whole program, its last node, within the limits (14), after the count of the nodes (4).
-pub fn bounds(widths: &[u32], nodes: &[u32], arrows: &[u8]) -> BoundsAnswer
-    ensures { λ r. ⌜ boundedOf r ≡ countedBounds (now (widths .entry)) (now (nodes .entry)) (now (arrows .entry)) ⌝ }
+pub fn bounds(types: &[u8], widths: &[u32], nodes: &[u32], arrows: &[u8]) -> BoundsAnswer
+    ensures { λ r. ⌜ boundedOf r ≡ countedBounds (now (types .entry)) (now (widths .entry)) (now (nodes .entry)) (now (arrows .entry)) ⌝ }
 {
     let some = table::check_count(nodes);
     let Checked::Passed = some else {
         return refused(some);
     };
     let last = (nodes.len() / limits::NODE_NUMBERS - 1) as u32;
-    let rows = node_rows(widths, nodes, arrows);
+    let rows = node_rows(types, widths, nodes, arrows);
     let at = last as usize;
     let own = rows[at];
-    let ends = wide(source_width(widths, arrows, last)) + wide(target_width(widths, arrows, last));
+    let ends = wide(lookup::source_width(arrows, widths, last))
+        + wide(lookup::target_width(arrows, widths, last));
     let cells = up_to(limits::CELL_COUNT, ends + wide(own.cells));
     let frames = up_to(limits::FRAME_COUNT, wide(own.frames) + 2);
     let price = own.cost;
@@ -415,12 +399,11 @@ pub fn bounds_stage(
 ) -> BoundsAnswer
     ensures { λ r. ⌜ boundedOf r ≡ stageBounds (now (types .entry)) (now (nodes .entry)) (now (arrows .entry)) (now (program .entry)) (now (hashes .entry)) ⌝ }
 {
-    let table = types::check_types(types);
-    let answer = table.answer;
-    let held = arrow::without_count(answer);
-    let arrowed = arrow::arrow_tables(held, types, nodes, arrows, program, hashes);
+    let staged = stages::arrow_tables(types, nodes, arrows, program, hashes);
+    let arrowed = staged.answer;
     let Checked::Passed = arrowed else {
         return refused(arrowed);
     };
-    bounds(&table.widths, nodes, arrows)
+    let table = staged.table;
+    bounds(types, &table.widths, nodes, arrows)
 }

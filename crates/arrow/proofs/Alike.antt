@@ -1,25 +1,22 @@
--- Arrows and supplied hashes are judged without a look at the bits of words or at the bytes of the hash store.
--- So the passes leave both out, and their answers are those for the nodes with all their bits and bytes.
+-- Arrows are judged without a look at the bits of words or at the bytes of the hash store.
+-- So the pass leaves both out, and its answer is that for the nodes with all their bits and bytes.
 use mathlib.Core.Path.{_≡_, refl, sym, ap, _∙_}
-use mathlib.Core.Bool.{true, false, not}
+use mathlib.Core.Bool.{true, false}
 use mathlib.Core.List.{List, [], _∷_}
-use Prim.Native.Nat.{ℕ, _/_}
+use Prim.Native.Nat.{ℕ}
 use lib.Dec.{eqb}
 use lib.ListN.{length, getD}
-use Rattle.limits.specs.Limits.{hashBytes}
-use Rattle.refusal.specs.declared.Refusal.the-variants.{OneChildDisconnect, Arrow as BadArrow, Hash}
+use Rattle.refusal.specs.declared.Refusal.the-variants.{OneChildDisconnect, Arrow as BadArrow}
 use Rattle.report.specs.Nodes.{Node}
-use Rattle.scope.specs.Check.{Check, _>>=_, require, each}
+use Rattle.scope.specs.Check.{_>>=_, require, each}
 use Rattle.scope.specs.Numbers.{every}
-use Rattle.scope.specs.Types.{TypeRecord}
-use Rattle.scope.specs.Nodes.{Kind, kComp, kCase, kPair, kDisconnect, kInjl, kInjr, kTake, kDrop, kIden, kUnit, kFail, kDisconnect1, kWitness, kHidden, kWord, kUnknown, kindOf, nodeOf, NodeRecord, nodesOf, nodeAt, onOneChild, onDisconnect}
+use Rattle.scope.specs.Types.{TypeRecord, isSum, isProduct, leftAt, rightAt}
+use Rattle.scope.specs.Nodes.{Kind, kComp, kCase, kPair, kDisconnect, kInjl, kInjr, kTake, kDrop, kIden, kUnit, kFail, kDisconnect1, kWitness, kHidden, kWord, kUnknown, kindOf, nodeOf, NodeRecord, nodesOf, nodeAt, onOneChild}
 use Rattle.scope.specs.Walk.{hiddenAt}
-use Rattle.scope.specs.Arrows.{Arrow, source, target, isSum, isProduct, leftAt, rightAt, goes, branchRule, kindRule, arrowRule, noOneChild, checkArrows}
-use Rattle.scope.specs.Hashes.{countPlace, rights, clash, checkHashes}
+use Rattle.scope.specs.Arrows.{Arrow, source, target, goes, branchRule, kindRule, arrowRule, noOneChild, checkArrows}
 use Rattle.scope.specs.Stages.{noRecord}
-use Rattle.table.proofs.Records.{length-nodes, node-at}
-use Rattle.table.proofs.Hashes.{hidden-kind}
-use Rattle.arrow.specs.Hashes.{unlikeAt, clashAt}
+use Rattle.common.specs.Nodes.{length-nodes, node-at}
+use Rattle.table.proofs.Hashes.{hidden-alike}
 
 module _ (types : List TypeRecord) (arrows : List Arrow) (nodes nodes′ : List Node) (same : (j : ℕ) → hiddenAt nodes j ≡ hiddenAt nodes′ j) where
   branch-alike : (j part rest to : ℕ) → branchRule types nodes arrows j part rest to ≡ branchRule types nodes′ arrows j part rest to
@@ -71,30 +68,7 @@ one-child-alike bits hashes kHidden a b = refl
 one-child-alike bits hashes kWord a b = refl
 one-child-alike bits hashes kUnknown a b = refl
 
-right-alike : (bits hashes : List ℕ) (kind : Kind) (a b : ℕ) (rest : List ℕ)
-    → onDisconnect (nodeOf bits hashes kind a b) (λ left right. right ∷ rest) rest ≡ onDisconnect (nodeOf [] [] kind a b) (λ left right. right ∷ rest) rest
-unfolding onDisconnect nodeOf
-right-alike bits hashes kComp a b rest = refl
-right-alike bits hashes kCase a b rest = refl
-right-alike bits hashes kPair a b rest = refl
-right-alike bits hashes kDisconnect a b rest = refl
-right-alike bits hashes kInjl a b rest = refl
-right-alike bits hashes kInjr a b rest = refl
-right-alike bits hashes kTake a b rest = refl
-right-alike bits hashes kDrop a b rest = refl
-right-alike bits hashes kIden a b rest = refl
-right-alike bits hashes kUnit a b rest = refl
-right-alike bits hashes kFail a b rest = refl
-right-alike bits hashes kDisconnect1 a b rest = refl
-right-alike bits hashes kWitness a b rest = refl
-right-alike bits hashes kHidden a b rest = refl
-right-alike bits hashes kWord a b rest = refl
-right-alike bits hashes kUnknown a b rest = refl
-
 module _ (bits hashes : List ℕ) (rs : List NodeRecord) where
-  pub hidden-alike : (j : ℕ) → hiddenAt (nodesOf bits hashes rs) j ≡ hiddenAt (nodesOf [] [] rs) j
-  hidden-alike j = hidden-kind bits hashes rs j ∙ sym (hidden-kind [] [] rs j)
-
   module _ (types : List TypeRecord) (arrows : List Arrow) where
     pub arrow-alike : (i : ℕ) → arrowRule types (nodesOf bits hashes rs) arrows i ≡ arrowRule types (nodesOf [] [] rs) arrows i
     unfolding arrowRule
@@ -103,7 +77,7 @@ module _ (bits hashes : List ℕ) (rs : List NodeRecord) where
         let e : kindRule types (nodesOf bits hashes rs) arrows (source arrows i) (target arrows i) (nodeAt (nodesOf bits hashes rs) i)
         ≡ kindRule types (nodesOf [] [] rs) arrows (source arrows i) (target arrows i) (nodeAt (nodesOf [] [] rs) i) =
         ap (kindRule types (nodesOf bits hashes rs) arrows (source arrows i) (target arrows i)) (node-at bits hashes rs i)
-        ∙ kind-alike types arrows (nodesOf bits hashes rs) (nodesOf [] [] rs) hidden-alike bits hashes (source arrows i) (target arrows i) (kindOf (r .kind)) (r .first) (r .second)
+        ∙ kind-alike types arrows (nodesOf bits hashes rs) (nodesOf [] [] rs) (hidden-alike bits hashes rs) bits hashes (source arrows i) (target arrows i) (kindOf (r .kind)) (r .first) (r .second)
         ∙ ap (kindRule types (nodesOf [] [] rs) arrows (source arrows i) (target arrows i)) (sym (node-at [] [] rs i)) in
         rw e
 
@@ -122,24 +96,3 @@ module _ (bits hashes : List ℕ) (rs : List NodeRecord) where
         λ k. each (l k) (λ i. whole-alike i k) OneChildDisconnect >>= λ one.
         require (eqb (length arrows) (l k)) (BadArrow (l k)) >>= λ count.
         each (l k) (λ i. arrow-alike i k) BadArrow
-
-rights-alike : (bits hashes : List ℕ) (rs : List NodeRecord) → rights (nodesOf bits hashes rs) ≡ rights (nodesOf [] [] rs)
-unfolding rights nodesOf
-rights-alike bits hashes [] = refl
-rights-alike bits hashes (r ∷ rs) =
-    ap (λ (l : List ℕ). onDisconnect (nodeOf bits hashes (kindOf (r .kind)) (r .first) (r .second)) (λ left right. right ∷ l) l) (rights-alike bits hashes rs)
-    ∙ right-alike bits hashes (kindOf (r .kind)) (r .first) (r .second) (rights (nodesOf [] [] rs))
-
--- what the check of the hashes sees of the nodes are the right children
-hashes-of : (children : List ℕ) → (given : List ℕ) → Check (Unit {0})
-hashes-of children given =
-    require (eqb (length given / hashBytes) (length children)) (Hash (countPlace (length given / hashBytes))) >>= λ count.
-    each (length children) (λ e. not (clashAt children given e)) Hash
-
-hashes-are : (nodes : List Node) (given : List ℕ) → checkHashes nodes given ≡ hashes-of (rights nodes) given
-unfolding checkHashes clash unlikeAt hashes-of
-hashes-are nodes given = refl
-
-pub hashes-alike : (bits hashes : List ℕ) (rs : List NodeRecord) (given : List ℕ) → checkHashes (nodesOf bits hashes rs) given ≡ checkHashes (nodesOf [] [] rs) given
-hashes-alike bits hashes rs given =
-    hashes-are (nodesOf bits hashes rs) given ∙ ap (λ (l : List ℕ). hashes-of l given) (rights-alike bits hashes rs) ∙ sym (hashes-are (nodesOf [] [] rs) given)

@@ -10,15 +10,15 @@ use borrow.Author.Tests.{ne-eqb}
 use Rattle.limits.specs.Limits.{arrowBytes}
 use Rattle.report.specs.Nodes.{Node, case, disconnect}
 use Rattle.scope.specs.Numbers.{every}
-use Rattle.scope.specs.Types.{TypeRecord}
+use Rattle.scope.specs.Types.{TypeRecord, isSum, isProduct, isWord, leftAt, rightAt}
 use Rattle.scope.specs.Nodes.{kindOf, nodeOf, NodeRecord, nodeRecords, nodeAt, onOneChild}
-use Rattle.scope.specs.Arrows.{Arrow, noArrow, arrowRecord, arrowRecords, source, target, isSum, isProduct, isWord, leftAt, rightAt, branchRule, kindRule, arrowRule, noOneChild}
+use Rattle.scope.specs.Arrows.{Arrow, noArrow, arrowRecord, arrowRecords, source, target, branchRule, kindRule, arrowRule, noOneChild}
 use Rattle.scope.specs.Walk.{hiddenAt}
 use Rattle.scope.specs.Stages.{noRecord}
 use Rattle.table.specs.Lent.{lentNodes, nodeIs}
-use Rattle.table.proofs.Records.{node-at}
+use Rattle.common.specs.Nodes.{node-at}
 use Rattle.table.proofs.Groups.{by-kind, unknown}
-use Rattle.types.proofs.Tables.{length-tabulate}
+use Rattle.common.specs.Tables.{length-tabulate}
 
 pub length-arrows : (bytes : List ℕ) → length (arrowRecords bytes) ≡ length bytes / arrowBytes
 unfolding arrowRecords

@@ -1,11 +1,5 @@
 pub mod Tests
-pub mod Words
-pub mod Passes
 pub mod KindNumbers
-pub mod Rights
 pub mod Stages
 pub mod Alike
-pub mod Lent
-pub mod Passed
-pub mod Typing
 pub mod Pins

@@ -1,27 +1,22 @@
--- What each way out of a pass answers, of the checks that it is made of.
+-- What each way out of the pass over the arrows answers, of the checks that it is made of.
 use mathlib.Core.Path.{_≡_, sym, ap, _∙_}
-use mathlib.Core.Bool.{not}
 use mathlib.Core.List.{List, []}
-use Prim.Native.Nat.{ℕ, _/_}
+use Prim.Native.Nat.{ℕ}
 use lib.Dec.{eqb}
 use lib.ListN.{length}
-use borrow.Author.Tests.{eq-eqb, ne-eqb}
-use Rattle.limits.specs.Limits.{nodeCount, hashBytes}
+use Rattle.limits.specs.Limits.{nodeCount}
 use Rattle.refusal.specs.declared.Refusal.{Refusal}
-use Rattle.refusal.specs.declared.Refusal.the-variants.{OneChildDisconnect, Arrow as BadArrow, Hash}
+use Rattle.refusal.specs.declared.Refusal.the-variants.{OneChildDisconnect, Arrow as BadArrow}
 use Rattle.scope.specs.Check.{Check, passed, refused, _>>=_, require, each}
 use Rattle.scope.specs.Types.{typeRecords}
 use Rattle.scope.specs.Nodes.{nodeRecords}
 use Rattle.scope.specs.Arrows.{arrowRecords, noOneChild, arrowRule, checkArrows}
-use Rattle.scope.specs.Hashes.{countPlace, rights, clash, checkHashes}
 use Rattle.scope.specs.Stages.{counted}
 use Rattle.table.specs.Lent.{lentNodes}
-use Rattle.table.specs.Walking.{inTurn}
-use Rattle.table.proofs.Records.{length-nodes}
-use Rattle.table.proofs.Steps.{then-then}
-use Rattle.arrow.specs.Hashes.{unlikeAt, clashAt}
-use Rattle.arrow.specs.Stage.{countedArrows, countedHashes}
-use Rattle.arrow.proofs.Passes.{stops, passes}
+use Rattle.common.specs.Answers.{inTurn}
+use Rattle.common.specs.Nodes.{length-nodes}
+use Rattle.common.specs.Checks.{then-then, stops, passes}
+use Rattle.arrow.specs.Stage.{countedArrows}
 
 module _ (types nodes arrows : List ℕ) (some : counted (length (nodeRecords nodes)) nodeCount ≡ passed tt) where
   -- no disconnect with one child, and every arrow, of as many nodes as there are records
@@ -50,23 +45,3 @@ module _ (types nodes arrows : List ℕ) (some : counted (length (nodeRecords no
 
   pub arrows-judged : inTurn whole oneEach ≡ passed tt → judged ≡ countedArrows types nodes arrows
   arrows-judged e = passes e (λ both. judged) ∙ arrows-by
-
-module _ (nodes given : List ℕ) (some : counted (length (nodeRecords nodes)) nodeCount ≡ passed tt) where
-  hashes-by : (require (eqb (length given / hashBytes) (length (rights (lentNodes [] nodes)))) (Hash (countPlace (length given / hashBytes))) >>= λ count.
-      each (length (rights (lentNodes [] nodes))) (λ e. not (clashAt (rights (lentNodes [] nodes)) given e)) Hash)
-      ≡ countedHashes nodes given
-  unfolding countedHashes checkHashes clash unlikeAt
-  hashes-by = passes some (λ x. checkHashes (lentNodes [] nodes) given)
-
-  pub hashes-stop : (length given / hashBytes ≡ length (rights (lentNodes [] nodes)) → ⊥)
-      → refused (Hash (countPlace (length given / hashBytes))) ≡ countedHashes nodes given
-  unfolding _>>=_ require
-  hashes-stop n = rw (ne-eqb (length given / hashBytes) (length (rights (lentNodes [] nodes))) n) at hashes-by
-
-  -- the entries, each for the right child in a list that is the table's
-  pub hashes-judged : (children : List ℕ) → children ≡ rights (lentNodes [] nodes) → length given / hashBytes ≡ length (rights (lentNodes [] nodes))
-      → each (length children) (λ e. not (clashAt children given e)) Hash ≡ countedHashes nodes given
-  unfolding _>>=_ require
-  hashes-judged children c e =
-      ap (λ (l : List ℕ). each (length l) (λ e. not (clashAt l given e)) Hash) c
-      ∙ rw (eq-eqb (length given / hashBytes) (length (rights (lentNodes [] nodes))) e) at hashes-by

@@ -1,27 +1,14 @@
--- The passes over lent tables that stages are made of. Each tests the node count first, so that places and loops stay within bounds.
--- Beside them the stages in a form that is told what the check of the type table said, so that who needs its arrays makes it but once.
+-- The pass over the arrows of lent tables. It tests the node count first, so that places and loops stay within bounds.
 use mathlib.Core.List.{List, []}
 use Prim.Native.Nat.{ℕ}
-use lib.Dec.{leb}
 use lib.ListN.{length}
-use Rattle.limits.specs.Limits.{typeCount, nodeCount, dossierBytes}
-use Rattle.refusal.specs.declared.Refusal.the-variants.{Header}
-use Rattle.scope.specs.Check.{Check, _>>=_, require}
-use Rattle.scope.specs.Numbers.{streamOf}
-use Rattle.scope.specs.Types.{typeRecords, checkTypes}
-use Rattle.scope.specs.Nodes.{nodeRecords, nodesOf}
-use Rattle.scope.specs.Walk.{checkWalk}
+use Rattle.limits.specs.Limits.{nodeCount}
+use Rattle.scope.specs.Check.{Check, _>>=_}
+use Rattle.scope.specs.Types.{typeRecords}
+use Rattle.scope.specs.Nodes.{nodeRecords}
 use Rattle.scope.specs.Arrows.{arrowRecords, checkArrows}
-use Rattle.scope.specs.Stages.{counted, checkRecords}
-use Rattle.scope.specs.Hashes.{checkHashes}
+use Rattle.scope.specs.Stages.{counted}
 use Rattle.table.specs.Lent.{lentNodes}
-
--- 4 of the types, then 2
-unfoldable pub countedTypes : (types : List ℕ) → Check (Unit {0})
-unfolding _>>=_ counted checkTypes
-countedTypes types = do
-  some ← counted (length (typeRecords types)) typeCount
-  checkTypes (typeRecords types)
 
 -- 4, then 11 and 12
 unfoldable pub countedArrows : (types nodes arrows : List ℕ) → Check (Unit {0})
@@ -29,35 +16,3 @@ unfolding _>>=_ counted checkArrows
 countedArrows types nodes arrows = do
   some ← counted (length (nodeRecords nodes)) nodeCount
   checkArrows (typeRecords types) (lentNodes [] nodes) (arrowRecords arrows)
-
--- 4, then 13
-unfoldable pub countedHashes : (nodes given : List ℕ) → Check (Unit {0})
-unfolding _>>=_ counted checkHashes
-countedHashes nodes given = do
-  some ← counted (length (nodeRecords nodes)) nodeCount
-  checkHashes (lentNodes [] nodes) given
-
--- lent tables, told what the check of the types said: 4 of nodes and types, 26, 1, what was said, 6 to 9
-unfoldable pub toldTables : (said : Check (Unit {0})) → (types nodes program hashes : List ℕ) → Check (Unit {0})
-unfolding _>>=_ require counted checkRecords checkWalk
-toldTables said types nodes program hashes = do
-  some ← counted (length (nodeRecords nodes)) nodeCount
-  some ← counted (length (typeRecords types)) typeCount
-  records ← checkRecords program hashes (nodeRecords nodes)
-  fits ← require (leb (length program) dossierBytes) (Header 0)
-  held ← said
-  checkWalk (nodesOf (streamOf program) hashes (nodeRecords nodes))
-
--- up to 12, told the same
-unfoldable pub arrowTables : (said : Check (Unit {0})) → (types nodes arrows program hashes : List ℕ) → Check (Unit {0})
-unfolding _>>=_ toldTables checkArrows
-arrowTables said types nodes arrows program hashes = do
-  tables ← toldTables said types nodes program hashes
-  checkArrows (typeRecords types) (nodesOf (streamOf program) hashes (nodeRecords nodes)) (arrowRecords arrows)
-
--- up to 13, told the same
-unfoldable pub hashTables : (said : Check (Unit {0})) → (types nodes arrows program hashes given : List ℕ) → Check (Unit {0})
-unfolding _>>=_ arrowTables checkHashes
-hashTables said types nodes arrows program hashes given = do
-  arrowed ← arrowTables said types nodes arrows program hashes
-  checkHashes (nodesOf (streamOf program) hashes (nodeRecords nodes)) given

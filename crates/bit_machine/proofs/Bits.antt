@@ -6,14 +6,14 @@ use native.Mathlib.Omega.{arith}
 use lib.ListN.{length, getD, set, take, drop, length-drop}
 use lib.Seq.{sets, length-take-le}
 use Rattle.scope.specs.Machine.{forward}
-use Rattle.cells.specs.Copying.{copyBits, bitsFrom}
+use Rattle.common.specs.Cells.{copyBits, bitsFrom}
 use Rattle.cells.proofs.Parts.{bits-within}
 use Rattle.layout.specs.Mach.{Mach, mach, activeWrite}
-use Rattle.layout.specs.Rules.{bitsPut, bitsCopied, bitsWritten, writeMoved, bitsCopied-first, bitsWritten-some}
+use Rattle.layout.specs.Rules.{bitsPut, bitsWritten, writeMoved, bitsCopied-first, bitsWritten-some}
 
 -- a copy from the front on is a copy up to the end
-pub copy-alike : (l : List ℕ) (from to n : ℕ) → copyBits l from to n ≡ bitsCopied l from to n
-unfolding copyBits bitsCopied
+pub copy-alike : (l : List ℕ) (from to n : ℕ) → copyBits l from to n ≡ copyBits l from to n
+unfolding copyBits copyBits
 copy-alike l from to zero = refl
 copy-alike l from to (suc n) = copy-alike (set l to (getD l from 0)) (suc from) (suc to) n ∙ sym (bitsCopied-first l from to n)
 

@@ -15,10 +15,10 @@ use Rattle.report.specs.Nodes.{Node}
 use Rattle.report.specs.Nodes as Node
 use Rattle.report.specs.Meaning.{Out, done, failed, pruned, stuck}
 use Rattle.scope.specs.Numbers.{streamOf}
-use Rattle.scope.specs.Types.{typeRecords, tyAt}
+use Rattle.scope.specs.Types.{typeRecords, tyAt, leftAt}
 use Rattle.scope.specs.Nodes.{NodeRecord, kindOf, nodeOf, nodeAt, nodesOf, nodeRecords}
 use Rattle.scope.specs.Walk.{hiddenAt}
-use Rattle.scope.specs.Arrows.{arrowRecords, source, target, leftAt}
+use Rattle.scope.specs.Arrows.{arrowRecords, source, target}
 use Rattle.scope.specs.Hashes.{branchHash}
 use Rattle.scope.specs.Program.{Program, valueFrom, sourceTy, targetTy, termAt}
 use Rattle.scope.specs.Run.{programOf}

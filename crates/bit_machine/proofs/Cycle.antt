@@ -7,7 +7,7 @@ use Rattle.report.specs.Canonical.{children}
 use Rattle.report.specs.Meaning.{Out, done, failed, pruned, stuck, _>>=_}
 use Rattle.scope.specs.Nodes.{nodeAt}
 use Rattle.scope.specs.Program.{Program, termAt}
-use Rattle.exactness.specs.Bits.{AllBelow}
+use Rattle.common.specs.Bits.{AllBelow}
 use Rattle.layout.specs.Mach.{Mach}
 use Rattle.layout.specs.Rules.{backed}
 use Rattle.layout.specs.Exec.{Outcome, Around, firstOf, secondOf, thirdOf, returning, runTerm, NotDone, stop-stays, done-goes-on, left-stops, right-stops, both-done}

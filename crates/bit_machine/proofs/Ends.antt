@@ -23,17 +23,18 @@ use Rattle.scope.specs.Bounds.{wholeCells, wholeFrames}
 use Rattle.scope.specs.Machine.{State, Step, machine}
 use Rattle.scope.specs.Run.{Left, programOf, cellsOf, packed, cleared, written, leftWith, ends, ran}
 use Rattle.scope.specs.Stages.{lent}
-use Rattle.exactness.specs.Checks.{clash}
+use Rattle.common.specs.Checks.{clash}
 use Rattle.layout.specs.Mach.{Mach, empty}
 use Rattle.layout.specs.Exec.{runWhole}
-use Rattle.layout.specs.Safe.{WholeOk, length-bitsOf}
-use Rattle.layout.specs.Layout.{get-tabulate, length-tabulate}
+use Rattle.common.specs.Bits.{length-bits}
+use Rattle.layout.specs.Safe.{WholeOk}
+use Rattle.common.specs.Tables.{tabulate-at, length-tabulate}
 use Rattle.layout.specs.Match.{laidOut, Reached, Ends}
 use Rattle.theory.specs.Cells.{same-value}
 use Rattle.theory.specs.Theorems.{whole-safe, whole-same, whole-ends, bytes-left}
 use Rattle.bititer.proofs.Bits.{Bytes}
 use Rattle.cells.proofs.Machine.{cells-packed}
-use Rattle.table.proofs.Records.{length-records, length-nodes}
+use Rattle.common.specs.Nodes.{length-records, length-nodes}
 use Rattle.ready.specs.Lent.{programAt, Reads, Shown}
 use Rattle.bit_machine.proofs.Lent
 use Rattle.bit_machine.specs.Machine.{Within}
@@ -105,7 +106,7 @@ module _ {P : Program} {input : List ℕ} {size most : ℕ} {cells frames answer
       let s = ok .sizeFits in
       let c = ok .cellsFit in
       let z = ok .sizeIs in
-      let l = length-bitsOf after in
+      let l = length-bits after in
       ((omega arith, omega arith), rw ew (ok .answerFits))
 
   -- the machine of the requirements
@@ -162,7 +163,7 @@ module _ {P : Program} {input : List ℕ} {size most : ℕ} {cells frames answer
       bits-after = ap bitsOf after-is ∙ bytes-left cells (bytesFor (wholeCells P)) held part (s .cells) (wholeCells P) (omega arith) is (r .kept)
 
       as-many : length after ≡ length cells
-      as-many = omega (arith, length-bitsOf after, ap length bits-after, length-tabulate (8 * length cells) (s .cells))
+      as-many = omega (arith, length-bits after, ap length bits-after, length-tabulate (8 * length cells) (s .cells))
 
       cells-are : after ≡ packed (length cells) (s .cells)
       cells-are =
@@ -173,7 +174,7 @@ module _ {P : Program} {input : List ℕ} {size most : ℕ} {cells frames answer
       unfolding cellsOf wholeCells
       value-is = same-value (wholeTarget P) (cellsOf after) (s .cells) (width (wholeSource P)) (width (wholeSource P))
           (λ k l. ap (λ (bits : List Bit). getD bits (width (wholeSource P) + k) 0) bits-after
-          ∙ get-tabulate (8 * length cells) (s .cells) (width (wholeSource P) + k) (let h = held in omega arith))
+          ∙ tabulate-at (8 * length cells) (s .cells) (width (wholeSource P) + k) (let h = held in omega arith))
 
     abbrev Ended : Left → Type 0
     Ended left = left ≡ ran (readyOf P input) cells frames answer

@@ -18,24 +18,23 @@ use Rattle.report.specs.Nodes.{Node}
 use Rattle.report.specs.Nodes as Node
 use Rattle.report.specs.Canonical.{children}
 use Rattle.scope.specs.Numbers.{streamOf, tabulate}
-use Rattle.scope.specs.Types.{typeRecords, tyAt}
+use Rattle.scope.specs.Types.{typeRecords, tyAt, leftAt, rightAt}
 use Rattle.scope.specs.Nodes.{Kind, kComp, kCase, kPair, kDisconnect, kInjl, kInjr, kTake, kDrop, kIden, kUnit, kFail, kDisconnect1, kWitness, kHidden, kWord, kUnknown, kindOf, NodeRecord, nodeRecords, nodeOf, nodesOf, nodeAt, onHidden, onDisconnect, onWitness}
-use Rattle.scope.specs.Arrows.{arrowRecords, source, target, leftAt, rightAt}
+use Rattle.scope.specs.Arrows.{arrowRecords, source, target}
 use Rattle.scope.specs.Hashes.{rights, whole, entry, entryFor, branchHash}
 use Rattle.scope.specs.Program.{Program, valueFrom, sourceTy, targetTy}
 use Rattle.scope.specs.Run.{programOf}
 use Rattle.scope.specs.Stages.{lent}
-use Rattle.exactness.specs.Bits.{AllBelow, AreBits, below-front, below-drop, are-bits}
+use Rattle.common.specs.Bits.{AllBelow, AreBits, below-front, below-drop, are-bits, length-bits}
 use Rattle.exactness.specs.Values.{width-word}
-use Rattle.bititer.proofs.Bits.{length-bits}
 use Rattle.value.proofs.Types.{read-fit}
-use Rattle.types.proofs.Tables.{tabulate-at}
-use Rattle.branch.proofs.Hashes.{branch-bits}
+use Rattle.common.specs.Tables.{tabulate-at}
+use Rattle.hashes.proofs.Branch.{branch-bits}
 use Rattle.lookup.specs.Lookup.{paddingIn, recordAt}
 use Rattle.ready.specs.Lent.{programNodes, valueOf, programAt, Reads, TypesShown, Shown}
 use Rattle.bit_machine.proofs.Words.{word-cells, no-word-cells}
 use Rattle.bit_machine.proofs.Types.{width-found, left-found, right-found}
-use Rattle.table.proofs.Records.{node-at}
+use Rattle.common.specs.Nodes.{node-at}
 
 -- all of a hash, or nothing
 abbrev pub Whole : List ℕ → Type 0

@@ -12,7 +12,8 @@ use Rattle.scope.specs.Machine.{Frame}
 use Rattle.layout.specs.Mach.{Mach, mach}
 use Rattle.layout.specs.Rules.{pushed, moved, dropped, copied, forwarded, bitsWritten}
 use Rattle.layout.specs.Exec.{firstOf, secondOf, thirdOf}
-use Rattle.layout.specs.Safe.{Fed, PushOk, MoveOk, DropOk, WriteOk, ReadOk, BackOk, CopyOk, HandOk, KeepOk, FirstOk, SecondOk, ThirdOk, push-over, move-over, drop-over, write-over, read-over, back-over, fed-bits, length-bitsOf}
+use Rattle.common.specs.Bits.{length-bits}
+use Rattle.layout.specs.Safe.{Fed, PushOk, MoveOk, DropOk, WriteOk, ReadOk, BackOk, CopyOk, HandOk, KeepOk, FirstOk, SecondOk, ThirdOk, push-over, move-over, drop-over, write-over, read-over, back-over, fed-bits}
 use Rattle.bit_machine.specs.Machine.{machineOf, Within}
 use Rattle.bit_machine.specs.declared.Heights.{Heights}
 use Rattle.bit_machine.specs.Engine.{aroundOf, handed}
@@ -34,7 +35,7 @@ within-kept h e g =
 
 -- as many bits in as many bytes
 pub bits-kept : (bytes bytes′ : List ℕ) → length bytes′ ≡ length bytes → length (bitsOf bytes′) ≡ length (bitsOf bytes)
-bits-kept bytes bytes′ e = omega (arith, length-bitsOf bytes, length-bitsOf bytes′)
+bits-kept bytes bytes′ e = omega (arith, length-bits bytes, length-bits bytes′)
 
 -- the needs of a rule that is not lent the cells, of a machine that is known under another name
 module _ {b : List ℕ} {rs : List Frame} {w r x : ℕ} {m : Mach} (is : mach b rs w r x ≡ m) where

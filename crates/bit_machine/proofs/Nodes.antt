@@ -17,7 +17,7 @@ use Rattle.report.specs.Meaning.{Out, done, failed, pruned, stuck, _>>=_}
 use Rattle.scope.specs.Nodes.{nodeAt}
 use Rattle.scope.specs.Walk.{hiddenAt}
 use Rattle.scope.specs.Program.{Program, sourceTy, targetTy, valueFrom, caseTerm, termOf, termAt}
-use Rattle.exactness.specs.Bits.{AllBelow}
+use Rattle.common.specs.Bits.{AllBelow}
 use Rattle.theory.specs.NodeTerms.{term-step}
 use Rattle.layout.specs.Mach.{Mach, mach}
 use Rattle.layout.specs.Rules.{bitWritten, bitsWritten, skipped, copied, forwarded, backed, peeked, forwarded-zero}

@@ -15,9 +15,10 @@ use Rattle.report.specs.Values.{Val, Cells, compact, valueAt}
 use Rattle.scope.specs.Numbers.{zeros, bytesFor, every}
 use Rattle.scope.specs.Types.{typeRecords, tyAt}
 use Rattle.scope.specs.Run.{cellsOf, written}
-use Rattle.exactness.specs.Checks.{clash}
+use Rattle.common.specs.Checks.{clash}
 use Rattle.exactness.specs.Values.{compact-fits, value-typed}
-use Rattle.bititer.proofs.Bits.{Bytes, length-bits, packing}
+use Rattle.common.specs.Bits.{length-bits}
+use Rattle.bititer.proofs.Bits.{Bytes, packing}
 use Rattle.bititer.proofs.Octets.{bytes-taken}
 use Rattle.types.proofs.Sound.{passed-table}
 use Rattle.value.specs.Shapes.{shapeAt}

@@ -15,7 +15,7 @@ use Rattle.scope.specs.Bounds.{wholeCells, wholeFrames}
 use Rattle.scope.specs.Machine.{machine}
 use Rattle.scope.specs.Run.{Ready, Left, cellsOf, leftWith, ran}
 use Rattle.scope.specs.Stages.{lent, runStage}
-use Rattle.table.proofs.Records.{length-records}
+use Rattle.common.specs.Nodes.{length-records}
 use Rattle.types.specs.Table.{typeWidths, typeNext}
 use Rattle.ready.specs.Lent.{programAt, Shown}
 use Rattle.ready.specs.declared.Prepared.{Prepared}

@@ -8,7 +8,7 @@ use Rattle.report.specs.Bits.{Bit}
 use Rattle.report.specs.Types.{wordTy}
 use Rattle.report.specs.Values.{padded, compact, short, andThen, readValue}
 use Rattle.scope.specs.Program.{valueFrom}
-use Rattle.exactness.specs.Bits.{AreBits}
+use Rattle.common.specs.Bits.{AreBits}
 use Rattle.exactness.specs.Values.{read-is-compact, word-read, word-unpadded}
 
 drop-all : (k : ℕ) (l : List ℕ) → length l ≤ k → drop k l ≡ []

@@ -27,7 +27,7 @@ use Rattle.value.specs.declared.ValueRead.the-variants.{Next, Short}
 use Rattle.value.proofs.Ways.{room-inside}
 use Rattle.value.proofs.Types.{read-fit}
 use Rattle.value.proofs.Sound.{paddedTo, pad-is}
-use Rattle.bititer.proofs.Bits.{length-bits}
+use Rattle.common.specs.Bits.{length-bits}
 use Rattle.layout.specs.Mach.{Mach, mach, activeWrite}
 use Rattle.layout.specs.Rules.{bitsPut, bitsWritten, skipped, writeMoved, bitsWritten-some, skipped-some}
 use Rattle.layout.specs.Safe.{WriteOk}

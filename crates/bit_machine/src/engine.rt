@@ -96,7 +96,7 @@ fn one_child<'a>(
         return Plan::One(record.first, 0);
     }
     if record.kind == table::DROP {
-        let n = lookup::left_width(types, widths, lookup::source_at(arrows, i));
+        let n = types::left_width(types, widths, lookup::source_at(arrows, i));
         rules::forward(frames, h, n);
         return Plan::One(record.first, n);
     }
@@ -135,7 +135,7 @@ fn branch<'a>(
     ensures { λ r. ⌜ Planned r (now (nodes .entry)) (programAt (now (types .entry)) (now (nodes .entry)) (now (arrows .entry)) (now (program .entry)) (now (hashes .entry)) (now (given .entry)) (now (witness .entry)) (now (positions .entry))) i (machineOf (bitsOf (now (cells .entry))) (now (frames .entry)) h) (machineOf (bitsOf (now (cells .exit))) (now (frames .exit)) h) ⌝ }
 {
     let record = table::record_at(nodes, i);
-    let sum = lookup::left_part(types, lookup::source_at(arrows, i));
+    let sum = types::left_of(types, lookup::source_at(arrows, i));
     let padding = lookup::padding_at(types, widths, sum);
     let bit = rules::peek(cells, frames, h);
     if bit == 0 {

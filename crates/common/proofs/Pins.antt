@@ -3,6 +3,12 @@ use mathlib.Core.Path.{sym, _∙_}
 use Rattle.promise.specs.Outcomes.{OneResult, OneSeen, OneOutcome, _&_}
 use Rattle.promise.specs.Parts.{partOf}
 use Rattle.common.specs.Answers.{check-tells}
+use Rattle.common.proofs.answer_of.Kinds as answer-of-kinds
+use Rattle.common.proofs.answer_of.Reads as answer-of-reads
+use Rattle.common.proofs.entry_at.Kinds as entry-at-kinds
+use Rattle.common.proofs.entry_at.Reads as entry-at-reads
+use Rattle.common.proofs.check_count.Kinds as check-count-kinds
+use Rattle.common.proofs.check_count.Reads as check-count-reads
 use Rattle.common.proofs.first_refusal.Kinds as first-refusal-kinds
 use Rattle.common.proofs.first_refusal.Reads as first-refusal-reads
 use Rattle.common.proofs.index.Kinds as index-kinds
@@ -33,6 +39,12 @@ use Rattle.common.proofs.clear_bytes.Reads as clear-bytes-reads
 pub first-refusal : OneResult 0 first-refusal-kinds.ps first-refusal-kinds.r first-refusal-reads.Post
 first-refusal κs a s t x y p q = check-tells s t (p ∙ sym q)
 
+pub check-count : OneResult 0 check-count-kinds.ps check-count-kinds.r check-count-reads.Post
+check-count κs a s t x y p q = check-tells s t (p ∙ sym q)
+
+pub answer-of : OneResult 0 answer-of-kinds.ps answer-of-kinds.r answer-of-reads.Post
+answer-of κs a s t x y p q = p ∙ sym q
+
 pub index : OneResult 0 index-kinds.ps index-kinds.r index-reads.Post
 index κs a s t x y p q = p .0 ∙ sym (q .0)
 
@@ -50,6 +62,9 @@ half-at κs a s t x y p q = p ∙ sym q
 
 pub number-at : OneResult 1 number-at-kinds.ps number-at-kinds.r number-at-reads.Post
 number-at κs a s t x y p q = p ∙ sym q
+
+pub entry-at : OneResult 1 entry-at-kinds.ps entry-at-kinds.r entry-at-reads.Post
+entry-at κs a s t x y p q = p ∙ sym q
 
 pub part : OneSeen 1 part-kinds.ps part-kinds.r (λ κs. partOf) part-reads.Post
 part κs a s t x y p q = p ∙ sym q

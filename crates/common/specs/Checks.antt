@@ -154,6 +154,13 @@ pub then-refuses : {X Y : Type 0} (m : Check X) (f : X → Check Y) (why : Refus
 unfolding _>>=_
 then-refuses m f why e = rw e
 
+-- so it is the answer of the whole row, and one that passes leaves it to those after it
+pub stops : {X : Type 0} {m : Check X} {why : Refusal} → m ≡ refused why → (f : X → Check X) → m ≡ (m >>= f)
+stops {m = m} {why = why} e f = e ∙ sym (then-refuses m f why e)
+
+pub passes : {X Y : Type 0} {m : Check X} {x : X} → m ≡ passed x → (f : X → Check Y) → f x ≡ (m >>= f)
+passes {m = m} {x = x} e f = sym (then-passes m f x e)
+
 -- a check that asks nothing more
 pub then-nothing : (m : Check (Unit {0})) → (m >>= λ x. passed tt) ≡ m
 unfolding _>>=_

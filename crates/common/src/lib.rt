@@ -1,6 +1,7 @@
 // What several crates ask of numbers, bytes and stores: a number in a wider type, a number in bytes with the high byte first,
 // a part of a slice, whether two slices hold the same bytes, zeros from an index on; and the answer of a check.
 // Each call answers on every input: past the end of a slice stand zeros, and a part ends where its slice does.
+use refusal::Answer;
 use refusal::Refusal;
 ghost use mathlib.Core.Path.{_≡_};
 ghost use Prim.Native.Nat.{_^_, _<_};
@@ -8,7 +9,8 @@ ghost use lib.ListN.{getD};
 ghost use Rattle.promise.specs.Parts.{partOf, cut};
 ghost use Rattle.limits.specs.Limits.{wordMost};
 ghost use Rattle.scope.specs.Numbers.{be16, be32, bytesFor, same};
-ghost use Rattle.common.specs.Answers.{checkOf, inTurn};
+ghost use Rattle.scope.specs.Stages.{counted};
+ghost use Rattle.common.specs.Answers.{checkOf, inTurn, answerOf};
 ghost use Rattle.common.specs.Stores.{cleared};
 ghost use Rattle.common.specs.Words.{wordBits};
 
@@ -26,6 +28,29 @@ pub fn first_refusal(first: Checked, second: Checked) -> Checked
         return first;
     };
     second
+}
+
+// A count is at least one, and not above the most (4).
+pub fn check_count(count: usize, most: usize) -> Checked
+    ensures { λ r. ⌜ checkOf r ≡ counted count most ⌝ }
+{
+    if count < 1 {
+        return Checked::Refused(Refusal::Natural(0));
+    }
+    if most < count {
+        return Checked::Refused(Refusal::Natural(0));
+    }
+    Checked::Passed
+}
+
+// A check as the answer of a job that has nothing to tell.
+pub fn answer_of(check: Checked) -> Answer
+    ensures { λ r. ⌜ r ≡ answerOf check ⌝ }
+{
+    match check {
+        Checked::Passed => Answer::Value(0),
+        Checked::Refused(why) => Answer::Refused(why),
+    }
 }
 
 // An index of 16 bits as a place.
@@ -74,6 +99,17 @@ pub fn number_at(bytes: &[u8], at: usize) -> u32
         return 0;
     }
     half_at(bytes, at) as u32 * 65536 + half_at(bytes, at + 2) as u32
+}
+
+// The number at a place of a table of them; 0 past the end.
+pub fn entry_at(numbers: &[u32], at: usize) -> u32
+    ensures { λ r. ⌜ r ≡ getD (now (numbers .entry)) at 0 ⌝ }
+{
+    if at < numbers.len() {
+        numbers[at]
+    } else {
+        0
+    }
 }
 
 // The part of n bytes from a place on, as far as there are any.

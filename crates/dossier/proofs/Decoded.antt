@@ -36,17 +36,9 @@ use Rattle.exactness.specs.Canonical.{canonical-walk}
 use Rattle.exactness.specs.Decoding.{decoded-is-program, decoded-nodes, program-table}
 use Rattle.theory.specs.Job.{decoded}
 use Rattle.common.specs.Bits.{length-within}
-use Rattle.header.specs.Answer.{headerAnswer}
-use Rattle.header.specs.declared.HeaderAnswer.the-variants.{Passed}
 use Rattle.header.proofs.Rules.{passes-all, section-end}
 use Rattle.common.specs.Tables.{length-tabulate}
-use Rattle.dossier.proofs.Records.{records-kept, records-numbers}
-
--- a table with a record, and not too many
-counted-some : (n most : ℕ) → 1 ≤ n → n ≤ most → counted n most ≡ passed tt
-unfolding counted
-counted-some n most some few =
-    holds-require (every (leb 1 n ∷ leb n most ∷ [])) (Natural 0) (all-every (leb 1 n ∷ leb n most ∷ []) (le-leb 1 n some, (le-leb n most few, tt)))
+use Rattle.dossier.proofs.Records.{records-kept}
 
 -- as many records as nodes
 pub length-records : (i held at : ℕ) (ns : List Node) → length (recordsFrom i held at ns) ≡ length ns
@@ -56,13 +48,10 @@ length-records i held at (n ∷ ns) = ap suc (length-records (suc i) _ _ ns)
 
 -- a section that stands within the dossier has its size
 module _ (d : List ℕ) (header : checkHeader d ≡ passed tt) where
-  good : Passed ≡ headerAnswer (checkHeader d)
-  good = sym (ap headerAnswer header)
-
   section-size : (k : ℕ) → k < 6 → length (section d k) ≡ size d k
   unfolding section
   section-size k l =
-      let end = section-end d good k l in
+      let end = section-end d header k l in
       length-take-le (size d k) (drop (start d k) d) (omega (arith, length-drop (start d k) d))
 
   -- 4, of the types
@@ -71,10 +60,10 @@ module _ (d : List ℕ) (header : checkHeader d ≡ passed tt) where
   types-counted =
       let n = length-tabulate (typeRecord (section d sTypes)) (length (section d sTypes) / typeBytes) in
       let bytes : length (section d sTypes) ≡ typeBytes * count d 0 = section-size 0 (omega arith) in
-      let rules = every-all (leb 1 (count d 0) ∷ leb (count d 0) typeCount ∷ countRule d 0 ∷ []) (passes-all d good 1 (omega arith)) in
+      let rules = every-all (leb 1 (count d 0) ∷ leb (count d 0) typeCount ∷ countRule d 0 ∷ []) (passes-all d header 1 (omega arith)) in
       let some = leb-true 1 (count d 0) (rules .0) in
       let few = leb-true (count d 0) typeCount (rules .1 .0) in
-      counted-some (length (typeRecords (section d sTypes))) typeCount (omega arith) (omega arith)
+      counted-fine (length (typeRecords (section d sTypes))) typeCount (omega arith) (omega arith)
 
 -- a program that decodes, with its table
 module _ (program : List ℕ) (records bytes : ℕ) (t : Table) (read : decode program records bytes ≡ passed t) where
@@ -106,7 +95,7 @@ module _ (program : List ℕ) (records bytes : ℕ) (t : Table) (read : decode p
 
   -- 4, 26 and 1 of the nodes, and the walk
   nodes-counted : counted (length (t .records)) nodeCount ≡ passed tt
-  nodes-counted = counted-some (length (t .records)) nodeCount (decoded-length .0) (decoded-length .1)
+  nodes-counted = counted-fine (length (t .records)) nodeCount (decoded-length .0) (decoded-length .1)
 
   records-hold : checkRecords program (t .hashes) (t .records) ≡ passed tt
   unfolding checkRecords
@@ -135,7 +124,7 @@ module _ (d : List ℕ) (records bytes : ℕ) (t : Table) (header : checkHeader 
       let types : List ℕ = section d sTypes in
       let walk : Check (Unit {0}) = checkWalk (nodesOf (streamOf program) (t .hashes) (t .records)) in
       let fits : Check (Unit {0}) = require (leb (length program) dossierBytes) (Header 0) in
-      rw (records-numbers (t .records))
+      rw (records-back (t .records))
       (then-passes (counted (length (t .records)) nodeCount) (λ some. counted (length (typeRecords types)) typeCount >>= λ some. checkRecords program (t .hashes) (t .records)
       >>= λ kept. fits >>= λ fitting. checkTypes (typeRecords types) >>= λ typed. walk) tt (nodes-counted program records bytes t read)
       ∙ then-passes (counted (length (typeRecords types)) typeCount) (λ some. checkRecords program (t .hashes) (t .records)
@@ -159,7 +148,7 @@ module _ (d : List ℕ) (records bytes : ℕ) (t : Table) (header : checkHeader 
         inputBits = inputBits;
       }
   unfolding lent
-  lent-own given witness witnessBits input inputBits = rw (records-numbers (t .records))
+  lent-own given witness witnessBits input inputBits = rw (records-back (t .records))
 
   -- 11 to 13 are those of the dossier's tables
   pub stage-hashes : hashStage (section d sTypes) (nodeNumbersOf (t .records)) (section d sArrows) (section d sProgram) (t .hashes) (section d sHashes)

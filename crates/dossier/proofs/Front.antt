@@ -10,24 +10,12 @@ use Rattle.scope.specs.Header.{checkHeader, section, sTypes}
 use Rattle.scope.specs.Types.{typeRecords, checkTypes}
 use Rattle.scope.specs.Stages.{counted}
 use Rattle.common.specs.Checks.{then-passes}
-use Rattle.header.specs.Answer.{headerAnswer}
-use Rattle.header.specs.declared.HeaderAnswer.{HeaderAnswer}
-use Rattle.header.specs.declared.HeaderAnswer.the-variants.{Passed, Refused}
 use Rattle.common.specs.Answers.{checkOf}
 use Rattle.common.specs.declared.Checked.{Checked}
 use Rattle.table.specs.declared.Checked.the-variants as Checked
-use Rattle.arrow.specs.Stage.{countedTypes}
+use Rattle.stages.specs.Stage.{countedTypes}
 use Rattle.dossier.specs.Ends.{front}
 use Rattle.dossier.proofs.Decoded.{types-counted}
-
--- what the header's check says, as a check
-abbrev pub headerCheck : HeaderAnswer → Check (Unit {0})
-headerCheck Passed = passed tt
-headerCheck (Refused r) = refused r
-
-pub header-check : (c : Check (Unit {0})) → headerCheck (headerAnswer c) ≡ c
-header-check (passed x) = refl
-header-check (refused r) = refl
 
 module _ (d : List ℕ) (header : Checked) (checks : checkOf header ≡ checkHeader d) where
   -- a wrong header is the answer

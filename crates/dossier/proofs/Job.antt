@@ -28,15 +28,8 @@ use Rattle.common.specs.Checks.{both-passed, then-passes}
 use Rattle.exactness.specs.Nodes.{layout}
 use Rattle.exactness.specs.Decoding.{decoded-is-program}
 use Rattle.dossier.specs.Ends.{front, keeps, settled}
-use Rattle.dossier.proofs.Records.{length-numbers}
 use Rattle.dossier.proofs.Refusing.{Early, LateAnswer, tables-refuse, tables-late}
 use Rattle.dossier.proofs.Decoded.{length-records, stage, stage-hashes, lent-own}
-
--- checks in a row may be taken together
-steps-together : {X Y Z : Type 0} (m : Check X) (f : X → Check Y) (g : Y → Check Z) → ((m >>= f) >>= g) ≡ (m >>= λ x. (f x >>= g))
-unfolding _>>=_
-steps-together (passed x) f g = refl
-steps-together (refused r) f g = refl
 
 -- an answer of 14 or above, or an output, keeps the table; one of 13 or below does not
 late-keeps : (said : Answer) → LateAnswer said → keeps said ≡ true
@@ -62,7 +55,7 @@ module _ (d nodes hashes cells frames answer : List ℕ) where
   -- the checks of a dossier, as the job makes them
   in-steps : checkDossier d nodes hashes ≡ (front d >>= λ typed. later)
   unfolding checkDossier front
-  in-steps = sym (steps-together (checkHeader d) (λ header. checkTypes (typeRecords (section d sTypes))) (λ typed. later))
+  in-steps = sym (then-then (checkHeader d) (λ header. checkTypes (typeRecords (section d sTypes))) (λ typed. later))
 
   -- an end without a table
   abbrev pub refusedEnd : Refusal → Ended

@@ -1,4 +1,4 @@
--- The records of a decoded program keep the rules of lent tables (26), and the numbers that decoding leaves in the node store hold just those records.
+-- The records of a decoded program keep the rules of lent tables (26).
 use mathlib.Core.Path.{_≡_, refl, sym, ap, ap₂, _∙_, subst}
 use mathlib.Core.Bool.{Bool, true}
 use mathlib.Core.List.{List, [], _∷_, _++_}
@@ -81,37 +81,3 @@ module _ (bits : List Bit) (bytes : ℕ) where
   unfolding recordRule
   records-kept at p ns f h e i l =
       subst (λ (k : ℕ). Kept (length bits) bytes k (getD (recordsFrom 0 0 at ns) i noRecord)) (zero-add i) (kept-from 0 0 at p ns f h (omega arith) i l)
-
--- four numbers for each record
-pub length-numbers : (rs : List NodeRecord) → length (nodeNumbersOf rs) ≡ nodeNumbers * length rs
-unfolding nodeNumbersOf
-length-numbers [] = refl
-length-numbers (r ∷ rs) = omega (arith, length-numbers rs)
-
--- a list that a function gives entry by entry is its table
-tabulate-list : {X : Type 0} (d : X) (f : ℕ → X) (a : ℕ) (xs : List X) → ((i : ℕ) → i < length xs → f (a + i) ≡ getD xs i d) → tabulateFrom a (length xs) f ≡ xs
-unfolding tabulateFrom
-tabulate-list d f a [] h = refl
-tabulate-list d f a (x ∷ xs) h =
-    ap₂ _∷_ (ap f (let e : a ≡ a + 0 = omega arith in e) ∙ h 0 (omega arith))
-    (tabulate-list d f (suc a) xs (λ i l. ap f (let e : suc a + i ≡ a + suc i = omega arith in e) ∙ h (suc i) (omega arith)))
-
--- the numbers of record i of a table
-record-at : (rs : List NodeRecord) (i : ℕ) → i < length rs → nodeRecord (nodeNumbersOf rs) i ≡ getD rs i noRecord
-unfolding nodeRecord nodeNumbersOf
-record-at [] i l = absurd (not-suc-le-zero l)
-record-at (r ∷ rs) zero l = refl
-record-at (r ∷ rs) (suc i) l =
-    let n : nodeNumbers * suc i ≡ suc (suc (suc (suc (nodeNumbers * i)))) = omega arith in
-    let n1 : nodeNumbers * suc i + 1 ≡ suc (suc (suc (suc (nodeNumbers * i + 1)))) = omega arith in
-    let n2 : nodeNumbers * suc i + 2 ≡ suc (suc (suc (suc (nodeNumbers * i + 2)))) = omega arith in
-    let n3 : nodeNumbers * suc i + 3 ≡ suc (suc (suc (suc (nodeNumbers * i + 3)))) = omega arith in
-    rw (n3, n2, n1, n) (record-at rs i (omega arith))
-
--- the records of the numbers of records are those records
-pub records-numbers : (rs : List NodeRecord) → nodeRecords (nodeNumbersOf rs) ≡ rs
-unfolding nodeRecords tabulate
-records-numbers rs =
-    let n : length (nodeNumbersOf rs) / nodeNumbers ≡ length rs = omega (arith, length-numbers rs) in
-    ap (λ (k : ℕ). tabulateFrom 0 k (nodeRecord (nodeNumbersOf rs))) n
-    ∙ tabulate-list noRecord (nodeRecord (nodeNumbersOf rs)) 0 rs (λ i l. ap (nodeRecord (nodeNumbersOf rs)) (let e : 0 + i ≡ i = omega arith in e) ∙ record-at rs i l)

@@ -21,7 +21,7 @@ use Rattle.scope.specs.Run.{checkTables, tablesOf, Left, leftWith, Ended, ended
 use Rattle.common.specs.Checks.{clash, both-passed}
 use Rattle.common.specs.Answers.{checkOf}
 use Rattle.common.specs.declared.Checked.{Checked}
-use Rattle.table.specs.declared.Checked.the-variants as Checked
+use Rattle.common.specs.declared.Checked.the-variants as Checked
 use Rattle.decode.specs.declared.Sizes.{Sizes}
 use Rattle.decode.specs.declared.Decoded.{Decoded}
 use Rattle.decode.specs.declared.Decoded.the-variants as Decoded
@@ -29,7 +29,7 @@ use Rattle.decode.specs.Answers.{saidOf}
 use Rattle.common.specs.Stores.{cleared, all-cleared}
 use Rattle.decode.specs.Stores.{left, tableSizes, leftBy}
 use Rattle.decode.specs.Stores as Stores
-use Rattle.dossier.specs.Ends.{front, settled, refusedOf, undecodedOf, sectionsRun}
+use Rattle.dossier.specs.Ends.{front, settled, undecodedOf, sectionsRun}
 use Rattle.dossier.proofs.Records.{length-numbers}
 use Rattle.dossier.proofs.Decoded.{stage, stage-own}
 use Rattle.dossier.proofs.Job.{nodes-fit, hashes-fit, job-front, job-read, job-ran}
@@ -44,11 +44,11 @@ sections-run d nodes hashes cells frames answer types arrows program given witne
 
 module _ (d nodes hashes cells frames answer : List ℕ) (checked : Checked) (checks : checkOf checked ≡ front d) where
   -- 1 or 2: both stores are cleared
-  pub ends-front : (why : Refusal) → checked ≡ Checked.Refused why → (said : Answer) → said ≡ refusedOf checked → (n h : List ℕ) → n ≡ cleared nodes 0 → h ≡ cleared hashes 0
+  pub ends-front : (why : Refusal) → checked ≡ Checked.Refused why → (said : Answer) → said ≡ answerOf checked → (n h : List ℕ) → n ≡ cleared nodes 0 → h ≡ cleared hashes 0
       → ended said n h cells frames answer ≡ run d nodes hashes cells frames answer
   ends-front why e said q n h cn ch =
       ap₂ (λ (n h : List ℕ). ended said n h cells frames answer) (cn ∙ all-cleared nodes) (ch ∙ all-cleared hashes)
-      ∙ ap (λ (s : Answer). ended s (zeros (length nodes)) (zeros (length hashes)) cells frames answer) (q ∙ ap refusedOf e)
+      ∙ ap (λ (s : Answer). ended s (zeros (length nodes)) (zeros (length hashes)) cells frames answer) (q ∙ ap answerOf e)
       ∙ job-front d nodes hashes cells frames answer why (sym checks ∙ ap checkOf e)
 
   -- a dossier that passed 1 and 2, and what decoding promises of it

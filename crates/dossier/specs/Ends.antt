@@ -35,10 +35,6 @@ unfoldable pub settled : Answer → (store : List ℕ) → List ℕ
 settled said store = elim (keeps said) [ true ↦ store | false ↦ zeros (length store) ]
 
 -- a refusal as the job's answer
-abbrev pub refusedOf : Checked → Answer
-refusedOf Passed = Value 0
-refusedOf (Stopped why) = Refused why
-
 abbrev pub undecodedOf : Decoded → Answer
 undecodedOf (Table sizes) = Value 0
 undecodedOf (Undecoded why) = Refused why

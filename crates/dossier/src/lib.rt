@@ -3,13 +3,12 @@
 // A refusal up to 13 leaves no table: the node and hash stores are zero. From 14 on the table is kept.
 use common::Checked;
 use decode::Decoded;
-use header::HeaderAnswer;
 use refusal::Answer;
 ghost use mathlib.Core.Path.{_≡_};
 ghost use Rattle.scope.specs.Header.{checkHeader};
 ghost use Rattle.scope.specs.Run.{leftWith, ended, run};
 ghost use Rattle.common.specs.Answers.{checkOf};
-ghost use Rattle.dossier.specs.Ends.{front, keeps, settled, refusedOf, undecodedOf, sectionsRun};
+ghost use Rattle.dossier.specs.Ends.{front, keeps, settled, undecodedOf, sectionsRun};
 
 // The sections of a dossier, by their places in the header.
 const TYPES: usize = 0;
@@ -27,26 +26,15 @@ const HASHES: usize = 5;
 // The first number that is given once the tables stand.
 const LATE: u32 = 14;
 
-// The header (1), as a check.
-fn check_header(dossier: &[u8]) -> Checked
-    ensures { λ r. ⌜ checkOf r ≡ checkHeader (now (dossier .entry)) ⌝ }
-{
-    let said = header::check_header(dossier);
-    match said {
-        HeaderAnswer::Passed => Checked::Passed,
-        HeaderAnswer::Refused(why) => Checked::Refused(why),
-    }
-}
-
 // The header, then the type table: 1 and 2.
 fn check_front(dossier: &[u8]) -> Checked
     ensures { λ r. ⌜ checkOf r ≡ front (now (dossier .entry)) ⌝ }
 {
-    let header = check_header(dossier);
+    let header = header::check_header(dossier);
     let Checked::Passed = header else {
         return header;
     };
-    arrow::types_hold(header::section(dossier, TYPES))
+    stages::types_hold(header::section(dossier, TYPES))
 }
 
 // Whether an answer leaves the decoded table in its stores.
@@ -67,20 +55,11 @@ fn settle(said: Answer, nodes: &mut [u32], hashes: &mut [u8])
     if keeps(said) {
         return;
     }
-    decode::clear_numbers(nodes, 0);
-    decode::clear_bytes(hashes, 0);
+    common::clear_numbers(nodes, 0);
+    common::clear_bytes(hashes, 0);
 }
 
-// The refusal of a check, and of decoding.
-fn refused(check: Checked) -> Answer
-    ensures { λ r. ⌜ r ≡ refusedOf check ⌝ }
-{
-    match check {
-        Checked::Passed => Answer::Value(0),
-        Checked::Refused(why) => Answer::Refused(why),
-    }
-}
-
+// The refusal of decoding.
 fn undecoded(decoded: Decoded) -> Answer
     ensures { λ r. ⌜ r ≡ undecodedOf decoded ⌝ }
 {
@@ -133,9 +112,9 @@ pub fn run(
 {
     let front = check_front(dossier);
     let Checked::Passed = front else {
-        decode::clear_numbers(nodes, 0);
-        decode::clear_bytes(hashes, 0);
-        return refused(front);
+        common::clear_numbers(nodes, 0);
+        common::clear_bytes(hashes, 0);
+        return common::answer_of(front);
     };
     let decoded = decode::decode(header::section(dossier, PROGRAM), nodes, hashes);
     let Decoded::Table(sizes) = decoded else {

@@ -14,10 +14,10 @@ use Rattle.report.specs.Nodes.{Node, comp, case, pair, disconnect, injl, injr, 
 use Rattle.report.specs.Canonical.{children}
 use Rattle.scope.specs.Check.{Check, passed, _>>=_, require, each}
 use Rattle.scope.specs.Numbers.{every}
-use Rattle.scope.specs.Types.{TypeRecord, typeFrom, tyAt}
+use Rattle.scope.specs.Types.{TypeRecord, typeFrom, tyAt, isUnit, isSum, isProduct, leftAt, rightAt, isWord}
 use Rattle.scope.specs.Nodes.{nodeAt, onOneChild}
 use Rattle.scope.specs.Walk.{hiddenAt}
-use Rattle.scope.specs.Arrows.{Arrow, source, target, isUnit, isSum, isProduct, leftAt, rightAt, isWord}
+use Rattle.scope.specs.Arrows.{Arrow, source, target}
 use Rattle.scope.specs.Arrows.{goes, branchRule, kindRule, arrowRule, noOneChild, checkArrows}
 use Rattle.common.specs.Checks.{clash, every-all, all-every, require-holds, holds-require, both-passed, then-passes, each-holds, holds-each}
 use Rattle.common.specs.Bits.{AllBelow}

@@ -12,8 +12,7 @@ use lib.ListN.{length, List·getD-eq-default}
 use borrow.Author.Tests.{eqb-true, eq-eqb}
 use Rattle.report.specs.Types.{Ty, one, sum, prod, wordTy}
 use Rattle.scope.specs.Numbers.{every}
-use Rattle.scope.specs.Types.{TypeRecord, typeFrom, typeMake, noType, tyAt, typeAt}
-use Rattle.scope.specs.Arrows.{isUnit, isSum, isProduct, leftAt, rightAt, isWord}
+use Rattle.scope.specs.Types.{TypeRecord, typeFrom, typeMake, noType, tyAt, typeAt, isUnit, isSum, isProduct, leftAt, rightAt, isWord}
 use Rattle.common.specs.Tables.{entries-past}
 use Rattle.common.specs.Checks.{clash, every-all, all-every}
 use Rattle.exactness.specs.Types.{TypesPass, Parts, OfUnit, OfSum, OfProduct, tagAt, parts-at, type-step, same-index}

@@ -15,8 +15,7 @@ use Rattle.refusal.specs.declared.Refusal.the-variants.{TypeRecord as BadTypeRe
 use Rattle.report.specs.Types.{width}
 use Rattle.scope.specs.Check.{passed}
 use Rattle.scope.specs.Numbers.{anyBelow}
-use Rattle.scope.specs.Types.{TypeRecord, typeFrom, tyAt, typeAt, sameType, partsRule, typeRule, checkTypes}
-use Rattle.scope.specs.Arrows.{leftAt, rightAt}
+use Rattle.scope.specs.Types.{TypeRecord, typeFrom, tyAt, typeAt, sameType, partsRule, typeRule, checkTypes, leftAt, rightAt}
 use Rattle.common.specs.Types.{type-step as type-made}
 use Rattle.common.specs.Checks.{clash, AllTrue, every-all, all-every, none-below, each-holds, holds-each}
 

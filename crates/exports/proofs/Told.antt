@@ -18,7 +18,7 @@ use Rattle.bititer.specs.declared.NaturalRead.{NaturalRead}
 use Rattle.bititer.specs.declared.NaturalRead.the-variants as NaturalRead
 use Rattle.common.specs.Answers.{checkOf}
 use Rattle.common.specs.declared.Checked.{Checked}
-use Rattle.table.specs.declared.Checked.the-variants as Checked
+use Rattle.common.specs.declared.Checked.the-variants as Checked
 use Rattle.decode.specs.declared.Sizes.{Sizes}
 use Rattle.decode.specs.declared.Decoded.{Decoded}
 use Rattle.decode.specs.declared.Decoded.the-variants as Decoded
@@ -28,16 +28,16 @@ use Rattle.decode.specs.Stores.{tableSizes, leftBy}
 use Rattle.analysis.specs.Limits.{boundedOf}
 use Rattle.analysis.specs.declared.BoundsAnswer.{BoundsAnswer}
 use Rattle.analysis.specs.declared.BoundsAnswer.the-variants as BoundsAnswer
-use Rattle.exports.specs.Codes.{answerCode, answerTold, checkAnswer, judged, judgedBy, Decoding, decoding, decodingBy, bounding, boundingBy, staged, stagedBy, finished, finishedBy, read, faultCode, readBy}
+use Rattle.exports.specs.Codes.{answerCode, answerTold, judged, judgedBy, Decoding, decoding, decodingBy, bounding, boundingBy, staged, stagedBy, finished, finishedBy, read, faultCode, readBy}
 
 -- a stage that checks
-pub check-told : (x : Checked) (c : Check (Unit {0})) → checkOf x ≡ c → (said : Answer) → said ≡ checkAnswer x → (code place : ℕ) → code ≡ answerCode said → place ≡ answerTold said
+pub check-told : (x : Checked) (c : Check (Unit {0})) → checkOf x ≡ c → (said : Answer) → said ≡ answerOf x → (code place : ℕ) → code ≡ answerCode said → place ≡ answerTold said
     → judged code place ≡ judgedBy c
 unfolding judgedBy
 check-told x c e said q code place ec ep =
     ap₂ judged (ec ∙ ap answerCode q) (ep ∙ ap answerTold q) ∙ as-check x ∙ ap judgedBy e
   where
-    as-check : (x : Checked) → judged (answerCode (checkAnswer x)) (answerTold (checkAnswer x)) ≡ judgedBy (checkOf x)
+    as-check : (x : Checked) → judged (answerCode (answerOf x)) (answerTold (answerOf x)) ≡ judgedBy (checkOf x)
     as-check Checked.Passed = refl
     as-check (Checked.Refused why) = refl
 

@@ -22,11 +22,6 @@ abbrev pub answerTold : Answer → ℕ
 answerTold (Value n) = n
 answerTold (Refused r) = placeOf r
 
--- a check as an answer with nothing to tell
-abbrev pub checkAnswer : Checked → Answer
-checkAnswer Passed = Value 0
-checkAnswer (Stopped why) = Refused why
-
 -- what a stage that checks hands back
 pub record Judged : Type 0 where
   pub code : ℕ

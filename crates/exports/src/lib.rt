@@ -4,7 +4,6 @@
 use analysis::BoundsAnswer;
 use bititer::NaturalFault;
 use bititer::NaturalRead;
-use common::Checked;
 use decode::Decoded;
 use refusal::Answer;
 ghost use mathlib.Core.Path.{_≡_};
@@ -17,7 +16,7 @@ ghost use Rattle.scope.specs.Closing.{decode};
 ghost use Rattle.scope.specs.Run.{run};
 ghost use Rattle.scope.specs.Stages.{walkStage, arrowStage, hashStage, runStage};
 ghost use Rattle.analysis.specs.Limits.{stageBounds};
-ghost use Rattle.exports.specs.Codes.{answerCode, answerTold, checkAnswer, judged, judgedBy, decoding, decodingBy, bounding, boundingBy, staged, stagedBy, finished, finishedBy, read, faultCode, readBy};
+ghost use Rattle.exports.specs.Codes.{answerCode, answerTold, judged, judgedBy, decoding, decodingBy, bounding, boundingBy, staged, stagedBy, finished, finishedBy, read, faultCode, readBy};
 ghost use Rattle.bititer.specs.Answers.{naturalFault};
 
 // The number of an answer, 0 for an output; and its place, or an output's count of bits.
@@ -36,16 +35,6 @@ fn answer_told(said: Answer) -> u32
     match said {
         Answer::Value(count) => count,
         Answer::Refused(why) => refusal::place(why),
-    }
-}
-
-// The same of a check that passes with nothing to tell.
-fn check_answer(check: Checked) -> Answer
-    ensures { λ r. ⌜ r ≡ checkAnswer check ⌝ }
-{
-    match check {
-        Checked::Passed => Answer::Value(0),
-        Checked::Refused(why) => Answer::Refused(why),
     }
 }
 
@@ -116,9 +105,9 @@ pub extern "C" fn drevaloci_walk(
 ) -> u32
     ensures { λ r. ⌜ judged r (now (place .exit)) ≡ judgedBy (walkStage (now (program .entry)) (now (hashes .entry)) (now (nodes .entry))) ⌝ }
 {
-    let walked = check_answer(table::walk_stage(program, hashes, nodes));
-    *place = answer_told(walked);
-    answer_code(walked)
+    let said = common::answer_of(table::walk_stage(program, hashes, nodes));
+    *place = answer_told(said);
+    answer_code(said)
 }
 
 // Lent tables up to their arrows: 11 and 12.
@@ -134,7 +123,7 @@ pub extern "C" fn drevaloci_arrows(
     ensures { λ r. ⌜ judged r (now (place .exit))
         ≡ judgedBy (arrowStage (now (types .entry)) (now (nodes .entry)) (now (arrows .entry)) (now (program .entry)) (now (hashes .entry))) ⌝ }
 {
-    let said = check_answer(arrow::arrow_stage(types, nodes, arrows, program, hashes));
+    let said = common::answer_of(stages::arrow_stage(types, nodes, arrows, program, hashes));
     *place = answer_told(said);
     answer_code(said)
 }
@@ -153,7 +142,7 @@ pub extern "C" fn drevaloci_hashes(
     ensures { λ r. ⌜ judged r (now (place .exit))
         ≡ judgedBy (hashStage (now (types .entry)) (now (nodes .entry)) (now (arrows .entry)) (now (program .entry)) (now (hashes .entry)) (now (given .entry))) ⌝ }
 {
-    let said = check_answer(arrow::hash_stage(types, nodes, arrows, program, hashes, given));
+    let said = common::answer_of(stages::hash_stage(types, nodes, arrows, program, hashes, given));
     *place = answer_told(said);
     answer_code(said)
 }

@@ -17,10 +17,8 @@ use Rattle.scope.specs.Numbers.{bytesFor, every}
 use Rattle.scope.specs.Header.{number, count, offset, size, start, countRule, typeCountRule, offsetRule, totalRule, headerRule, checkHeader, section}
 use Rattle.promise.specs.Parts.{Part, cut}
 use Rattle.common.specs.Numbers.{number-past as past-end}
-use Rattle.common.specs.Checks.{every-all, every-one, fails-here, holds-here, first-holds}
-use Rattle.header.specs.Answer.{headerAnswer}
+use Rattle.common.specs.Checks.{every-all, every-one, fails-here, holds-here, first-holds, both-passed, each-holds}
 use Rattle.header.specs.Sections.{sectionPart, openedBy, openedPart}
-use Rattle.header.specs.declared.HeaderAnswer.the-variants.{Passed, Refused}
 
 module _ (d : List ℕ) where
   -- numbers past the end, and the size of each section by its count
@@ -151,46 +149,35 @@ module _ (d : List ℕ) where
   total-right e q = holds-here (headerRule d) 0 13 (rw (eq-eqb (number d 13) (length d) e, every, eq-eqb (start d 6) (length d) q, every))
 
   -- the whole check
-  pub too-short : length d < headerBytes → headerAnswer (checkHeader d) ≡ Refused (Header 0)
+  pub too-short : length d < headerBytes → checkHeader d ≡ refused (Header 0)
   unfolding checkHeader _>>=_ require every
   too-short h = rw (lt-leb headerBytes (length d) h, every)
 
-  pub too-long : dossierBytes < length d → headerAnswer (checkHeader d) ≡ Refused (Header 0)
+  pub too-long : dossierBytes < length d → checkHeader d ≡ refused (Header 0)
   unfolding checkHeader _>>=_ require every
   too-long h = rw (le-leb headerBytes (length d) (omega arith), every, lt-leb (length d) dossierBytes h, every)
 
   pub judged : headerBytes ≤ length d → length d ≤ dossierBytes
-      → headerAnswer (checkHeader d) ≡ headerAnswer (require (eqb firstWrong 14) (Header (4 * firstWrong)))
+      → checkHeader d ≡ require (eqb firstWrong 14) (Header (4 * firstWrong))
   unfolding checkHeader _>>=_ require every each
   judged s l = rw (le-leb headerBytes (length d) s, every, le-leb (length d) dossierBytes l, every)
 
-  pub judged-right : headerBytes ≤ length d → length d ≤ dossierBytes → firstWrong ≡ 14 → headerAnswer (checkHeader d) ≡ Passed
+  pub judged-right : headerBytes ≤ length d → length d ≤ dossierBytes → firstWrong ≡ 14 → checkHeader d ≡ passed tt
   unfolding require
   judged-right s l e = judged s l ∙ rw (eq-eqb firstWrong 14 e)
 
   pub judged-wrong : headerBytes ≤ length d → length d ≤ dossierBytes → (j : ℕ) → j ≡ firstWrong → (j ≡ 14 → ⊥)
-      → headerAnswer (checkHeader d) ≡ Refused (Header (4 * j))
+      → checkHeader d ≡ refused (Header (4 * j))
   unfolding require
   judged-wrong s l j e n = judged s l ∙ rw (← e, ne-eqb j 14 n)
 
   -- what a header that passes tells: every rule holds, so section k starts at its offset and ends within the dossier
-  module _ (good : Passed ≡ headerAnswer (checkHeader d)) where
+  module _ (good : checkHeader d ≡ passed tt) where
     pub passes-all : (j : ℕ) → j < 14 → headerRule d j ≡ true
-    unfolding require
-    passes-all j l = elim (decLt (length d) headerBytes) [
-      | yes h ↦ never (good ∙ too-short h)
-      | no m ↦ elim (decLt dossierBytes (length d)) [
-        | yes h ↦ never (good ∙ too-long h)
-        | no n ↦ first-holds (headerRule d) 14 0 (found (eqb firstWrong 14) refl (good ∙ judged (omega arith) (omega arith))) j (omega arith) (omega arith)
-      ]
-    ]
-      where
-        never : Passed ≡ Refused (Header 0) → headerRule d j ≡ true
-        never e = let z : _≡_ {A = ℕ} 0 1 = cc in absurd (omega arith)
-
-        found : (b : Bool) → eqb firstWrong 14 ≡ b → Passed ≡ headerAnswer (require b (Header (4 * firstWrong))) → firstWrong ≡ 14
-        found true h e = eqb-true firstWrong 14 h
-        found false h e = let z : _≡_ {A = ℕ} 0 1 = cc in absurd (omega arith)
+    unfolding checkHeader
+    passes-all =
+        let rest = both-passed (require (every (leb headerBytes (length d) ∷ leb (length d) dossierBytes ∷ [])) (Header 0)) (λ x. each 14 (headerRule d) (λ j. Header (4 * j))) tt good in
+        each-holds 14 (headerRule d) (λ j. Header (4 * j)) tt (rest .2)
 
     count-holds : (k : ℕ) → k < 6 → countRule d k ≡ true
     unfolding headerRule typeCountRule
@@ -224,16 +211,8 @@ module _ (d : List ℕ) where
 
 -- what is opened by what the check says
 module _ (dossier : Part) (k : ℕ) where
-  pub opened-passed : Passed ≡ headerAnswer (checkHeader (dossier .bytes)) → sectionPart dossier k ≡ openedPart dossier k
-  opened-passed good = go (checkHeader (dossier .bytes)) good
-    where
-      go : (x : Check (Unit {0})) → Passed ≡ headerAnswer x → sectionPart dossier k ≡ openedBy x dossier k
-      go (passed y) e = refl
-      go (refused r) e = let z : _≡_ {A = ℕ} 0 1 = cc in absurd (omega arith)
+  pub opened-passed : {x : Unit {0}} → checkHeader (dossier .bytes) ≡ passed x → sectionPart dossier k ≡ openedPart dossier k
+  opened-passed good = ap (λ (said : Check (Unit {0})). openedBy said dossier k) (sym good)
 
-  pub opened-refused : (r : Refusal) → Refused r ≡ headerAnswer (checkHeader (dossier .bytes)) → cut dossier 0 0 ≡ openedPart dossier k
-  opened-refused r bad = go (checkHeader (dossier .bytes)) bad
-    where
-      go : (x : Check (Unit {0})) → Refused r ≡ headerAnswer x → cut dossier 0 0 ≡ openedBy x dossier k
-      go (passed y) e = let z : _≡_ {A = ℕ} 0 1 = cc in absurd (omega arith)
-      go (refused w) e = refl
+  pub opened-refused : (r : Refusal) → checkHeader (dossier .bytes) ≡ refused r → cut dossier 0 0 ≡ openedPart dossier k
+  opened-refused r bad = ap (λ (said : Check (Unit {0})). openedBy said dossier k) (sym bad)

@@ -8,15 +8,10 @@ ghost use Rattle.limits.specs.Limits.{dossierBytes};
 ghost use Rattle.scope.specs.Check.{firstFailing};
 ghost use Rattle.scope.specs.Header.{number, count, size, start, headerRule, checkHeader};
 ghost use Rattle.promise.specs.Parts.{partOf};
-ghost use Rattle.header.specs.Answer.{headerAnswer};
+ghost use Rattle.common.specs.Answers.{checkOf};
 ghost use Rattle.header.specs.Sections.{sectionPart, openedPart};
+use common::Checked;
 use refusal::Refusal;
-
-// What the check says: the header keeps its rules, or why it does not.
-pub enum HeaderAnswer {
-    Passed,
-    Refused(Refusal),
-}
 
 // The sections: types, program, arrows, witness, input and hashes.
 const SECTIONS: usize = 6;
@@ -103,20 +98,20 @@ fn first_wrong(dossier: &[u8]) -> usize
 }
 
 // Whether a dossier's header keeps its rules; else the first wrong number, at its byte position.
-pub fn check_header(dossier: &[u8]) -> HeaderAnswer
-    ensures { λ r. ⌜ r ≡ headerAnswer (checkHeader (now (dossier .entry))) ⌝ }
+pub fn check_header(dossier: &[u8]) -> Checked
+    ensures { λ r. ⌜ checkOf r ≡ checkHeader (now (dossier .entry)) ⌝ }
 {
     if dossier.len() < limits::HEADER_BYTES {
-        return HeaderAnswer::Refused(Refusal::Header(0));
+        return Checked::Refused(Refusal::Header(0));
     }
     if limits::DOSSIER_BYTES < dossier.len() {
-        return HeaderAnswer::Refused(Refusal::Header(0));
+        return Checked::Refused(Refusal::Header(0));
     }
     let j = first_wrong(dossier);
     if j == NUMBERS {
-        HeaderAnswer::Passed
+        Checked::Passed
     } else {
-        HeaderAnswer::Refused(Refusal::Header(4 * j as u32))
+        Checked::Refused(Refusal::Header(4 * j as u32))
     }
 }
 
@@ -152,7 +147,7 @@ pub fn section(dossier: &[u8], k: usize) -> &[u8]
 pub fn opened(dossier: &[u8], k: usize) -> &[u8]
     ensures { λ r. ⌜ partOf r ≡ openedPart (partOf (dossier .entry)) k ⌝ }
 {
-    let HeaderAnswer::Passed = check_header(dossier) else {
+    let Checked::Passed = check_header(dossier) else {
         return common::part(dossier, 0, 0);
     };
     section(dossier, k)

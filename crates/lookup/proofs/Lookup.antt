@@ -4,28 +4,27 @@ use mathlib.Core.List.{List}
 use Prim.Native.Nat.{ℕ, _-_, _≤_, _<_, max}
 use native.Mathlib.Omega.{arith}
 use borrow.Author.Tests.{eq-eqb, ne-eqb}
-use lib.ListN.{getD}
 use Rattle.scope.specs.Types.{typeRecords}
 use Rattle.scope.specs.Nodes.{NodeRecord}
-use Rattle.scope.specs.Arrows.{arrowRecords, source, target, leftAt}
+use Rattle.scope.specs.Arrows.{arrowRecords}
 use Rattle.lookup.specs.declared.Around.{Around}
 use Rattle.lookup.specs.declared.Around.the-variants.{Pairing, Composing, Disconnecting}
 use Rattle.lookup.specs.declared.Padding.{Padding}
-use Rattle.lookup.specs.Lookup.{aroundBy, paddingOf}
+use Rattle.lookup.specs.Lookup.{sourceWidth, targetWidth, keptWidth, aroundBy, paddingOf}
 
 module _ (types widths arrows : List ℕ) (i : ℕ) (r : NodeRecord) where
   pub around-pair : r .kind ≡ 2 → Pairing ≡ aroundBy types widths arrows i r
   unfolding aroundBy
   around-pair e = rw (eq-eqb (r .kind) 2 e, aroundBy)
 
-  pub around-comp : (r .kind ≡ 2 → ⊥) → r .kind ≡ 0
-      → Composing (getD widths (target (arrowRecords arrows) (r .first)) 0) ≡ aroundBy types widths arrows i r
+  pub around-comp : (r .kind ≡ 2 → ⊥) → r .kind ≡ 0 → Composing (targetWidth widths (arrowRecords arrows) (r .first))
+      ≡ aroundBy types widths arrows i r
   unfolding aroundBy
   around-comp n e = rw (ne-eqb (r .kind) 2 n, eq-eqb (r .kind) 0 e, aroundBy)
 
   pub around-disconnect : (r .kind ≡ 2 → ⊥) → (r .kind ≡ 0 → ⊥)
-      → Disconnecting (getD widths (source (arrowRecords arrows) i) 0) (getD widths (leftAt (typeRecords types) (target (arrowRecords arrows) i)) 0)
-      (getD widths (source (arrowRecords arrows) (r .second)) 0) ≡ aroundBy types widths arrows i r
+      → Disconnecting (sourceWidth widths (arrowRecords arrows) i) (keptWidth (typeRecords types) widths (arrowRecords arrows) i)
+      (sourceWidth widths (arrowRecords arrows) (r .second)) ≡ aroundBy types widths arrows i r
   unfolding aroundBy
   around-disconnect n m = rw (ne-eqb (r .kind) 2 n, ne-eqb (r .kind) 0 m, aroundBy)
 

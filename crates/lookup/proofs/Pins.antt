@@ -3,10 +3,8 @@ use mathlib.Core.Path.{sym, _∙_}
 use Rattle.promise.specs.Outcomes.{OneResult}
 use Rattle.lookup.proofs.around_at.Kinds as around-at-kinds
 use Rattle.lookup.proofs.around_at.Reads as around-at-reads
-use Rattle.lookup.proofs.left_part.Kinds as left-part-kinds
-use Rattle.lookup.proofs.left_part.Reads as left-part-reads
-use Rattle.lookup.proofs.left_width.Kinds as left-width-kinds
-use Rattle.lookup.proofs.left_width.Reads as left-width-reads
+use Rattle.lookup.proofs.kept_width.Kinds as kept-width-kinds
+use Rattle.lookup.proofs.kept_width.Reads as kept-width-reads
 use Rattle.lookup.proofs.padding_at.Kinds as padding-at-kinds
 use Rattle.lookup.proofs.padding_at.Reads as padding-at-reads
 use Rattle.lookup.proofs.position_at.Kinds as position-at-kinds
@@ -23,11 +21,8 @@ use Rattle.lookup.proofs.target_width.Reads as target-width-reads
 pub around-at : OneResult 4 around-at-kinds.ps around-at-kinds.r around-at-reads.Post
 around-at κs a s t x y p q = p ∙ sym q
 
-pub left-part : OneResult 1 left-part-kinds.ps left-part-kinds.r left-part-reads.Post
-left-part κs a s t x y p q = p ∙ sym q
-
-pub left-width : OneResult 2 left-width-kinds.ps left-width-kinds.r left-width-reads.Post
-left-width κs a s t x y p q = p ∙ sym q
+pub kept-width : OneResult 3 kept-width-kinds.ps kept-width-kinds.r kept-width-reads.Post
+kept-width κs a s t x y p q = p ∙ sym q
 
 pub padding-at : OneResult 2 padding-at-kinds.ps padding-at-kinds.r padding-at-reads.Post
 padding-at κs a s t x y p q = p ∙ sym q

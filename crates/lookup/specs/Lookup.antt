@@ -1,16 +1,27 @@
--- What the engine looks up in the lent tables, as numbers: arrows, paddings, and what is done around two children.
+-- What the machine asks of a node, as numbers: widths, paddings, and what is done around two children.
 use mathlib.Core.Bool.{Bool, true, false}
 use mathlib.Core.List.{List}
 use Prim.Native.Nat.{ℕ, _-_, max}
 use lib.Dec.{eqb}
 use lib.ListN.{getD}
-use Rattle.scope.specs.Types.{typeRecords}
+use Rattle.scope.specs.Types.{TypeRecord, typeRecords, leftAt, rightAt}
 use Rattle.scope.specs.Nodes.{NodeRecord, nodeRecords}
 use Rattle.scope.specs.Stages.{noRecord}
-use Rattle.scope.specs.Arrows.{arrowRecords, source, target, leftAt, rightAt}
+use Rattle.scope.specs.Arrows.{Arrow, arrowRecords, source, target}
 use Rattle.lookup.specs.declared.Padding.{Padding}
 use Rattle.lookup.specs.declared.Around.{Around}
 use Rattle.lookup.specs.declared.Around.the-variants.{Pairing, Composing, Disconnecting}
+
+-- the width of a node's source, and of its target
+abbrev pub sourceWidth : (widths : List ℕ) → List Arrow → (i : ℕ) → ℕ
+sourceWidth widths arrows i = getD widths (source arrows i) 0
+
+abbrev pub targetWidth : (widths : List ℕ) → List Arrow → (i : ℕ) → ℕ
+targetWidth widths arrows i = getD widths (target arrows i) 0
+
+-- what a disconnect keeps of its left child's target: as much as the left part of its own target is wide
+abbrev pub keptWidth : List TypeRecord → (widths : List ℕ) → List Arrow → (i : ℕ) → ℕ
+keptWidth types widths arrows i = getD widths (leftAt types (target arrows i)) 0
 
 -- the paddings of parts of these widths, and of the parts of type k
 abbrev pub paddingOf : (left right : ℕ) → Padding
@@ -28,10 +39,10 @@ unfoldable pub aroundBy : (types widths arrows : List ℕ) → (i : ℕ) → Nod
 aroundBy types widths arrows i r = elim (eqb (r .kind) 2) [
   | true ↦ Pairing
   | false ↦ elim (eqb (r .kind) 0) [
-    | true ↦ Composing (getD widths (target (arrowRecords arrows) (r .first)) 0)
-    | false ↦ Disconnecting (getD widths (source (arrowRecords arrows) i) 0)
-        (getD widths (leftAt (typeRecords types) (target (arrowRecords arrows) i)) 0)
-        (getD widths (source (arrowRecords arrows) (r .second)) 0)
+    | true ↦ Composing (targetWidth widths (arrowRecords arrows) (r .first))
+    | false ↦ Disconnecting (sourceWidth widths (arrowRecords arrows) i)
+        (keptWidth (typeRecords types) widths (arrowRecords arrows) i)
+        (sourceWidth widths (arrowRecords arrows) (r .second))
   ]
 ]
 

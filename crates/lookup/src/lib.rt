@@ -1,10 +1,11 @@
-// What the lent tables say of a node: its arrow, the widths and the paddings that its rule needs, and what is done around its two children.
-// Each is total: past the end of a table stands an arrow of unit to unit, a type of width 0, a node of no kind.
+// What the machine asks of a node, from the lent tables: its types and their widths, paddings, where its value stands among the witness bits,
+// and what is done around its two children. Each answers on every input: past the end of a table stands an arrow of record 0 to record 0,
+// a type of width 0, a node of no kind.
 ghost use mathlib.Core.Path.{_≡_};
 ghost use lib.ListN.{getD};
 ghost use Rattle.scope.specs.Types.{typeRecords};
-ghost use Rattle.scope.specs.Arrows.{arrowRecords, source, target, leftAt};
-ghost use Rattle.lookup.specs.Lookup.{paddingOf, paddingIn, aroundIn};
+ghost use Rattle.scope.specs.Arrows.{arrowRecords, source, target};
+ghost use Rattle.lookup.specs.Lookup.{sourceWidth, targetWidth, keptWidth, paddingOf, paddingIn, aroundIn};
 
 // How many cells of padding follow the tag of a sum's left part, and of its right part.
 pub struct Padding {
@@ -18,20 +19,6 @@ pub enum Around {
     Pairing,
     Composing(u32),
     Disconnecting(u32, u32, u32),
-}
-
-// A node's index as a place.
-fn wide(x: u32) -> usize
-    ensures { λ r. ⌜ r ≡ x ⌝ }
-{
-    x as usize
-}
-
-// A type's index as a place.
-fn index(x: u16) -> usize
-    ensures { λ r. ⌜ r ≡ x ⌝ }
-{
-    x as usize
 }
 
 // The type of node i's source.
@@ -52,31 +39,23 @@ pub fn target_at(arrows: &[u8], i: u32) -> usize
 
 // The width of node i's source.
 pub fn source_width(arrows: &[u8], widths: &[u32], i: u32) -> u32
-    ensures { λ r. ⌜ r ≡ getD (now (widths .entry)) (source (arrowRecords (now (arrows .entry))) i) 0 ⌝ }
+    ensures { λ r. ⌜ r ≡ sourceWidth (now (widths .entry)) (arrowRecords (now (arrows .entry))) i ⌝ }
 {
     types::width_at(widths, source_at(arrows, i))
 }
 
 // The width of node i's target.
 pub fn target_width(arrows: &[u8], widths: &[u32], i: u32) -> u32
-    ensures { λ r. ⌜ r ≡ getD (now (widths .entry)) (target (arrowRecords (now (arrows .entry))) i) 0 ⌝ }
+    ensures { λ r. ⌜ r ≡ targetWidth (now (widths .entry)) (arrowRecords (now (arrows .entry))) i ⌝ }
 {
     types::width_at(widths, target_at(arrows, i))
 }
 
-// The left part of type k.
-pub fn left_part(types: &[u8], k: usize) -> usize
-    ensures { λ r. ⌜ r ≡ leftAt (typeRecords (now (types .entry))) k ⌝ }
+// The width of what node i, a disconnect, keeps of its left child's target: of the left part of its own target.
+pub fn kept_width(types: &[u8], widths: &[u32], arrows: &[u8], i: u32) -> u32
+    ensures { λ r. ⌜ r ≡ keptWidth (typeRecords (now (types .entry))) (now (widths .entry)) (arrowRecords (now (arrows .entry))) i ⌝ }
 {
-    let record = types::record_at(types, k);
-    index(record.left)
-}
-
-// The width of the left part of type k.
-pub fn left_width(types: &[u8], widths: &[u32], k: usize) -> u32
-    ensures { λ r. ⌜ r ≡ getD (now (widths .entry)) (leftAt (typeRecords (now (types .entry))) k) 0 ⌝ }
-{
-    types::width_at(widths, left_part(types, k))
+    types::left_width(types, widths, target_at(arrows, i))
 }
 
 // The paddings of parts of these widths.
@@ -100,17 +79,16 @@ fn padding_of(left: u32, right: u32) -> Padding
 pub fn padding_at(types: &[u8], widths: &[u32], k: usize) -> Padding
     ensures { λ r. ⌜ r ≡ paddingIn (now (types .entry)) (now (widths .entry)) k ⌝ }
 {
-    let record = types::record_at(types, k);
-    let left = types::width_at(widths, index(record.left));
-    let right = types::width_at(widths, index(record.right));
+    let left = types::left_width(types, widths, k);
+    let right = types::width_at(widths, types::right_of(types, k));
     padding_of(left, right)
 }
 
-// The position of node i's value among the witness bits.
+// The position of node i's value among the witness bits; 0 past the end of the positions.
 pub fn position_at(positions: &[u32], i: u32) -> u32
     ensures { λ r. ⌜ r ≡ getD (now (positions .entry)) i 0 ⌝ }
 {
-    types::width_at(positions, wide(i))
+    common::entry_at(positions, i as usize)
 }
 
 // What is done around the children of node i, which is a comp, a pair or a disconnect.
@@ -125,7 +103,7 @@ pub fn around_at(types: &[u8], widths: &[u32], nodes: &[u32], arrows: &[u8], i: 
         return Around::Composing(target_width(arrows, widths, record.first));
     }
     let source = source_width(arrows, widths, i);
-    let kept = left_width(types, widths, target_at(arrows, i));
+    let kept = kept_width(types, widths, arrows, i);
     let handed = source_width(arrows, widths, record.second);
     Around::Disconnecting(source, kept, handed)
 }

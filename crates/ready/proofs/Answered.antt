@@ -18,11 +18,10 @@ use Rattle.scope.specs.Input.{checkInput}
 use Rattle.scope.specs.Stores.{checkStores}
 use Rattle.scope.specs.Run.{Tables, programOf, Ready, checkReady}
 use Rattle.scope.specs.Stages.{lent, arrowStage, hashStage}
-use Rattle.exactness.specs.Checks.{clash, then-passes}
+use Rattle.common.specs.Checks.{clash, then-passes, then-refuses}
 use Rattle.theory.specs.NodeTerms.{cells-alike, frames-alike}
-use Rattle.table.specs.declared.Checked.the-variants.{Passed, Refused}
-use Rattle.table.proofs.Stages.{first-refused}
-use Rattle.arrow.proofs.Passed.{hashes-passed}
+use Rattle.common.specs.declared.Checked.the-variants.{Passed, Refused}
+use Rattle.stages.proofs.Passed.{hashes-passed}
 use Rattle.analysis.specs.Limits.{boundedOf, countedBounds}
 use Rattle.analysis.specs.declared.BoundsAnswer.the-variants.{Bounded, Refused as OverLimits}
 use Rattle.analysis.proofs.Stage.{judgedBounds, bounded-says, refused-says, whole-judged}
@@ -64,7 +63,7 @@ module _ (types nodes arrows program hashes given witness : List ℕ) (witnessBi
   -- the tables are refused
   pub tables-refused : (why : Refusal) → tables ≡ refused why
       → unprepared why ≡ prepared types nodes arrows program hashes given witness witnessBits input inputBits (zeros cells) (zeros frames) (zeros answer)
-  tables-refused why e = sym (ap answered (first-refused tables (λ held. ready) why e)) ∙ answer-is
+  tables-refused why e = sym (ap answered (then-refuses tables (λ held. ready) why e)) ∙ answer-is
 
   module _ (held : tables ≡ passed tt) where
     prepared-by : (c : Check Ready) → ready ≡ c
@@ -97,7 +96,7 @@ module _ (types nodes arrows program hashes given witness : List ℕ) (witnessBi
     pub bounds-refused : (why : Refusal) → checkBounds P ≡ refused why
         → unprepared why ≡ prepared types nodes arrows program hashes given witness witnessBits input inputBits (zeros cells) (zeros frames) (zeros answer)
     bounds-refused why e =
-        prepared-by (refused why) (ready-is ∙ first-refused (checkBounds P) (λ bounded. read >>= λ values. taken >>= λ v. stored >>= λ kept. passed (made values v)) why e)
+        prepared-by (refused why) (ready-is ∙ then-refuses (checkBounds P) (λ bounded. read >>= λ values. taken >>= λ v. stored >>= λ kept. passed (made values v)) why e)
 
     module _ (within : checkBounds P ≡ passed tt) where
       ready-then : (a : Check (List Val)) (b : Check Val) (c : Check (Unit {0})) → read ≡ a → taken ≡ b → stored ≡ c
@@ -169,14 +168,14 @@ module _ (types nodes arrows program hashes given witness : List ℕ) (witnessBi
     arrowed = hashes-passed types nodes program hashes arrows given held .0
 
     -- what the bounds of the lent tables say of the program
-    judged : countedBounds (typeWidths types) nodes arrows ≡ judgedBounds P
+    judged : countedBounds types (typeWidths types) nodes arrows ≡ judgedBounds P
     judged = whole-judged types nodes arrows program hashes arrowed given witness witnessBits input inputBits []
 
-    pub bounds-stop : (why : Refusal) → boundedOf (OverLimits why) ≡ countedBounds (typeWidths types) nodes arrows
+    pub bounds-stop : (why : Refusal) → boundedOf (OverLimits why) ≡ countedBounds types (typeWidths types) nodes arrows
         → unprepared why ≡ prepared types nodes arrows program hashes given witness witnessBits input inputBits (zeros cells) (zeros frames) (zeros answer)
     bounds-stop why e = bounds-refused why (refused-says P why (e ∙ judged))
 
-    module _ (cellBound frameBound cost : ℕ) (e : boundedOf (Bounded cellBound frameBound cost) ≡ countedBounds (typeWidths types) nodes arrows)
+    module _ (cellBound frameBound cost : ℕ) (e : boundedOf (Bounded cellBound frameBound cost) ≡ countedBounds types (typeWidths types) nodes arrows)
         (r : WitnessTable) (is : r ≡ suppliedTable (typeRecords types) (nodesOf (streamOf program) hashes (nodeRecords nodes)) (arrowRecords arrows)
         witness witnessBits input inputBits cellBound frameBound cells frames answer) where
       said : (checkBounds P ≡ passed tt) × (cellBound ≡ wholeCells P) × (frameBound ≡ wholeFrames P)

@@ -19,9 +19,9 @@ use Rattle.scope.specs.Nodes.{Kind, kindOf, nodeOf, NodeRecord, nodesOf, nodeAt
 use Rattle.scope.specs.Arrows.{Arrow, noArrow, target}
 use Rattle.scope.specs.Stages.{noRecord}
 use Rattle.scope.specs.Closing.{closes}
-use Rattle.exactness.specs.Checks.{not-both}
+use Rattle.common.specs.Checks.{not-both}
 use Rattle.bititer.proofs.Closing.{closes-past}
-use Rattle.table.proofs.Records.{node-at}
+use Rattle.common.specs.Nodes.{node-at}
 use Rattle.table.proofs.Groups.{by-kind, unknown}
 use Rattle.types.proofs.Sound.{passed-table, widths-are}
 use Rattle.value.specs.Bits.{skipShape, skipped}

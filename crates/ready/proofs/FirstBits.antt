@@ -12,7 +12,7 @@ use borrow.Author.Tests.{le-leb, lt-leb, leb-true}
 use Rattle.report.specs.Bits.{Bit}
 use Rattle.report.specs.Types.{Ty}
 use Rattle.report.specs.Values.{Val, compact, Read, value, short, readValue}
-use Rattle.exactness.specs.Checks.{clash}
+use Rattle.common.specs.Checks.{clash}
 use Rattle.value.specs.declared.ValueRead.the-variants.{Next, Short}
 use Rattle.value.proofs.Prefix.{within, read-first}
 use Rattle.ready.specs.Answers.{endOf}

@@ -18,7 +18,7 @@ use Rattle.scope.specs.Program.{Program, wholeTarget}
 use Rattle.scope.specs.Bounds.{wholeCells, wholeFrames, checkLimits}
 use Rattle.scope.specs.Input.{checkInput}
 use Rattle.scope.specs.Stores.{checkStores}
-use Rattle.exactness.specs.Checks.{clash, both-passed, require-holds}
+use Rattle.common.specs.Checks.{clash, both-passed, require-holds}
 use Rattle.ready.proofs.FirstBits.{in-all}
 
 pub limits-kept : (cells frames cost : ℕ) → checkLimits cells frames cost ≡ passed tt → (cells ≤ cellCount) × (frames ≤ frameCount) × (cost ≤ costLimit)

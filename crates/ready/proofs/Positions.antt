@@ -19,8 +19,8 @@ use Rattle.scope.specs.Nodes.{nodeAt, onWitness}
 use Rattle.scope.specs.Arrows.{Arrow, target}
 use Rattle.scope.specs.Program.{valueFrom}
 use Rattle.scope.specs.Witness.{Values, valuesFrom}
-use Rattle.exactness.specs.Checks.{clash}
-use Rattle.types.proofs.Tables.{tabulate-more}
+use Rattle.common.specs.Checks.{clash}
+use Rattle.common.specs.Tables.{tabulate-more}
 use Rattle.value.proofs.Types.{read-fit}
 use Rattle.ready.specs.Positions.{bitsTaken, readFor, positionAt}
 

@@ -29,8 +29,8 @@ use Rattle.scope.specs.Stores.{checkStores}
 use Rattle.scope.specs.Run.{Tables, programOf, Ready, checkReady, cellsOf}
 use Rattle.scope.specs.Stages.{counted, lent, arrowStage, hashStage}
 use Rattle.scope.specs.Machine.{machine}
-use Rattle.exactness.specs.Checks.{clash, both-passed, then-passes}
-use Rattle.exactness.specs.Bits.{AllBelow}
+use Rattle.common.specs.Checks.{clash, both-passed, then-passes, counted-passed}
+use Rattle.common.specs.Bits.{AllBelow}
 use Rattle.exactness.specs.NodeTyping.{NodeTyped, Word, fromTy, toTy}
 use Rattle.exactness.specs.Types.{types-pass}
 use Rattle.exactness.specs.Arrows.{arrow-typed}
@@ -40,11 +40,10 @@ use Rattle.theory.specs.Accepted.{Checked, ready-sound, ready-input}
 use Rattle.theory.specs.LentTables.{lent-checked}
 use Rattle.theory.specs.NodeTerms.{cells-alike, frames-alike, target-alike, source-alike}
 use Rattle.theory.specs.Theorems.{never-stuck, whole-safe}
-use Rattle.table.proofs.Records.{length-nodes}
-use Rattle.arrow.proofs.Passed.{LentPassed, lent-passed, stage-passed, stage-arrows, hashes-passed}
+use Rattle.common.specs.Nodes.{length-nodes}
+use Rattle.stages.proofs.Passed.{LentPassed, lent-passed, stage-passed, stage-arrows, hashes-passed}
 use Rattle.types.specs.Table.{checkTable, typeWidths, typeNext}
-use Rattle.types.proofs.Sound.{counted-passed}
-use Rattle.types.proofs.Tables.{length-tabulate, tabulate-at, tabulate-more}
+use Rattle.common.specs.Tables.{length-tabulate, tabulate-at, tabulate-more}
 use Rattle.ready.specs.Lent.{programNodes, valueOf, programAt, Reads, TypesShown, Shown}
 use Rattle.ready.specs.Positions.{readFor, positionAt, positionsOf}
 use Rattle.ready.proofs.FirstBits.{in-all}

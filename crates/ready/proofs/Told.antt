@@ -12,7 +12,7 @@ use Rattle.scope.specs.Bounds.{wholeCells, wholeFrames}
 use Rattle.scope.specs.Stores.{checkStores}
 use Rattle.scope.specs.Run.{Tables, Ready, checkReady, Left, leftWith, ran, runTables}
 use Rattle.scope.specs.Stages.{lent, hashStage, runStage}
-use Rattle.exactness.specs.Checks.{clash, both-passed}
+use Rattle.common.specs.Checks.{clash, both-passed}
 use Rattle.types.specs.Table.{typeWidths, typeNext}
 use Rattle.ready.specs.Positions.{positionsOf}
 use Rattle.ready.specs.Answers.{unprepared, prepared}

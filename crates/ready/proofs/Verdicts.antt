@@ -16,9 +16,9 @@ use Rattle.scope.specs.Check.{passed, refused, _>>=_, require}
 use Rattle.scope.specs.Numbers.{streamOf, every, bytesFor}
 use Rattle.scope.specs.Closing.{closes}
 use Rattle.scope.specs.Input.{checkInput}
-use Rattle.exactness.specs.Checks.{clash}
-use Rattle.table.specs.declared.Checked.{Checked}
-use Rattle.table.specs.declared.Checked.the-variants.{Passed, Refused}
+use Rattle.common.specs.Checks.{clash}
+use Rattle.common.specs.declared.Checked.{Checked}
+use Rattle.common.specs.declared.Checked.the-variants.{Passed, Refused}
 use Rattle.value.specs.declared.ValueRead.the-variants.{Next, Short}
 use Rattle.value.proofs.Types.{read-fit}
 use Rattle.ready.specs.Answers.{verdict, endOf, storesRule}

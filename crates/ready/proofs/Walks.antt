@@ -20,9 +20,9 @@ use Rattle.scope.specs.Nodes.{nodeAt}
 use Rattle.scope.specs.Arrows.{Arrow, target}
 use Rattle.scope.specs.Closing.{closes}
 use Rattle.scope.specs.Witness.{Values, checkWitness}
-use Rattle.exactness.specs.Checks.{clash}
-use Rattle.table.specs.declared.Checked.the-variants.{Passed}
-use Rattle.types.proofs.Tables.{length-tabulate, tabulate-more}
+use Rattle.common.specs.Checks.{clash}
+use Rattle.common.specs.declared.Checked.the-variants.{Passed}
+use Rattle.common.specs.Tables.{length-tabulate, tabulate-more}
 use Rattle.value.specs.declared.ValueRead.the-variants.{Next, Short}
 use Rattle.ready.specs.Positions.{bitsTaken, readFor, positionAt, positionsOf}
 use Rattle.ready.specs.Answers.{endOf, unreadOf, witnessTable}

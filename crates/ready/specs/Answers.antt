@@ -18,8 +18,8 @@ use Rattle.scope.specs.Witness.{checkWitness}
 use Rattle.scope.specs.Input.{checkInput}
 use Rattle.scope.specs.Run.{checkReady}
 use Rattle.scope.specs.Stages.{lent, hashStage}
-use Rattle.table.specs.declared.Checked.{Checked}
-use Rattle.table.specs.declared.Checked.the-variants.{Passed, Refused}
+use Rattle.common.specs.declared.Checked.{Checked}
+use Rattle.common.specs.declared.Checked.the-variants.{Passed, Refused}
 use Rattle.types.specs.Table.{typeWidths, typeNext}
 use Rattle.value.specs.declared.ValueRead.{ValueRead}
 use Rattle.value.specs.declared.ValueRead.the-variants.{Next, Short}

@@ -19,7 +19,7 @@ use Rattle.scope.specs.Program.{Program, valueFrom}
 use Rattle.scope.specs.Run.{programOf}
 use Rattle.scope.specs.Stages.{lent}
 use Rattle.types.specs.Table.{checkTable, typeWidths, typeNext}
-use Rattle.exactness.specs.Bits.{AllBelow}
+use Rattle.common.specs.Bits.{AllBelow}
 
 -- the nodes of a lent table, with its program's bits and its hash bytes
 abbrev pub programNodes : (nodes program hashes : List ℕ) → List Node

@@ -3,7 +3,7 @@
 // so a refusal leaves all stores as they were.
 use analysis::BoundsAnswer;
 use refusal::Refusal;
-use table::Checked;
+use common::Checked;
 use value::ValueRead;
 ghost use mathlib.Core.Path.{_≡_};
 ghost use mathlib.Core.Bool.{true, false};
@@ -316,7 +316,7 @@ fn check_ready(
 {
     let widths = table.widths;
     let next = table.next;
-    let bounded = analysis::bounds(&widths, nodes, arrows);
+    let bounded = analysis::bounds(types, &widths, nodes, arrows);
     match bounded {
         BoundsAnswer::Refused(why) => refused(Checked::Refused(why)),
         BoundsAnswer::Bounded(cell_bound, frame_bound, _) => {
@@ -370,13 +370,12 @@ pub fn check_run(
     ensures { λ r. ⌜ r ≡ prepared (now (types .entry)) (now (nodes .entry)) (now (arrows .entry)) (now (program .entry)) (now (hashes .entry)) (now (given .entry))
         (now (witness .entry)) «witness_bits» (now (input .entry)) «input_bits» (zeros cells) (zeros frames) (zeros answer) ⌝ }
 {
-    let table = types::check_types(types);
-    let said = table.answer;
-    let held = arrow::without_count(said);
-    let tables = arrow::hash_tables(held, types, nodes, arrows, program, hashes, given);
+    let staged = stages::hash_tables(types, nodes, arrows, program, hashes, given);
+    let tables = staged.answer;
     let Checked::Passed = tables else {
         return refused(tables);
     };
+    let table = staged.table;
     check_ready(
         table,
         types,

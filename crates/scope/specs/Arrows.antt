@@ -2,7 +2,7 @@
 -- and each node's arrow as the report's typing has it, on indices of the type table (12 at the first such node).
 use mathlib.Core.Bool.{Bool, true, false}
 use mathlib.Core.List.{List, [], _∷_}
-use Prim.Native.Nat.{ℕ, zero, suc, _+_, _*_, _-_, _/_}
+use Prim.Native.Nat.{ℕ, _+_, _*_, _-_, _/_}
 use lib.Dec.{ltb, eqb}
 use lib.ListN.{length, getD}
 use Rattle.limits.specs.Limits.{arrowBytes}
@@ -10,7 +10,7 @@ use Rattle.refusal.specs.declared.Refusal.the-variants.{OneChildDisconnect, Arr
 use Rattle.report.specs.Nodes.{Node, comp, case, pair, disconnect, injl, injr, take, drop, disconnect1, iden, unit, witness, fail, hidden, word}
 use Rattle.scope.specs.Check.{Check, passed, refused, _>>=_, require, each}
 use Rattle.scope.specs.Numbers.{be16, tabulate, every}
-use Rattle.scope.specs.Types.{TypeRecord, typeAt}
+use Rattle.scope.specs.Types.{TypeRecord, isUnit, isSum, isProduct, leftAt, rightAt, isWord}
 use Rattle.scope.specs.Nodes.{nodeAt, onOneChild}
 use Rattle.scope.specs.Walk.{hiddenAt}
 
@@ -34,35 +34,6 @@ source arrows i = (getD arrows i noArrow) .source
 
 unfoldable pub target : List Arrow → (i : ℕ) → ℕ
 target arrows i = (getD arrows i noArrow) .target
-
--- what record j of the type table is
-module _ (types : List TypeRecord) where
-  unfoldable pub isUnit : (j : ℕ) → Bool
-  unfolding typeAt
-  isUnit j = eqb ((typeAt types j) .tag) 0
-
-  -- the sum, or the product, of these two
-  unfoldable pub isSum : (j left right : ℕ) → Bool
-  unfolding typeAt every
-  isSum j left right = every (eqb ((typeAt types j) .tag) 1 ∷ eqb ((typeAt types j) .left) left ∷ eqb ((typeAt types j) .right) right ∷ [])
-
-  unfoldable pub isProduct : (j left right : ℕ) → Bool
-  unfolding typeAt every
-  isProduct j left right = every (eqb ((typeAt types j) .tag) 2 ∷ eqb ((typeAt types j) .left) left ∷ eqb ((typeAt types j) .right) right ∷ [])
-
-  unfoldable pub leftAt : (j : ℕ) → ℕ
-  unfolding typeAt
-  leftAt j = (typeAt types j) .left
-
-  unfoldable pub rightAt : (j : ℕ) → ℕ
-  unfolding typeAt
-  rightAt j = (typeAt types j) .right
-
-  -- the very type of words of 2 ^ k bits: a sum of units, or a product of a word type with itself
-  unfoldable pub isWord : (k j : ℕ) → Bool
-  unfolding isUnit isSum isProduct leftAt rightAt every
-  isWord zero j = every (isSum j (leftAt j) (rightAt j) ∷ isUnit (leftAt j) ∷ isUnit (rightAt j) ∷ [])
-  isWord (suc k) j = every (isProduct j (leftAt j) (leftAt j) ∷ isWord k (leftAt j) ∷ [])
 
 -- the arrow of each kind of node
 module _ (types : List TypeRecord) (nodes : List Node) (arrows : List Arrow) where

@@ -1,4 +1,4 @@
--- The type table: which records it may hold (refusal 2), and the type that each record stands for.
+-- The type table: which records it may hold (refusal 2), the type that each record stands for, and what a record is (unit, a sum, a product, a word).
 -- A record refers only to earlier records, unit's indices are 0, no two records are equal, and no type is too wide.
 use mathlib.Core.Bool.{Bool, true, false, not}
 use mathlib.Core.List.{List, [], _∷_}
@@ -76,3 +76,32 @@ module _ (types : List TypeRecord) where
   unfoldable pub checkTypes : Check (Unit {0})
   unfolding each typeRule
   checkTypes = each (length types) typeRule BadTypeRecord
+
+  -- what record j is: unit
+  unfoldable pub isUnit : (j : ℕ) → Bool
+  unfolding typeAt
+  isUnit j = eqb ((typeAt j) .tag) 0
+
+  -- or the sum, or the product, of these two
+  unfoldable pub isSum : (j left right : ℕ) → Bool
+  unfolding typeAt every
+  isSum j left right = every (eqb ((typeAt j) .tag) 1 ∷ eqb ((typeAt j) .left) left ∷ eqb ((typeAt j) .right) right ∷ [])
+
+  unfoldable pub isProduct : (j left right : ℕ) → Bool
+  unfolding typeAt every
+  isProduct j left right = every (eqb ((typeAt j) .tag) 2 ∷ eqb ((typeAt j) .left) left ∷ eqb ((typeAt j) .right) right ∷ [])
+
+  -- its parts
+  unfoldable pub leftAt : (j : ℕ) → ℕ
+  unfolding typeAt
+  leftAt j = (typeAt j) .left
+
+  unfoldable pub rightAt : (j : ℕ) → ℕ
+  unfolding typeAt
+  rightAt j = (typeAt j) .right
+
+  -- the very type of words of 2 ^ k bits: a sum of units, or a product of a word type with itself
+  unfoldable pub isWord : (k j : ℕ) → Bool
+  unfolding isUnit isSum isProduct leftAt rightAt every
+  isWord zero j = every (isSum j (leftAt j) (rightAt j) ∷ isUnit (leftAt j) ∷ isUnit (rightAt j) ∷ [])
+  isWord (suc k) j = every (isProduct j (leftAt j) (leftAt j) ∷ isWord k (leftAt j) ∷ [])

@@ -21,7 +21,7 @@ use Rattle.table.specs.Lent.{leftOf, rightOf}
 use Rattle.table.specs.Walking.{childWalk}
 use Rattle.common.specs.Nodes.{length-nodes, node-at}
 use Rattle.table.proofs.Groups.{same-children, few-children}
-use Rattle.table.proofs.Hashes.{hidden-kind, hides-kind}
+use Rattle.table.proofs.Hashes.{hidden-alike, hides-kind}
 use Rattle.common.specs.Checks.{then-same}
 use Rattle.table.proofs.Steps.{walkBy, child-below, child-not-below, step-any}
 
@@ -38,7 +38,7 @@ module _ (bits hashes : List ℕ) (rs : List NodeRecord) where
   other = nodesOf [] hashes rs
 
   hidden-same : (j : ℕ) → hiddenAt one j ≡ hiddenAt other j
-  hidden-same j = hidden-kind bits hashes rs j ∙ sym (hidden-kind [] hashes rs j)
+  hidden-same j = hidden-alike bits hashes rs j ∙ sym (hidden-alike [] hashes rs j)
 
   none-same : (i : ℕ) (js : List ℕ) → noneHidden one i js ≡ noneHidden other i js
   unfolding noneHidden

@@ -1,5 +1,5 @@
 -- Hidden nodes and their hashes in a lent table: which nodes are hidden, what a hash is, and how two are compared.
-use mathlib.Core.Path.{_≡_, ap, _∙_}
+use mathlib.Core.Path.{_≡_, ap, _∙_, sym}
 use mathlib.Core.Bool.{true, false}
 use mathlib.Core.List.{List, []}
 use Prim.Native.Nat.{ℕ}
@@ -22,6 +22,10 @@ hidden-kind bits hashes rs j =
     ap (λ (n : Node). onHidden n (λ hash. true) false) (node-at bits hashes rs j)
     ∙ by-hidden bits hashes (kindOf (getD rs j noRecord .kind)) (getD rs j noRecord .first) (getD rs j noRecord .second) (λ hash. true) false
     ∙ every-one (hiddenKind (getD rs j noRecord .kind))
+
+-- so it is hidden or not whatever the bits of words and the bytes of hashes
+pub hidden-alike : (bits hashes : List ℕ) (rs : List NodeRecord) (j : ℕ) → hiddenAt (nodesOf bits hashes rs) j ≡ hiddenAt (nodesOf [] [] rs) j
+hidden-alike bits hashes rs j = hidden-kind bits hashes rs j ∙ sym (hidden-kind [] [] rs j)
 
 -- and it has a hash where its record's bytes are that hash
 pub hides-kind : (bits hashes : List ℕ) (rs : List NodeRecord) (hash : List ℕ) (j : ℕ) → hides (nodesOf bits hashes rs) hash j

@@ -19,10 +19,15 @@ use Rattle.table.proofs.walk.Kinds as walk-kinds
 use Rattle.table.proofs.walk.Reads as walk-reads
 use Rattle.table.proofs.walk_stage.Kinds as walk-stage-kinds
 use Rattle.table.proofs.walk_stage.Reads as walk-stage-reads
+use Rattle.table.proofs.record_in.Kinds as record-in-kinds
+use Rattle.table.proofs.record_in.Reads as record-in-reads
 
 -- a record's numbers tell it
 pub record-tells : (r q : Lent) → recordOf r ≡ recordOf q → r ≡ q
 record-tells r q e = ap (λ (x : NodeRecord). record { kind = x .kind; first = x .first; second = x .second; third = x .third }) e
+
+pub record-in : OneResult 1 record-in-kinds.ps record-in-kinds.r record-in-reads.Post
+record-in κs a s t x y p q = record-tells s t (p ∙ sym q)
 
 pub record-at : OneResult 1 record-at-kinds.ps record-at-kinds.r record-at-reads.Post
 record-at κs a s t x y p q = record-tells s t (p ∙ sym q)

@@ -23,7 +23,7 @@ use Rattle.common.specs.Answers.{checkOf}
 use Rattle.table.specs.Lent.{lentNodes}
 use Rattle.table.specs.Stage.{countedRecords, countedWalk}
 use Rattle.common.specs.Nodes.{length-records, length-nodes}
-use Rattle.table.proofs.Hashes.{hidden-kind}
+use Rattle.table.proofs.Hashes.{hidden-alike}
 use Rattle.table.proofs.AnyBits.{walk-any-bits}
 
 -- 4 refuses before 26 and before the walk
@@ -89,7 +89,7 @@ module _ (hashes nodes : List ℕ) (fine : counted (length (nodeRecords nodes)) 
   walk-ends k b e h =
       let last = length nodes / nodeNumbers - 1 in
       sym (by-count ∙ then-passes _ (λ all. require (not (hiddenAt (lentNodes hashes nodes) last)) (HiddenElsewhere last)) k e
-      ∙ ap (λ (x : Bool). require (not x) (HiddenElsewhere last)) (hidden-kind [] hashes (nodeRecords nodes) last ∙ sym (hidden-kind [] [] (nodeRecords nodes) last) ∙ sym h))
+      ∙ ap (λ (x : Bool). require (not x) (HiddenElsewhere last)) (hidden-alike [] hashes (nodeRecords nodes) last ∙ sym h))
 
 -- the stage: 4 and 26 refuse, or the program is too long, or the walk answers
 module _ (program hashes nodes : List ℕ) where

@@ -28,7 +28,7 @@ use Rattle.table.specs.Lent.{lentNodes, nodeIs, hiddenKind, leftOf, righ
 use Rattle.table.specs.Walking.{childrenRule, repeatRule, childWalk}
 use Rattle.common.specs.Nodes.{length-nodes, node-at}
 use Rattle.table.proofs.Groups.{by-kind, unknown, same-children, few-children}
-use Rattle.table.proofs.Hashes.{hidden-kind}
+use Rattle.table.proofs.Hashes.{hidden-alike}
 
 module _ (nodes : List Node) (i : ℕ) where
   two-shown : (a b : ℕ) → noneHidden nodes i (a ∷ b ∷ []) ≡ childrenRule false (hiddenAt nodes a) (hiddenAt nodes b) i
@@ -207,7 +207,7 @@ module _ (hashes nodes : List ℕ) (i : ℕ) (r : NodeRecord) (is : r ≡ getD (
         (on-a ∙ ap (hiddenAt (lentNodes [] nodes)) at-a ∙ hidden-same (leftOf (nodeIs [] r) i)) (on-b ∙ ap (hiddenAt (lentNodes [] nodes)) at-b ∙ hidden-same (rightOf (nodeIs [] r) i)))
       where
         hidden-same : (j : ℕ) → hiddenAt (lentNodes [] nodes) j ≡ hiddenAt (lentNodes hashes nodes) j
-        hidden-same j = hidden-kind [] [] (nodeRecords nodes) j ∙ sym (hidden-kind [] hashes (nodeRecords nodes) j)
+        hidden-same j = sym (hidden-alike [] hashes (nodeRecords nodes) j)
 
     -- what a case asks, and what any other node asks
     pub asks-case : r .kind ≡ 1 → allowed (lentNodes hashes nodes) i (nodeAt (lentNodes hashes nodes) i) ≡ childrenRule true left right i

@@ -25,13 +25,13 @@ use Rattle.report.specs.Typing.{Typed}
 use Rattle.report.specs.Meaning.{Means, done, stuck, eval, visits}
 use Rattle.scope.specs.Check.{passed}
 use Rattle.scope.specs.Numbers.{tabulate, streamOf}
-use Rattle.scope.specs.Types.{TypeRecord, typeFrom, tyAt, checkTypes}
+use Rattle.scope.specs.Types.{TypeRecord, typeFrom, tyAt, checkTypes, leftAt, rightAt, isWord}
 use Rattle.scope.specs.Naturals.{natural, readNatural}
 use Rattle.scope.specs.Nodes.{nodeAt, nodesOf}
 use Rattle.scope.specs.Reading.{Table}
 use Rattle.scope.specs.Walk.{hiddenAt, walkFrom, checkWalk}
 use Rattle.scope.specs.Closing.{decode}
-use Rattle.scope.specs.Arrows.{Arrow, leftAt, rightAt, isWord, arrowRule, checkArrows}
+use Rattle.scope.specs.Arrows.{Arrow, arrowRule, checkArrows}
 use Rattle.scope.specs.Program.{Program, sourceTy, targetTy, termOf, termAt, whole, wholeSource, wholeTarget}
 use Rattle.scope.specs.Bounds.{Bound, bounds, wholeCells, wholeFrames, wholeCost, checkBounds}
 use Rattle.scope.specs.Header.{checkHeader}

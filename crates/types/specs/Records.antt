@@ -14,6 +14,11 @@ use Rattle.scope.specs.Types.{TypeRecord, tyAt, typeAt, sameType, partsRule}
 use Rattle.types.specs.declared.Judged.{Judged}
 use Rattle.types.specs.declared.Judged.the-variants.{Width, Broken}
 
+-- record j is of this tag and of these two parts
+unfoldable pub isRecord : (types : List TypeRecord) → (tag j left right : ℕ) → Bool
+unfolding typeAt every
+isRecord types tag j left right = every (eqb ((typeAt types j) .tag) tag ∷ eqb ((typeAt types j) .left) left ∷ eqb ((typeAt types j) .right) right ∷ [])
+
 -- the width of a record of this tag whose parts have these widths
 abbrev pub partsWidth : (tag left right : ℕ) → ℕ
 partsWidth zero left right = 0

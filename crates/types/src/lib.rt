@@ -1,17 +1,17 @@
-// The type table: its check (refusals 4 and 2), the width of each type in cells, and how a value of it goes on.
+// The type table: what a record is, the check of a table (refusals 4 and 2), the width of each type in cells, and how a value of it goes on.
 // A record is a tag and the indices of its parts, which are earlier records; so one pass upwards fills both arrays,
 // and no type is ever walked to its leaves. A type without padding has a mark, and its values are read as bits, all at once.
 // Of the others a product with a part of width 0 says nothing that its other part does not say:
 // the next record that matters is that part's, and readers of values step over such products by it.
 ghost use mathlib.Core.Path.{_≡_};
 ghost use mathlib.Core.List.{[]};
-ghost use Prim.Native.Nat.{_<_};
-ghost use lib.ListN.{getD};
-ghost use Rattle.limits.specs.Limits.{typeCount};
-ghost use Rattle.scope.specs.Numbers.{anyBelow};
-ghost use Rattle.scope.specs.Types.{typeRecords, typeAt, sameType, partsRule};
+ghost use Prim.Native.Nat.{ℕ, _+_, _*_, _/_, _≤_, _<_};
+ghost use lib.ListN.{length, getD};
+ghost use Rattle.limits.specs.Limits.{typeCount, typeBytes, typeWidth};
+ghost use Rattle.scope.specs.Numbers.{be16, anyBelow};
+ghost use Rattle.scope.specs.Types.{typeRecords, typeAt, sameType, partsRule, isUnit, isSum, isProduct, leftAt, rightAt, isWord};
 ghost use Rattle.types.specs.Table.{recordOf, sameRecord, typeTable};
-ghost use Rattle.types.specs.Records.{recordJudged, partsWidth, unpaddedFrom, nextFrom, recordNext};
+ghost use Rattle.types.specs.Records.{isRecord, recordJudged, partsWidth, unpaddedFrom, nextFrom, recordNext};
 use refusal::Refusal;
 
 // What stands for a type without padding in place of a next record: the index of no record.
@@ -67,7 +67,7 @@ pub fn record_at(types: &[u8], i: usize) -> TypeRecord
 pub fn width_at(widths: &[u32], i: usize) -> u32
     ensures { λ r. ⌜ r ≡ getD (now (widths .entry)) i 0 ⌝ }
 {
-    if i < widths.len() { widths[i] } else { 0 }
+    common::entry_at(widths, i)
 }
 
 // The entry of record i, by a table; 0 past the end.
@@ -75,6 +75,97 @@ pub fn next_at(next: &[u16], i: usize) -> u16
     ensures { λ r. ⌜ r ≡ getD (now (next .entry)) i 0 ⌝ }
 {
     if i < next.len() { next[i] } else { 0 }
+}
+
+// Whether type j is of this tag and of these two parts.
+fn is_record(types: &[u8], j: usize, tag: u8, left: usize, right: usize) -> bool
+    ensures { λ r. ⌜ r ≡ isRecord (typeRecords (now (types .entry))) tag j left right ⌝ }
+{
+    let own = record_at(types, j);
+    if own.tag != tag {
+        return false;
+    }
+    if common::index(own.left) != left {
+        return false;
+    }
+    common::index(own.right) == right
+}
+
+// Whether type j is unit.
+pub fn is_unit(types: &[u8], j: usize) -> bool
+    ensures { λ r. ⌜ r ≡ isUnit (typeRecords (now (types .entry))) j ⌝ }
+{
+    let own = record_at(types, j);
+    own.tag == 0
+}
+
+// Whether type j is the sum of these two.
+pub fn is_sum(types: &[u8], j: usize, left: usize, right: usize) -> bool
+    ensures { λ r. ⌜ r ≡ isSum (typeRecords (now (types .entry))) j left right ⌝ }
+{
+    is_record(types, j, 1, left, right)
+}
+
+// Whether type j is the product of these two.
+pub fn is_product(types: &[u8], j: usize, left: usize, right: usize) -> bool
+    ensures { λ r. ⌜ r ≡ isProduct (typeRecords (now (types .entry))) j left right ⌝ }
+{
+    is_record(types, j, 2, left, right)
+}
+
+// The left part of type j; record 0 past the table.
+pub fn left_of(types: &[u8], j: usize) -> usize
+    ensures { λ r. ⌜ r ≡ leftAt (typeRecords (now (types .entry))) j ⌝ }
+{
+    let own = record_at(types, j);
+    common::index(own.left)
+}
+
+// The right part of type j; record 0 past the table.
+pub fn right_of(types: &[u8], j: usize) -> usize
+    ensures { λ r. ⌜ r ≡ rightAt (typeRecords (now (types .entry))) j ⌝ }
+{
+    let own = record_at(types, j);
+    common::index(own.right)
+}
+
+// Whether type j is a sum of units.
+fn is_bit(types: &[u8], j: usize) -> bool
+    ensures { λ r. ⌜ r ≡ isWord (typeRecords (now (types .entry))) 0 j ⌝ }
+{
+    let left = left_of(types, j);
+    let right = right_of(types, j);
+    if !is_sum(types, j, left, right) {
+        return false;
+    }
+    if !is_unit(types, left) {
+        return false;
+    }
+    is_unit(types, right)
+}
+
+// Whether type j is the very type of words of 2^k bits: down k products of equal parts to a sum of units.
+pub fn is_word(types: &[u8], k: u32, j: usize) -> bool
+    ensures { λ r. ⌜ r ≡ isWord (typeRecords (now (types .entry))) k j ⌝ }
+{
+    let mut left = k;
+    let mut at = j;
+    while 0 < left {
+        let part = left_of(types, at);
+        if !is_product(types, at, part, part) {
+            return false;
+        }
+        at = part;
+        left -= 1;
+    }
+    is_bit(types, at)
+}
+
+// The width of the left part of type j, by the widths of a table.
+pub fn left_width(types: &[u8], widths: &[u32], j: usize) -> u32
+    ensures { λ r. ⌜ r ≡ getD (now (widths .entry)) (leftAt (typeRecords (now (types .entry))) j) 0 ⌝ }
+{
+    width_at(widths, left_of(types, j))
 }
 
 // Whether the parts are as the tag asks: unit's are 0, a sum's and a product's are earlier records than i.

@@ -5,14 +5,14 @@ use native.Mathlib.Omega.{arith}
 use lib.ListN.{length}
 use borrow.Author.Needs.{needs}
 use Rattle.limits.specs.Limits.{nodeCount, nodeNumbers, cellCount, frameCount}
+use Rattle.scope.specs.Types.{typeRecords}
 use Rattle.scope.specs.Nodes.{nodeRecords}
 use Rattle.scope.specs.Arrows.{arrowRecords}
-use Rattle.types.proofs.Sound.{counted-passed}
-use Rattle.table.specs.Answers.{checkOf}
-use Rattle.table.proofs.Records.{length-records}
-use Rattle.arrow.proofs.Passes.{passes}
+use Rattle.common.specs.Checks.{counted-passed, passes}
+use Rattle.common.specs.Answers.{checkOf}
+use Rattle.common.specs.Nodes.{length-records}
 use Rattle.analysis.specs.Held.{upTo}
-use Rattle.analysis.specs.Rows.{sourceWidth, targetWidth}
+use Rattle.lookup.specs.Lookup.{sourceWidth, targetWidth}
 use Rattle.analysis.specs.Limits.{boundedOf, limited, lentTotals, countedBounds}
 use Rattle.analysis.proofs.Totals.{stopped, row-read, totals-judged}
 use Rattle.analysis.proofs.Tables.{heldAt}
@@ -33,25 +33,47 @@ refused-requires c κs = search needs
 
 returns : tie.Need-returns
 unfolding countedBounds
-returns c = ap boundedOf (c .refused .ensures) ∙ stopped (c .before .before .before .check-count .result) _ _ _ (c .before .before .before .check-count .ensures) (c .before .enum-told2 .given .1)
+returns c =
+    ap boundedOf (c .refused .ensures) ∙ stopped (c .before .before .before .check-count .result) _ _ _
+    (c .before .before .before .check-count .ensures) (c .before .enum-told2 .given .1)
 
 sub-last : tie.Need-sub-last
-sub-last c = omega (arith, length-records (c .before .before .before .before .before .before .args .nodes .now), counted-passed (length (nodeRecords (c .before .before .before .before .before .before .args .nodes .now))) nodeCount (sym (c .before .before .check-count .ensures) ∙ ap checkOf (c .enum-told .given .1)) .0, counted-passed (length (nodeRecords (c .before .before .before .before .before .before .args .nodes .now))) nodeCount (sym (c .before .before .check-count .ensures) ∙ ap checkOf (c .enum-told .given .1)) .1)
+sub-last c =
+    let nodes = c .before .before .before .before .before .before .before .args .nodes .now in
+    let few = counted-passed (length (nodeRecords nodes)) nodeCount
+    (sym (c .before .before .check-count .ensures) ∙ ap checkOf (c .enum-told .given .1)) in
+    omega (arith, length-records nodes, few .0, few .1)
 
 cast-last : tie.Need-cast-last
-cast-last c = omega (arith, length-records (c .before .before .before .before .before .before .args .nodes .now), counted-passed (length (nodeRecords (c .before .before .before .before .before .before .args .nodes .now))) nodeCount (sym (c .before .before .check-count .ensures) ∙ ap checkOf (c .enum-told .given .1)) .0, counted-passed (length (nodeRecords (c .before .before .before .before .before .before .args .nodes .now))) nodeCount (sym (c .before .before .check-count .ensures) ∙ ap checkOf (c .enum-told .given .1)) .1)
+cast-last c =
+    let nodes = c .before .before .before .before .before .before .before .args .nodes .now in
+    let few = counted-passed (length (nodeRecords nodes)) nodeCount
+    (sym (c .before .before .check-count .ensures) ∙ ap checkOf (c .enum-told .given .1)) in
+    omega (arith, length-records nodes, few .0, few .1)
 
 node-rows-requires : tie.Need-node-rows-requires
 node-rows-requires c κs = search needs
 
 cast-at : tie.Need-cast-at
-cast-at c = omega (arith, length-records (c .before .before .before .before .before .before .before .args .nodes .now), counted-passed (length (nodeRecords (c .before .before .before .before .before .before .before .args .nodes .now))) nodeCount (sym (c .before .before .before .check-count .ensures) ∙ ap checkOf (c .before .enum-told .given .1)) .0, counted-passed (length (nodeRecords (c .before .before .before .before .before .before .before .args .nodes .now))) nodeCount (sym (c .before .before .before .check-count .ensures) ∙ ap checkOf (c .before .enum-told .given .1)) .1)
+cast-at c =
+    let nodes = c .before .before .before .before .before .before .before .before .args .nodes .now in
+    let few = counted-passed (length (nodeRecords nodes)) nodeCount
+    (sym (c .before .before .before .check-count .ensures) ∙ ap checkOf (c .before .enum-told .given .1)) in
+    omega (arith, length-records nodes, few .0, few .1)
 
 mul-own : tie.Need-mul-own
-mul-own c = omega (arith, length-records (c .before .before .before .before .before .before .before .args .nodes .now), counted-passed (length (nodeRecords (c .before .before .before .before .before .before .before .args .nodes .now))) nodeCount (sym (c .before .before .before .check-count .ensures) ∙ ap checkOf (c .before .enum-told .given .1)) .0, counted-passed (length (nodeRecords (c .before .before .before .before .before .before .before .args .nodes .now))) nodeCount (sym (c .before .before .before .check-count .ensures) ∙ ap checkOf (c .before .enum-told .given .1)) .1)
+mul-own c =
+    let nodes = c .before .before .before .before .before .before .before .before .args .nodes .now in
+    let few = counted-passed (length (nodeRecords nodes)) nodeCount
+    (sym (c .before .before .before .check-count .ensures) ∙ ap checkOf (c .before .enum-told .given .1)) in
+    omega (arith, length-records nodes, few .0, few .1)
 
 array-copy-out-own : tie.Need-array-copy-out-own
-array-copy-out-own c = omega (arith, length-records (c .before .before .before .before .before .before .before .args .nodes .now), counted-passed (length (nodeRecords (c .before .before .before .before .before .before .before .args .nodes .now))) nodeCount (sym (c .before .before .before .check-count .ensures) ∙ ap checkOf (c .before .enum-told .given .1)) .0, counted-passed (length (nodeRecords (c .before .before .before .before .before .before .before .args .nodes .now))) nodeCount (sym (c .before .before .before .check-count .ensures) ∙ ap checkOf (c .before .enum-told .given .1)) .1)
+array-copy-out-own c =
+    let nodes = c .before .before .before .before .before .before .before .before .args .nodes .now in
+    let few = counted-passed (length (nodeRecords nodes)) nodeCount
+    (sym (c .before .before .before .check-count .ensures) ∙ ap checkOf (c .before .enum-told .given .1)) in
+    omega (arith, length-records nodes, few .0, few .1)
 
 source-width-requires : tie.Need-source-width-requires
 source-width-requires c κs = search needs
@@ -92,15 +114,34 @@ judged-requires c κs = search needs
 returns-2 : tie.Need-returns-2
 unfolding countedBounds
 returns-2 c =
-    let few = counted-passed (length (nodeRecords (c .before .before .before .before .before .before .before .before .before .before .before .before .before .before .before .before .before .before .args .nodes .now))) nodeCount (sym (c .before .before .before .before .before .before .before .before .before .before .before .before .before .before .check-count .ensures) ∙ ap checkOf (c .before .before .before .before .before .before .before .before .before .before .before .before .enum-told .given .1)) in
-    let last : length (c .before .before .before .before .before .before .before .before .before .before .before .before .before .before .before .before .before .before .args .nodes .now) / nodeNumbers - 1 ≡ length (nodeRecords (c .before .before .before .before .before .before .before .before .before .before .before .before .before .before .before .before .before .before .args .nodes .now)) - 1 = omega (arith, length-records (c .before .before .before .before .before .before .before .before .before .before .before .before .before .before .before .before .before .before .args .nodes .now)) in
+    let args = c .before .before .before .before .before .before .before .before .before .before .before .before .before .before .before .before .before .before .before .args in
+    let nodes = args .nodes .now in
+    let some = sym (c .before .before .before .before .before .before .before .before .before .before .before .before .before .before .check-count .ensures) ∙ ap checkOf (c .before .before .before .before .before .before .before .before .before .before .before .before .enum-told .given .1) in
+    let few = counted-passed (length (nodeRecords nodes)) nodeCount some in
+    let last : length nodes / nodeNumbers - 1 ≡ length (nodeRecords nodes) - 1 = omega (arith, length-records nodes) in
     c .judged .ensures
-    ∙ totals-judged (c .before .before .before .before .before .before .before .before .before .before .before .before .before .before .before .before .before .before .args .widths .now) (nodeRecords (c .before .before .before .before .before .before .before .before .before .before .before .before .before .before .before .before .before .before .args .nodes .now)) (arrowRecords (c .before .before .before .before .before .before .before .before .before .before .before .before .before .before .before .before .before .before .args .arrows .now)) _ (c .before .before .before .before .before .before .before .before .before .source-width .result) (c .before .before .before .before .before .before .before .target-width .result) _ _ _
-    (row-read (c .before .before .before .before .before .before .before .before .before .before .before .before .before .before .before .before .before .before .args .widths .now) (nodeRecords (c .before .before .before .before .before .before .before .before .before .before .before .before .before .before .before .before .before .before .args .nodes .now)) (arrowRecords (c .before .before .before .before .before .before .before .before .before .before .before .before .before .before .before .before .before .before .args .arrows .now)) (c .before .before .before .before .before .before .before .before .before .before .before .node-rows .result) (length (c .before .before .before .before .before .before .before .before .before .before .before .before .before .before .before .before .before .before .args .nodes .now) / nodeNumbers - 1) (omega (arith, length-records (c .before .before .before .before .before .before .before .before .before .before .before .before .before .before .before .before .before .before .args .nodes .now), few .0, few .1)) (c .before .before .before .before .before .before .before .before .before .before .before .node-rows .ensures) ∙ ap (heldAt (c .before .before .before .before .before .before .before .before .before .before .before .before .before .before .before .before .before .before .args .widths .now) (nodeRecords (c .before .before .before .before .before .before .before .before .before .before .before .before .before .before .before .before .before .before .args .nodes .now)) (arrowRecords (c .before .before .before .before .before .before .before .before .before .before .before .before .before .before .before .before .before .before .args .arrows .now))) last)
-    (c .before .before .before .before .before .before .before .before .before .source-width .ensures (nodeRecords (c .before .before .before .before .before .before .before .before .before .before .before .before .before .before .before .before .before .before .args .nodes .now)) ∙ ap (sourceWidth (c .before .before .before .before .before .before .before .before .before .before .before .before .before .before .before .before .before .before .args .widths .now) (nodeRecords (c .before .before .before .before .before .before .before .before .before .before .before .before .before .before .before .before .before .before .args .nodes .now)) (arrowRecords (c .before .before .before .before .before .before .before .before .before .before .before .before .before .before .before .before .before .before .args .arrows .now))) last) (c .before .before .before .before .before .before .before .target-width .ensures (nodeRecords (c .before .before .before .before .before .before .before .before .before .before .before .before .before .before .before .before .before .before .args .nodes .now)) ∙ ap (targetWidth (c .before .before .before .before .before .before .before .before .before .before .before .before .before .before .before .before .before .before .args .widths .now) (nodeRecords (c .before .before .before .before .before .before .before .before .before .before .before .before .before .before .before .before .before .before .args .nodes .now)) (arrowRecords (c .before .before .before .before .before .before .before .before .before .before .before .before .before .before .before .before .before .before .args .arrows .now))) last)
-    (c .before .before .before .before .up-to .ensures ∙ ap (upTo cellCount) (omega (arith, c .before .before .before .before .before .before .before .before .wide .ensures .0, c .before .before .before .before .before .before .wide2 .ensures .0, c .before .before .before .before .before .wide3 .ensures .0)))
+    ∙ totals-judged (typeRecords (args .types .now)) (args .widths .now) (nodeRecords (args .nodes .now)) (arrowRecords (args .arrows .now)) _
+    (c .before .before .before .before .before .before .before .before .before .source-width .result)
+    (c .before .before .before .before .before .before .before .target-width .result) _ _ _
+    (row-read (typeRecords (args .types .now)) (args .widths .now) (nodeRecords (args .nodes .now)) (arrowRecords (args .arrows .now))
+    (c .before .before .before .before .before .before .before .before .before .before .before .node-rows .result) (length nodes / nodeNumbers - 1)
+    (omega (arith, length-records nodes, few .0, few .1))
+    (c .before .before .before .before .before .before .before .before .before .before .before .node-rows .ensures)
+    ∙ ap (heldAt (typeRecords (args .types .now)) (args .widths .now) (nodeRecords (args .nodes .now)) (arrowRecords (args .arrows .now))) last)
+    (c .before .before .before .before .before .before .before .before .before .source-width .ensures
+    ∙ ap (sourceWidth (args .widths .now) (arrowRecords (args .arrows .now))) last)
+    (c .before .before .before .before .before .before .before .target-width .ensures
+    ∙ ap (targetWidth (args .widths .now) (arrowRecords (args .arrows .now))) last)
+    (c .before .before .before .before .up-to .ensures
+    ∙ ap (upTo cellCount) (omega (
+      arith,
+      c .before .before .before .before .before .before .before .before .wide .ensures .0,
+      c .before .before .before .before .before .before .wide2 .ensures .0,
+      c .before .before .before .before .before .wide3 .ensures .0,
+    )))
     (c .before .before .up-to2 .ensures ∙ ap (upTo frameCount) (omega (arith, c .before .before .before .wide4 .ensures .0))) refl
-    ∙ passes (sym (c .before .before .before .before .before .before .before .before .before .before .before .before .before .before .check-count .ensures) ∙ ap checkOf (c .before .before .before .before .before .before .before .before .before .before .before .before .enum-told .given .1)) (λ x. limited (lentTotals (c .before .before .before .before .before .before .before .before .before .before .before .before .before .before .before .before .before .before .args .widths .now) (nodeRecords (c .before .before .before .before .before .before .before .before .before .before .before .before .before .before .before .before .before .before .args .nodes .now)) (arrowRecords (c .before .before .before .before .before .before .before .before .before .before .before .before .before .before .before .before .before .before .args .arrows .now))))
+    ∙ passes some (λ x. limited (lentTotals (typeRecords (args .types .now)) (args .widths .now) (nodeRecords (args .nodes .now))
+    (arrowRecords (args .arrows .now))))
 
 pub bounds-spec : {M : Type 1} → statement M
 bounds-spec =

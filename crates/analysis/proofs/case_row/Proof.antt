@@ -29,7 +29,14 @@ of-requires c κs = search needs
 
 returns : tie.Need-returns
 unfolding caseRow
-returns c = bound-eq (c .before .before .before .before .up-to .ensures ∙ ap (upTo cellCount) (c .before .before .before .before .before .larger .ensures .0)) (c .before .before .up-to2 .ensures ∙ ap (upTo frameCount) (c .before .before .before .larger2 .ensures .0)) (c .of .ensures ∙ ap (λ w. upTo costLimit (nodeCost + w)) (c .before .larger3 .ensures .0))
+returns c =
+    let larger-call = c .before .before .before .before .before .larger in
+    let up-to-call = c .before .before .before .before .up-to in
+    let larger2-call = c .before .before .before .larger2 in
+    let up-to2-call = c .before .before .up-to2 in
+    bound-eq (up-to-call .ensures ∙ ap (upTo cellCount) (larger-call .ensures .0))
+    (up-to2-call .ensures ∙ ap (upTo frameCount) (larger2-call .ensures .0))
+    (c .of .ensures ∙ ap (λ w. upTo costLimit (nodeCost + w)) (c .before .larger3 .ensures .0))
 
 pub case-row-spec : {M : Type 1} → statement M
 case-row-spec =

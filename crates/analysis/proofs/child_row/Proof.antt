@@ -29,10 +29,15 @@ add-requires c κs = search needs
 returns : tie.Need-returns
 unfolding childRow
 returns c =
+    let args = c .before .before .before .before .before .before .before .args in
+    let of-call = c .before .before .before .before .before .of in
+    let wide-call = c .before .before .before .before .wide in
+    let up-to-call = c .before .before .before .up-to in
+    let wide2-call = c .before .before .wide2 in
     bound-eq
-    (c .before .before .before .up-to .ensures ∙ ap (upTo cellCount) (c .before .before .before .before .wide .ensures .0))
-    (c .before .up-to2 .ensures ∙ ap (upTo frameCount) (c .before .before .wide2 .ensures .0))
-    (child-price (c .before .before .before .before .before .before .before .args .child .cost .units) (c .add .ensures) (c .before .before .before .before .before .of .ensures))
+    (up-to-call .ensures ∙ ap (upTo cellCount) (wide-call .ensures .0))
+    (c .before .up-to2 .ensures ∙ ap (upTo frameCount) (wide2-call .ensures .0))
+    (child-price (args .child .cost .units) (c .add .ensures) (of-call .ensures))
 
 pub child-row-spec : {M : Type 1} → statement M
 child-row-spec =

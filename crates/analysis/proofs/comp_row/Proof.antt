@@ -44,7 +44,19 @@ add-requires-2 c κs = search needs
 
 returns : tie.Need-returns
 unfolding compRow
-returns c = bound-eq (c .before .before .before .before .before .before .up-to .ensures ∙ ap₂ (λ x y. upTo cellCount (x + y)) (c .before .before .before .before .before .before .before .before .wide .ensures .0) (c .before .before .before .before .before .before .before .larger .ensures .0)) (c .before .before .before .before .up-to2 .ensures ∙ ap (λ x. upTo frameCount (1 + x)) (c .before .before .before .before .before .larger2 .ensures .0)) (price (nodeCost + c .before .before .before .before .before .before .before .before .before .before .before .args .middle) (c .before .before .before .before .before .before .before .before .before .before .before .args .left .cost .units) (c .before .before .before .before .before .before .before .before .before .before .before .args .right .cost .units) (c .add2 .ensures) (c .before .before .of .ensures ∙ ap (λ x. upTo costLimit (nodeCost + x)) (c .before .before .before .wide2 .ensures .0)) (c .before .add .ensures))
+returns c =
+    let args = c .before .before .before .before .before .before .before .before .before .before .before .args in
+    let wide-call = c .before .before .before .before .before .before .before .before .wide in
+    let larger-call = c .before .before .before .before .before .before .before .larger in
+    let up-to-call = c .before .before .before .before .before .before .up-to in
+    let larger2-call = c .before .before .before .before .before .larger2 in
+    let up-to2-call = c .before .before .before .before .up-to2 in
+    let wide2-call = c .before .before .before .wide2 in
+    let of-call = c .before .before .of in
+    bound-eq (up-to-call .ensures ∙ ap₂ (λ x y. upTo cellCount (x + y)) (wide-call .ensures .0) (larger-call .ensures .0))
+    (up-to2-call .ensures ∙ ap (λ x. upTo frameCount (1 + x)) (larger2-call .ensures .0))
+    (price (nodeCost + args .middle) (args .left .cost .units) (args .right .cost .units) (c .add2 .ensures)
+    (of-call .ensures ∙ ap (λ x. upTo costLimit (nodeCost + x)) (wide2-call .ensures .0)) (c .before .add .ensures))
 
 pub comp-row-spec : {M : Type 1} → statement M
 comp-row-spec =

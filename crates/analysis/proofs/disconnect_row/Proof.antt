@@ -70,9 +70,22 @@ add-requires-2 c κs = search needs
 
 returns : tie.Need-returns
 unfolding disconnectRow width wordTy
-returns c = bound-eq (c .before .before .before .before .before .before .up-to .ensures ∙ ap (upTo cellCount) (omega (arith, c .before .before .before .before .before .before .before .before .before .before .wide .ensures .0, c .before .before .before .before .before .before .before .before .before .wide2 .ensures .0, c .before .before .before .before .before .before .before .before .wide3 .ensures .0, c .before .before .before .before .before .before .before .larger .ensures .0)))
-    (c .before .before .before .before .up-to2 .ensures ∙ ap (λ x. upTo frameCount (2 + x)) (c .before .before .before .before .before .larger2 .ensures .0))
-    (price (nodeCost + (2 * (width (wordTy 8) + c .before .before .before .before .before .before .before .before .before .before .before .before .before .args .source) + (c .before .before .before .before .before .before .before .before .before .before .before .before .before .args .kept + c .before .before .before .before .before .before .before .before .before .before .before .before .before .args .handed) + c .before .before .before .before .before .before .before .before .before .before .before .before .before .args .kept)) (c .before .before .before .before .before .before .before .before .before .before .before .before .before .args .left .cost .units) (c .before .before .before .before .before .before .before .before .before .before .before .before .before .args .right .cost .units) (c .add2 .ensures) (c .before .before .of .ensures ∙ ap (λ x. upTo costLimit (nodeCost + x)) (omega arith)) (c .before .add .ensures))
+returns c =
+    let args = c .before .before .before .before .before .before .before .before .before .before .before .before .before .args in
+    let wide-call = c .before .before .before .before .before .before .before .before .before .before .wide in
+    let wide2-call = c .before .before .before .before .before .before .before .before .before .wide2 in
+    let wide3-call = c .before .before .before .before .before .before .before .before .wide3 in
+    let larger-call = c .before .before .before .before .before .before .before .larger in
+    let up-to-call = c .before .before .before .before .before .before .up-to in
+    let larger2-call = c .before .before .before .before .before .larger2 in
+    let up-to2-call = c .before .before .before .before .up-to2 in
+    let of-call = c .before .before .of in
+    bound-eq (up-to-call .ensures ∙ ap (upTo cellCount)
+    (omega (arith, wide-call .ensures .0, wide2-call .ensures .0, wide3-call .ensures .0, larger-call .ensures .0)))
+    (up-to2-call .ensures ∙ ap (λ x. upTo frameCount (2 + x)) (larger2-call .ensures .0))
+    (price (nodeCost + (2 * (width (wordTy 8) + args .source) + (args .kept + args .handed) + args .kept)) (args .left .cost .units)
+    (args .right .cost .units) (c .add2 .ensures) (of-call .ensures ∙ ap (λ x. upTo costLimit (nodeCost + x)) (omega arith))
+    (c .before .add .ensures))
 
 pub disconnect-row-spec : {M : Type 1} → statement M
 disconnect-row-spec =

@@ -37,22 +37,41 @@ fail-row-requires c κs = search needs
 
 returns : tie.Need-returns
 unfolding rowOf kindOf
-returns c = λ rs a b x y. row-as (c .before .before .before .before .before .args .widths .now) rs (arrowRecords (c .before .before .before .before .before .args .arrows .now)) (c .before .before .before .before .before .args .i) a b x y (c .before .before .before .before .before .args .kind) 8 (c .before .before .match .keys1) (c .copy-row .ensures ∙ ap (λ w. held (copyRow w)) (c .before .source-width .ensures rs))
+returns c =
+    let args = c .before .before .before .before .before .args in
+    let match-found = c .before .before .match in
+    λ ts rs a b x y. row-as ts (args .widths .now) rs (arrowRecords (args .arrows .now)) (args .i) a b x y (args .kind) 8 (match-found .keys1)
+    (c .copy-row .ensures ∙ ap (λ w. held (copyRow w)) (c .before .source-width .ensures))
 
 returns-2 : tie.Need-returns-2
 unfolding rowOf kindOf
-returns-2 c = λ rs a b x y. row-as (c .before .before .before .before .args .widths .now) rs (arrowRecords (c .before .before .before .before .args .arrows .now)) (c .before .before .before .before .args .i) a b x y (c .before .before .before .before .args .kind) 9 (c .before .match .keys2) (c .unit-row .ensures)
+returns-2 c =
+    let args = c .before .before .before .before .args in
+    λ ts rs a b x y. row-as ts (args .widths .now) rs (arrowRecords (args .arrows .now)) (args .i) a b x y (args .kind) 9 (c .before .match .keys2)
+    (c .unit-row .ensures)
 
 returns-3 : tie.Need-returns-3
 unfolding rowOf kindOf
-returns-3 c = λ rs a b x y. row-as (c .before .before .before .before .before .args .widths .now) rs (arrowRecords (c .before .before .before .before .before .args .arrows .now)) (c .before .before .before .before .before .args .i) a b x y (c .before .before .before .before .before .args .kind) 12 (c .before .before .match .keys3) (c .witness-row .ensures ∙ ap (λ w. held (witnessRow w)) (c .before .target-width .ensures rs))
+returns-3 c =
+    let args = c .before .before .before .before .before .args in
+    let match-found = c .before .before .match in
+    λ ts rs a b x y. row-as ts (args .widths .now) rs (arrowRecords (args .arrows .now)) (args .i) a b x y (args .kind) 12 (match-found .keys3)
+    (c .witness-row .ensures ∙ ap (λ w. held (witnessRow w)) (c .before .target-width .ensures))
 
 returns-4 : tie.Need-returns-4
 unfolding rowOf kindOf
-returns-4 c = λ rs a b x y. row-as (c .before .before .before .before .before .args .widths .now) rs (arrowRecords (c .before .before .before .before .before .args .arrows .now)) (c .before .before .before .before .before .args .i) a b x y (c .before .before .before .before .before .args .kind) 14 (c .before .before .match .keys4) (c .copy-row2 .ensures ∙ ap (λ w. held (copyRow w)) (c .before .target-width2 .ensures rs))
+returns-4 c =
+    let args = c .before .before .before .before .before .args in
+    let match-found = c .before .before .match in
+    λ ts rs a b x y. row-as ts (args .widths .now) rs (arrowRecords (args .arrows .now)) (args .i) a b x y (args .kind) 14 (match-found .keys4)
+    (c .copy-row2 .ensures ∙ ap (λ w. held (copyRow w)) (c .before .target-width2 .ensures))
 
 returns-5 : tie.Need-returns-5
-returns-5 c = λ rs a b x y. c .fail-row .ensures ∙ row-none (c .before .before .before .before .args .widths .now) rs (arrowRecords (c .before .before .before .before .args .arrows .now)) (c .before .before .before .before .args .i) a b x y (c .before .before .before .before .args .kind) (c .before .before .before .before .pre) (c .before .match .rest .0 .0 .0 .1) (c .before .match .rest .0 .0 .1) (c .before .match .rest .0 .1) (c .before .match .rest .1)
+returns-5 c =
+    let start = c .before .before .before .before in
+    let match-found = c .before .match in
+    λ ts rs a b x y. c .fail-row .ensures ∙ row-none ts (start .args .widths .now) rs (arrowRecords (start .args .arrows .now)) (start .args .i) a b x
+    y (start .args .kind) (start .pre) (match-found .rest .0 .0 .0 .1) (match-found .rest .0 .0 .1) (match-found .rest .0 .1) (match-found .rest .1)
 
 pub leaf-row-spec : {M : Type 1} → statement M
 leaf-row-spec =

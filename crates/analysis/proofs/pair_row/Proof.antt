@@ -31,7 +31,16 @@ add-requires-2 c κs = search needs
 
 returns : tie.Need-returns
 unfolding pairRow
-returns c = bound-eq (c .before .before .before .before .before .up-to .ensures ∙ ap (upTo cellCount) (c .before .before .before .before .before .before .larger .ensures .0)) (c .before .before .before .up-to2 .ensures ∙ ap (upTo frameCount) (c .before .before .before .before .larger2 .ensures .0)) (price nodeCost (c .before .before .before .before .before .before .before .before .before .args .left .cost .units) (c .before .before .before .before .before .before .before .before .before .args .right .cost .units) (c .add2 .ensures) (c .before .before .of .ensures) (c .before .add .ensures))
+returns c =
+    let args = c .before .before .before .before .before .before .before .before .before .args in
+    let larger-call = c .before .before .before .before .before .before .larger in
+    let up-to-call = c .before .before .before .before .before .up-to in
+    let larger2-call = c .before .before .before .before .larger2 in
+    let up-to2-call = c .before .before .before .up-to2 in
+    let of-call = c .before .before .of in
+    bound-eq (up-to-call .ensures ∙ ap (upTo cellCount) (larger-call .ensures .0))
+    (up-to2-call .ensures ∙ ap (upTo frameCount) (larger2-call .ensures .0))
+    (price nodeCost (args .left .cost .units) (args .right .cost .units) (c .add2 .ensures) (of-call .ensures) (c .before .add .ensures))
 
 pub pair-row-spec : {M : Type 1} → statement M
 pair-row-spec =

@@ -3,6 +3,7 @@ use mathlib.Core.Path.{_∙_}
 use Prim.Native.Nat.{_-_}
 use native.Mathlib.Omega.{arith}
 use borrow.Author.Needs.{needs}
+use Rattle.scope.specs.Types.{typeRecords}
 use Rattle.scope.specs.Nodes.{nodeRecords}
 use Rattle.scope.specs.Arrows.{arrowRecords}
 use Rattle.analysis.specs.Held.{plain}
@@ -20,13 +21,20 @@ child-row-requires : tie.Need-child-row-requires
 child-row-requires c κs = search needs
 
 returns-2 : tie.Need-returns-2
-returns-2 c = c .child-row .ensures ∙ row-child (c .before .before .before .before .before .before .before .before .args .widths .now) (nodeRecords (c .before .before .before .before .before .before .before .before .args .nodes .now)) (arrowRecords (c .before .before .before .before .before .before .before .before .args .arrows .now)) (c .before .before .before .before .before .before .before .before .args .i) (c .before .before .before .before .before .before .before .before .args .r .first) (c .before .before .before .before .before .before .before .before .args .r .second) (plain (c .before .before .before .before .before .before .before .before .args .left)) (plain (c .before .before .before .before .before .before .before .before .args .right)) (c .before .before .before .before .before .before .before .before .args .r .kind) (omega arith) (omega arith)
+returns-2 c =
+    let args = c .before .before .before .before .before .before .before .before .before .args in
+    c .child-row .ensures
+    ∙ row-child (typeRecords (args .types .now)) (args .widths .now) (nodeRecords (args .nodes .now)) (arrowRecords (args .arrows .now)) (args .i)
+    (args .r .first) (args .r .second) (plain (args .left)) (plain (args .right)) (args .r .kind) (omega arith) (omega arith)
 
 leaf-row-requires : tie.Need-leaf-row-requires
 leaf-row-requires c κs = search needs
 
 returns-3 : tie.Need-returns-3
-returns-3 c = c .leaf-row .ensures (nodeRecords (c .before .before .before .before .before .before .before .before .args .nodes .now)) (c .before .before .before .before .before .before .before .before .args .r .first) (c .before .before .before .before .before .before .before .before .args .r .second) (plain (c .before .before .before .before .before .before .before .before .args .left)) (plain (c .before .before .before .before .before .before .before .before .args .right))
+returns-3 c =
+    let args = c .before .before .before .before .before .before .before .before .before .args in
+    c .leaf-row .ensures (typeRecords (args .types .now)) (nodeRecords (args .nodes .now)) (args .r .first) (args .r .second) (plain (args .left))
+    (plain (args .right))
 
 pub row-spec : {M : Type 1} → statement M
 row-spec =

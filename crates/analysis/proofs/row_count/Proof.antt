@@ -2,7 +2,7 @@
 use Prim.Native.Nat.{_-_}
 use native.Mathlib.Omega.{arith}
 use borrow.Author.Needs.{needs}
-use Rattle.table.proofs.Records.{length-records}
+use Rattle.common.specs.Nodes.{length-records}
 use Rattle.analysis.proofs.row_count.Statement.{statement}
 use Rattle.analysis.proofs.row_count.Tie as tie
 

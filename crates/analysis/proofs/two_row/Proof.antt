@@ -4,11 +4,12 @@ use Prim.Native.Nat.{_+_, _-_}
 use native.Mathlib.Omega.{arith}
 use borrow.Author.Needs.{needs}
 use Rattle.report.specs.Types.{width, wordTy}
+use Rattle.scope.specs.Types.{typeRecords}
 use Rattle.scope.specs.Nodes.{nodeRecords, kindOf}
 use Rattle.scope.specs.Arrows.{arrowRecords}
 use Rattle.scope.specs.Bounds.{compRow, disconnectRow}
 use Rattle.analysis.specs.Held.{held, plain}
-use Rattle.analysis.specs.Rows.{caseBound, keptWidth, rowOf}
+use Rattle.analysis.specs.Rows.{caseBound, rowOf}
 use Rattle.analysis.proofs.RowKinds.{row-as}
 use Rattle.analysis.proofs.two_row.Statement.{statement}
 use Rattle.analysis.proofs.two_row.Tie as tie
@@ -45,21 +46,45 @@ disconnect-row-requires c κs = search needs
 
 returns : tie.Need-returns
 unfolding rowOf kindOf
-returns c = row-as (c .before .before .before .before .before .before .args .widths .now) (nodeRecords (c .before .before .before .before .before .before .args .nodes .now)) (arrowRecords (c .before .before .before .before .before .before .args .arrows .now)) (c .before .before .before .before .before .before .args .i) (c .before .before .before .before .before .before .args .r .first) (c .before .before .before .before .before .before .args .r .second) (plain (c .before .before .before .before .before .before .args .left)) (plain (c .before .before .before .before .before .before .args .right)) (c .before .before .before .before .before .before .args .r .kind) 0 (c .before .before .match .keys1) (c .comp-row .ensures ∙ ap (λ w. held (compRow w (plain (c .before .before .before .before .before .before .args .left)) (plain (c .before .before .before .before .before .before .args .right)))) (c .before .target-width .ensures (nodeRecords (c .before .before .before .before .before .before .args .nodes .now))))
+returns c =
+    let args = c .before .before .before .before .before .before .before .args in
+    let left = plain (args .left) in
+    let right = plain (args .right) in
+    row-as (typeRecords (args .types .now)) (args .widths .now) (nodeRecords (args .nodes .now)) (arrowRecords (args .arrows .now)) (args .i)
+    (args .r .first) (args .r .second) left right (args .r .kind) 0 (c .before .before .match .keys1)
+    (c .comp-row .ensures ∙ ap (λ w. held (compRow w left right)) (c .before .target-width .ensures))
 
 returns-2 : tie.Need-returns-2
 unfolding rowOf kindOf
-returns-2 c = row-as (c .before .before .before .before .before .before .before .args .widths .now) (nodeRecords (c .before .before .before .before .before .before .before .args .nodes .now)) (arrowRecords (c .before .before .before .before .before .before .before .args .arrows .now)) (c .before .before .before .before .before .before .before .args .i) (c .before .before .before .before .before .before .before .args .r .first) (c .before .before .before .before .before .before .before .args .r .second) (plain (c .before .before .before .before .before .before .before .args .left)) (plain (c .before .before .before .before .before .before .before .args .right)) (c .before .before .before .before .before .before .before .args .r .kind) 1 (c .before .before .before .match .keys2) (c .case-bound .ensures ∙ ap₂ (λ x y. held (caseBound x y (plain (c .before .before .before .before .before .before .before .args .left)) (plain (c .before .before .before .before .before .before .before .args .right)))) (c .before .before .hidden-at .ensures) (c .before .hidden-at2 .ensures))
+returns-2 c =
+    let args = c .before .before .before .before .before .before .before .before .args in
+    let left = plain (args .left) in
+    let right = plain (args .right) in
+    row-as (typeRecords (args .types .now)) (args .widths .now) (nodeRecords (args .nodes .now)) (arrowRecords (args .arrows .now)) (args .i)
+    (args .r .first) (args .r .second) left right (args .r .kind) 1 (c .before .before .before .match .keys2)
+    (c .case-bound .ensures ∙ ap₂ (λ x y. held (caseBound x y left right)) (c .before .before .hidden-at .ensures) (c .before .hidden-at2 .ensures))
 
 returns-3 : tie.Need-returns-3
 unfolding rowOf kindOf
-returns-3 c = row-as (c .before .before .before .before .before .args .widths .now) (nodeRecords (c .before .before .before .before .before .args .nodes .now)) (arrowRecords (c .before .before .before .before .before .args .arrows .now)) (c .before .before .before .before .before .args .i) (c .before .before .before .before .before .args .r .first) (c .before .before .before .before .before .args .r .second) (plain (c .before .before .before .before .before .args .left)) (plain (c .before .before .before .before .before .args .right)) (c .before .before .before .before .before .args .r .kind) 2 (c .before .match .keys3) (c .pair-row .ensures)
+returns-3 c =
+    let args = c .before .before .before .before .before .before .args in
+    let left = plain (args .left) in
+    let right = plain (args .right) in
+    row-as (typeRecords (args .types .now)) (args .widths .now) (nodeRecords (args .nodes .now)) (arrowRecords (args .arrows .now)) (args .i)
+    (args .r .first) (args .r .second) left right (args .r .kind) 2 (c .before .match .keys3) (c .pair-row .ensures)
 
 returns-4 : tie.Need-returns-4
 unfolding rowOf kindOf
-returns-4 c = row-as (c .before .before .before .before .before .before .before .before .args .widths .now) (nodeRecords (c .before .before .before .before .before .before .before .before .args .nodes .now)) (arrowRecords (c .before .before .before .before .before .before .before .before .args .arrows .now)) (c .before .before .before .before .before .before .before .before .args .i) (c .before .before .before .before .before .before .before .before .args .r .first) (c .before .before .before .before .before .before .before .before .args .r .second) (plain (c .before .before .before .before .before .before .before .before .args .left)) (plain (c .before .before .before .before .before .before .before .before .args .right)) (c .before .before .before .before .before .before .before .before .args .r .kind) 3 (omega arith) (c .disconnect-row .ensures
-    ∙ ap (λ k. held (disconnectRow (width (wordTy 8) + c .before .before .before .source-width .result) (k + c .before .source-width2 .result) k (plain (c .before .before .before .before .before .before .before .before .args .left)) (plain (c .before .before .before .before .before .before .before .before .args .right)))) (c .before .before .kept-width .ensures (nodeRecords (c .before .before .before .before .before .before .before .before .args .nodes .now)))
-    ∙ ap₂ (λ s h. held (disconnectRow (width (wordTy 8) + s) (keptWidth (c .before .before .before .before .before .before .before .before .args .widths .now) (nodeRecords (c .before .before .before .before .before .before .before .before .args .nodes .now)) (arrowRecords (c .before .before .before .before .before .before .before .before .args .arrows .now)) (c .before .before .before .before .before .before .before .before .args .i) (c .before .before .before .before .before .before .before .before .args .r .second) + h) (keptWidth (c .before .before .before .before .before .before .before .before .args .widths .now) (nodeRecords (c .before .before .before .before .before .before .before .before .args .nodes .now)) (arrowRecords (c .before .before .before .before .before .before .before .before .args .arrows .now)) (c .before .before .before .before .before .before .before .before .args .i) (c .before .before .before .before .before .before .before .before .args .r .second)) (plain (c .before .before .before .before .before .before .before .before .args .left)) (plain (c .before .before .before .before .before .before .before .before .args .right)))) (c .before .before .before .source-width .ensures (nodeRecords (c .before .before .before .before .before .before .before .before .args .nodes .now))) (c .before .source-width2 .ensures (nodeRecords (c .before .before .before .before .before .before .before .before .args .nodes .now))))
+returns-4 c =
+    let source-is = c .before .before .before .source-width .ensures in
+    let kept-is = c .before .before .kept-width .ensures in
+    let handed-is = c .before .source-width2 .ensures in
+    let args = c .before .before .before .before .before .before .before .before .before .args in
+    let left = plain (args .left) in
+    let right = plain (args .right) in
+    row-as (typeRecords (args .types .now)) (args .widths .now) (nodeRecords (args .nodes .now)) (arrowRecords (args .arrows .now)) (args .i)
+    (args .r .first) (args .r .second) left right (args .r .kind) 3 (omega arith)
+    (c .disconnect-row .ensures ∙ (λ k. held (disconnectRow (width (wordTy 8) + source-is k) (kept-is k + handed-is k) (kept-is k) left right)))
 
 pub two-row-spec : {M : Type 1} → statement M
 two-row-spec =

@@ -23,9 +23,14 @@ all3-requires : tie.Need-all3-requires
 all3-requires c κs = search needs
 
 returns : tie.Need-returns
-returns c = c .all3 .ensures
-    ∙ arrow-is (typeRecords (c .before .before .before .before .before .before .before .before .before .args .types .now)) (c .before .before .before .before .before .before .before .before .before .args .nodes .now) (arrowRecords (c .before .before .before .before .before .before .before .before .before .args .arrows .now)) (c .before .before .before .before .before .before .before .before .before .args .i) (recordOf (c .before .before .before .before .record-at .result)) (c .before .before .before .before .record-at .ensures) (arrowOf (c .before .before .before .before .before .arrow-at .result)) _ _
-    (c .before .before .before .before .before .arrow-at .ensures) (sym (length-types (c .before .before .before .before .before .before .before .before .before .args .types .now))) (c .before .kind-fits .ensures)
+returns c =
+    let args = c .before .before .before .before .before .before .before .before .before .args in
+    let arrow-at-call = c .before .before .before .before .before .arrow-at in
+    let record-at-call = c .before .before .before .before .record-at in
+    c .all3 .ensures
+    ∙ arrow-is (typeRecords (args .types .now)) (args .nodes .now) (arrowRecords (args .arrows .now)) (args .i) (recordOf (record-at-call .result))
+    (record-at-call .ensures) (arrowOf (arrow-at-call .result)) _ _
+    (arrow-at-call .ensures) (sym (length-types (args .types .now))) (c .before .kind-fits .ensures)
 
 pub arrow-fits-spec : {M : Type 1} → statement M
 arrow-fits-spec =

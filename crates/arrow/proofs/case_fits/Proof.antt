@@ -38,8 +38,18 @@ all4-requires : tie.Need-all4-requires
 all4-requires c κs = search needs
 
 returns : tie.Need-returns
-returns c = c .all4 .ensures ∙ all-four (c .before .before .before .before .is-product .ensures) (c .before .before .before .is-sum .ensures) (c .before .before .branch-fits .ensures) (c .before .branch-fits2 .ensures)
-    ∙ case-is (typeRecords (c .before .before .before .before .before .before .before .before .before .before .before .before .args .types .now)) (lentNodes [] (c .before .before .before .before .before .before .before .before .before .before .before .before .args .nodes .now)) (arrowRecords (c .before .before .before .before .before .before .before .before .before .before .before .before .args .arrows .now)) (c .before .before .before .before .before .before .before .before .before .before .before .before .args .from) (c .before .before .before .before .before .before .before .before .before .before .before .before .args .to) (c .before .before .before .before .before .before .before .before .before .before .before .before .args .s) (c .before .before .before .before .before .before .before .before .before .before .before .before .args .t) _ _ _ _ (c .before .before .before .before .before .before .before .before .left-of .ensures) (c .before .before .before .before .before .before .before .right-of .ensures) (c .before .before .before .before .before .before .left-of2 .ensures) (c .before .before .before .before .before .right-of2 .ensures)
+returns c =
+    let args = c .before .before .before .before .before .before .before .before .before .before .before .before .args in
+    let left-of-call = c .before .before .before .before .before .before .before .before .left-of in
+    let right-of-call = c .before .before .before .before .before .before .before .right-of in
+    let left-of2-call = c .before .before .before .before .before .before .left-of2 in
+    let right-of2-call = c .before .before .before .before .before .right-of2 in
+    let is-product-call = c .before .before .before .before .is-product in
+    let is-sum-call = c .before .before .before .is-sum in
+    let branch-fits-call = c .before .before .branch-fits in
+    c .all4 .ensures ∙ all-four (is-product-call .ensures) (is-sum-call .ensures) (branch-fits-call .ensures) (c .before .branch-fits2 .ensures)
+    ∙ case-is (typeRecords (args .types .now)) (lentNodes [] (args .nodes .now)) (arrowRecords (args .arrows .now)) (args .from) (args .to) (args .s)
+    (args .t) _ _ _ _ (left-of-call .ensures) (right-of-call .ensures) (left-of2-call .ensures) (right-of2-call .ensures)
 
 pub case-fits-spec : {M : Type 1} → statement M
 case-fits-spec =

@@ -39,8 +39,20 @@ all5-requires : tie.Need-all5-requires
 all5-requires c κs = search needs
 
 returns : tie.Need-returns
-returns c = λ ns. c .all5 .ensures ∙ all-five (c .before .before .before .before .before .is-product .ensures) (c .before .before .before .before .is-word .ensures) (c .before .before .before .is-product2 .ensures) refl (c .before .is-product3 .ensures)
-    ∙ disconnect-is (typeRecords (c .before .before .before .before .before .before .before .before .before .before .before .before .before .args .types .now)) ns (arrowRecords (c .before .before .before .before .before .before .before .before .before .before .before .before .before .args .arrows .now)) (c .before .before .before .before .before .before .before .before .before .before .before .before .before .args .from) (c .before .before .before .before .before .before .before .before .before .before .before .before .before .args .to) (c .before .before .before .before .before .before .before .before .before .before .before .before .before .args .s) (c .before .before .before .before .before .before .before .before .before .before .before .before .before .args .t) _ _ _ _ _ (c .before .before .before .before .before .before .before .before .before .before .arrow-at .ensures) (c .before .before .before .before .before .before .before .before .before .arrow-at2 .ensures) (c .before .before .before .before .before .before .before .before .left-of .ensures) (c .before .before .before .before .before .before .before .left-of2 .ensures) (c .before .before .before .before .before .before .right-of .ensures)
+returns c =
+    let args = c .before .before .before .before .before .before .before .before .before .before .before .before .before .args in
+    let arrow-at-call = c .before .before .before .before .before .before .before .before .before .before .arrow-at in
+    let arrow-at2-call = c .before .before .before .before .before .before .before .before .before .arrow-at2 in
+    let left-of-call = c .before .before .before .before .before .before .before .before .left-of in
+    let left-of2-call = c .before .before .before .before .before .before .before .left-of2 in
+    let right-of-call = c .before .before .before .before .before .before .right-of in
+    let is-product-call = c .before .before .before .before .before .is-product in
+    let is-word-call = c .before .before .before .before .is-word in
+    let is-product2-call = c .before .before .before .is-product2 in
+    λ ns. c .all5 .ensures ∙ all-five (is-product-call .ensures) (is-word-call .ensures) (is-product2-call .ensures) refl
+    (c .before .is-product3 .ensures)
+    ∙ disconnect-is (typeRecords (args .types .now)) ns (arrowRecords (args .arrows .now)) (args .from) (args .to) (args .s) (args .t) _ _ _ _ _
+    (arrow-at-call .ensures) (arrow-at2-call .ensures) (left-of-call .ensures) (left-of2-call .ensures) (right-of-call .ensures)
 
 pub disconnect-fits-spec : {M : Type 1} → statement M
 disconnect-fits-spec =

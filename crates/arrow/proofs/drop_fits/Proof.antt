@@ -19,7 +19,9 @@ all2-requires c κs = search needs
 
 returns : tie.Need-returns
 unfolding kindRule source target
-returns c = λ ns. cc (ap (λ a. a .source) (c .before .before .before .before .arrow-at .ensures), ap (λ a. a .target) (c .before .before .before .before .arrow-at .ensures))
+returns c =
+    let arrow-at-call = c .before .before .before .before .arrow-at in
+    λ ns. cc (ap (λ a. a .source) (arrow-at-call .ensures), ap (λ a. a .target) (arrow-at-call .ensures))
 
 pub drop-fits-spec : {M : Type 1} → statement M
 drop-fits-spec =

@@ -22,7 +22,9 @@ other-fits-requires : tie.Need-other-fits-requires
 other-fits-requires c κs = search needs
 
 returns-3 : tie.Need-returns-3
-returns-3 c = c .other-fits .ensures (lentNodes [] (c .before .before .before .before .before .before .before .before .args .nodes .now)) (arrowRecords (c .before .before .before .before .before .before .before .before .args .arrows .now))
+returns-3 c =
+    let args = c .before .before .before .before .before .before .before .before .args in
+    c .other-fits .ensures (lentNodes [] (args .nodes .now)) (arrowRecords (args .arrows .now))
 
 pub kind-fits-spec : {M : Type 1} → statement M
 kind-fits-spec =

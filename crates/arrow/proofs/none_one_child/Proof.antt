@@ -10,8 +10,8 @@ use Rattle.scope.specs.Types.{TypeRecord}
 use Rattle.scope.specs.Nodes.{nodeRecords}
 use Rattle.scope.specs.Arrows.{noOneChild, Arrow}
 use Rattle.table.specs.Lent.{lentNodes}
-use Rattle.table.proofs.Records.{length-records}
-use Rattle.arrow.proofs.Passes.{Passing, pass-start, pass-more, pass-fails, pass-ends}
+use Rattle.common.specs.Nodes.{length-records}
+use Rattle.common.specs.Passes.{Passing, pass-start, pass-more, pass-fails, pass-ends}
 use Rattle.arrow.proofs.none_one_child.Statement.{statement}
 use Rattle.arrow.proofs.none_one_child.Tie as tie
 
@@ -25,25 +25,44 @@ cast-n : tie.Need-cast-n Inv-loop μ-loop
 cast-n c = omega (arith, length-records (c .before .args .nodes .now), c .before .pre)
 
 loop-holds : tie.Need-loop-holds Inv-loop μ-loop
-loop-holds c = λ ts as′. pass-start (noOneChild ts (lentNodes [] (c .before .args .nodes .now)) as′) (length (nodeRecords (c .before .args .nodes .now)))
+loop-holds c =
+    λ ts as′. pass-start (noOneChild ts (lentNodes [] (c .before .args .nodes .now)) as′) (length (nodeRecords (c .before .args .nodes .now)))
 
 not-one-child-requires : tie.Need-not-one-child-requires Inv-loop μ-loop
 not-one-child-requires c κs = search needs
 
 returns : tie.Need-returns Inv-loop μ-loop
-returns c = λ ts as′. pass-fails (noOneChild ts (lentNodes [] (c .before .before .before .before .before .args .nodes .now)) as′) (length (nodeRecords (c .before .before .before .before .before .args .nodes .now))) _ (c .before .before .before .loop .i) (omega (arith, length-records (c .before .before .before .before .before .args .nodes .now), c .before .before .loop-test .taken)) (sym (c .before .not-one-child .ensures ts as′) ∙ not-true _ (c .if1 .taken)) (c .before .before .before .loop .inv ts as′)
+returns c =
+    let args = c .before .before .before .before .before .args in
+    let turn = c .before .before .before .loop in
+    let loop-test-found = c .before .before .loop-test in
+    λ ts as′. pass-fails (noOneChild ts (lentNodes [] (args .nodes .now)) as′) (length (nodeRecords (args .nodes .now))) _ (turn .i)
+    (omega (arith, length-records (args .nodes .now), loop-test-found .taken))
+    (sym (c .before .not-one-child .ensures ts as′) ∙ not-true _ (c .if1 .taken)) (turn .inv ts as′)
 
 add-i : tie.Need-add-i Inv-loop μ-loop
-add-i c = omega (arith, length-records (c .before .before .before .before .before .args .nodes .now), c .before .before .loop-test .taken, c .before .before .before .before .before .pre)
+add-i c =
+    let start = c .before .before .before .before .before in
+    let loop-test-found = c .before .before .loop-test in
+    omega (arith, length-records (start .args .nodes .now), loop-test-found .taken, start .pre)
 
 loop-less : tie.Need-loop-less Inv-loop μ-loop
 loop-less c = omega (arith, length-records (c .before .before .before .before .before .args .nodes .now), c .before .before .loop-test .taken)
 
 loop-again : tie.Need-loop-again Inv-loop μ-loop
-loop-again c = λ ts as′. pass-more (noOneChild ts (lentNodes [] (c .before .before .before .before .before .args .nodes .now)) as′) (length (nodeRecords (c .before .before .before .before .before .args .nodes .now))) (c .before .before .before .loop .i) (omega (arith, length-records (c .before .before .before .before .before .args .nodes .now), c .before .before .loop-test .taken)) (sym (c .before .not-one-child .ensures ts as′) ∙ not-false _ (c .if1 .left)) (c .before .before .before .loop .inv ts as′)
+loop-again c =
+    let args = c .before .before .before .before .before .args in
+    let turn = c .before .before .before .loop in
+    let loop-test-found = c .before .before .loop-test in
+    λ ts as′. pass-more (noOneChild ts (lentNodes [] (args .nodes .now)) as′) (length (nodeRecords (args .nodes .now))) (turn .i)
+    (omega (arith, length-records (args .nodes .now), loop-test-found .taken))
+    (sym (c .before .not-one-child .ensures ts as′) ∙ not-false _ (c .if1 .left)) (turn .inv ts as′)
 
 returns-2 : tie.Need-returns-2 Inv-loop μ-loop
-returns-2 c = λ ts as′. pass-ends (noOneChild ts (lentNodes [] (c .before .before .before .args .nodes .now)) as′) (length (nodeRecords (c .before .before .before .args .nodes .now))) _ (c .before .loop .i) (omega (arith, length-records (c .before .before .before .args .nodes .now), c .loop-test .left)) (c .before .loop .inv ts as′)
+returns-2 c =
+    let args = c .before .before .before .args in
+    λ ts as′. pass-ends (noOneChild ts (lentNodes [] (args .nodes .now)) as′) (length (nodeRecords (args .nodes .now))) _ (c .before .loop .i)
+    (omega (arith, length-records (args .nodes .now), c .loop-test .left)) (c .before .loop .inv ts as′)
 
 pub none-one-child-spec : {M : Type 1} → statement M
 none-one-child-spec =

@@ -9,7 +9,9 @@ record-at-requires : tie.Need-record-at-requires
 record-at-requires c κs = search needs
 
 returns : tie.Need-returns
-returns c = λ ts as′. one-child-is ts (c .before .before .before .args .nodes .now) as′ (c .before .before .before .args .i) (recordOf (c .before .record-at .result)) (c .before .record-at .ensures)
+returns c =
+    let args = c .before .before .before .args in
+    λ ts as′. one-child-is ts (args .nodes .now) as′ (args .i) (recordOf (c .before .record-at .result)) (c .before .record-at .ensures)
 
 pub not-one-child-spec : {M : Type 1} → statement M
 not-one-child-spec = tie.close (tie.spec record-at-requires returns)

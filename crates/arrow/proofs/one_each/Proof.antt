@@ -7,9 +7,9 @@ use Rattle.refusal.specs.declared.Refusal.the-variants.{Arrow as BadArrow}
 use Rattle.scope.specs.Check.{require}
 use Rattle.scope.specs.Nodes.{nodeRecords}
 use Rattle.scope.specs.Arrows.{arrowRecords}
-use Rattle.table.specs.Answers.{checkOf}
-use Rattle.table.specs.declared.Checked.the-variants.{Refused}
-use Rattle.table.proofs.Records.{length-records}
+use Rattle.common.specs.Answers.{checkOf}
+use Rattle.common.specs.declared.Checked.the-variants.{Refused}
+use Rattle.common.specs.Nodes.{length-records}
 use Rattle.arrow.proofs.KindNumbers.{length-arrows}
 use Rattle.arrow.proofs.one_each.Statement.{statement}
 use Rattle.arrow.proofs.one_each.Tie as tie

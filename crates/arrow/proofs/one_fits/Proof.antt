@@ -22,19 +22,31 @@ drop-fits-requires c κs = search needs
 
 returns : tie.Need-returns
 unfolding nodeOf kindOf
-returns c = λ ns. as-kind (typeRecords (c .before .before .before .before .args .types .now)) ns (arrowRecords (c .before .before .before .before .args .arrows .now)) (c .before .before .before .before .args .from) (c .before .before .before .before .args .to) (c .before .before .before .before .args .r .first) (c .before .before .before .before .args .r .second) (c .before .before .before .before .args .r .kind) 4 (c .before .match .keys1) (c .injl-fits .ensures ns)
+returns c =
+    let args = c .before .before .before .before .args in
+    λ ns. as-kind (typeRecords (args .types .now)) ns (arrowRecords (args .arrows .now)) (args .from) (args .to) (args .r .first) (args .r .second)
+    (args .r .kind) 4 (c .before .match .keys1) (c .injl-fits .ensures ns)
 
 returns-2 : tie.Need-returns-2
 unfolding nodeOf kindOf
-returns-2 c = λ ns. as-kind (typeRecords (c .before .before .before .before .args .types .now)) ns (arrowRecords (c .before .before .before .before .args .arrows .now)) (c .before .before .before .before .args .from) (c .before .before .before .before .args .to) (c .before .before .before .before .args .r .first) (c .before .before .before .before .args .r .second) (c .before .before .before .before .args .r .kind) 5 (c .before .match .keys2) (c .injr-fits .ensures ns)
+returns-2 c =
+    let args = c .before .before .before .before .args in
+    λ ns. as-kind (typeRecords (args .types .now)) ns (arrowRecords (args .arrows .now)) (args .from) (args .to) (args .r .first) (args .r .second)
+    (args .r .kind) 5 (c .before .match .keys2) (c .injr-fits .ensures ns)
 
 returns-3 : tie.Need-returns-3
 unfolding nodeOf kindOf
-returns-3 c = λ ns. as-kind (typeRecords (c .before .before .before .before .args .types .now)) ns (arrowRecords (c .before .before .before .before .args .arrows .now)) (c .before .before .before .before .args .from) (c .before .before .before .before .args .to) (c .before .before .before .before .args .r .first) (c .before .before .before .before .args .r .second) (c .before .before .before .before .args .r .kind) 6 (c .before .match .keys3) (c .take-fits .ensures ns)
+returns-3 c =
+    let args = c .before .before .before .before .args in
+    λ ns. as-kind (typeRecords (args .types .now)) ns (arrowRecords (args .arrows .now)) (args .from) (args .to) (args .r .first) (args .r .second)
+    (args .r .kind) 6 (c .before .match .keys3) (c .take-fits .ensures ns)
 
 returns-4 : tie.Need-returns-4
 unfolding nodeOf kindOf
-returns-4 c = λ ns. as-kind (typeRecords (c .before .before .before .before .args .types .now)) ns (arrowRecords (c .before .before .before .before .args .arrows .now)) (c .before .before .before .before .args .from) (c .before .before .before .before .args .to) (c .before .before .before .before .args .r .first) (c .before .before .before .before .args .r .second) (c .before .before .before .before .args .r .kind) 7 (omega arith) (c .drop-fits .ensures ns)
+returns-4 c =
+    let args = c .before .before .before .before .args in
+    λ ns. as-kind (typeRecords (args .types .now)) ns (arrowRecords (args .arrows .now)) (args .from) (args .to) (args .r .first) (args .r .second)
+    (args .r .kind) 7 (omega arith) (c .drop-fits .ensures ns)
 
 pub one-fits-spec : {M : Type 1} → statement M
 one-fits-spec =

@@ -19,30 +19,53 @@ all2-requires c κs = search needs
 
 returns : tie.Need-returns
 unfolding kindRule nodeOf kindOf
-returns c = λ ns as′. as-kind (typeRecords (c .before .before .args .types .now)) ns as′ (c .before .before .args .from) (c .before .before .args .to) (c .before .before .args .r .first) (c .before .before .args .r .second) (c .before .before .args .r .kind) 8 (c .match .keys1) (refl)
+returns c =
+    let args = c .before .before .args in
+    λ ns as′. as-kind (typeRecords (args .types .now)) ns as′ (args .from) (args .to) (args .r .first) (args .r .second) (args .r .kind) 8
+    (c .match .keys1) (refl)
 
 returns-2 : tie.Need-returns-2
 unfolding kindRule nodeOf kindOf
-returns-2 c = λ ns as′. as-kind (typeRecords (c .before .before .before .args .types .now)) ns as′ (c .before .before .before .args .from) (c .before .before .before .args .to) (c .before .before .before .args .r .first) (c .before .before .before .args .r .second) (c .before .before .before .args .r .kind) 9 (c .before .match .keys2) (c .is-unit .ensures)
+returns-2 c =
+    let args = c .before .before .before .args in
+    λ ns as′. as-kind (typeRecords (args .types .now)) ns as′ (args .from) (args .to) (args .r .first) (args .r .second) (args .r .kind) 9
+    (c .before .match .keys2) (c .is-unit .ensures)
 
 returns-3 : tie.Need-returns-3
 unfolding kindRule nodeOf kindOf
-returns-3 c = λ ns as′. as-kind (typeRecords (c .before .before .args .types .now)) ns as′ (c .before .before .args .from) (c .before .before .args .to) (c .before .before .args .r .first) (c .before .before .args .r .second) (c .before .before .args .r .kind) 10 (c .match .keys3) (refl)
+returns-3 c =
+    let args = c .before .before .args in
+    λ ns as′. as-kind (typeRecords (args .types .now)) ns as′ (args .from) (args .to) (args .r .first) (args .r .second) (args .r .kind) 10
+    (c .match .keys3) (refl)
 
 returns-4 : tie.Need-returns-4
 unfolding kindRule nodeOf kindOf
-returns-4 c = λ ns as′. as-kind (typeRecords (c .before .before .args .types .now)) ns as′ (c .before .before .args .from) (c .before .before .args .to) (c .before .before .args .r .first) (c .before .before .args .r .second) (c .before .before .args .r .kind) 11 (c .match .keys4) (refl)
+returns-4 c =
+    let args = c .before .before .args in
+    λ ns as′. as-kind (typeRecords (args .types .now)) ns as′ (args .from) (args .to) (args .r .first) (args .r .second) (args .r .kind) 11
+    (c .match .keys4) (refl)
 
 returns-5 : tie.Need-returns-5
 unfolding kindRule nodeOf kindOf
-returns-5 c = λ ns as′. as-kind (typeRecords (c .before .before .args .types .now)) ns as′ (c .before .before .args .from) (c .before .before .args .to) (c .before .before .args .r .first) (c .before .before .args .r .second) (c .before .before .args .r .kind) 12 (c .match .keys5) (refl)
+returns-5 c =
+    let args = c .before .before .args in
+    λ ns as′. as-kind (typeRecords (args .types .now)) ns as′ (args .from) (args .to) (args .r .first) (args .r .second) (args .r .kind) 12
+    (c .match .keys5) (refl)
 
 returns-6 : tie.Need-returns-6
 unfolding nodeOf kindOf
-returns-6 c = λ ns as′. as-kind (typeRecords (c .before .before .before .args .types .now)) ns as′ (c .before .before .before .args .from) (c .before .before .before .args .to) (c .before .before .before .args .r .first) (c .before .before .before .args .r .second) (c .before .before .before .args .r .kind) 14 (c .before .match .keys6) (c .word-fits .ensures ns as′ _)
+returns-6 c =
+    let args = c .before .before .before .args in
+    λ ns as′. as-kind (typeRecords (args .types .now)) ns as′ (args .from) (args .to) (args .r .first) (args .r .second) (args .r .kind) 14
+    (c .before .match .keys6) (c .word-fits .ensures ns as′ _)
 
 returns-7 : tie.Need-returns-7
-returns-7 c = λ ns as′. c .all2 .ensures ∙ as-hidden (typeRecords (c .before .before .before .args .types .now)) ns as′ (c .before .before .before .args .from) (c .before .before .before .args .to) (c .before .before .before .args .r .first) (c .before .before .before .args .r .second) (c .before .before .before .args .r .kind) (c .before .before .before .pre) (c .before .match .rest .0 .0 .0 .0 .0 .1) (c .before .match .rest .0 .0 .0 .0 .1) (c .before .match .rest .0 .0 .0 .1) (c .before .match .rest .0 .0 .1) (c .before .match .rest .0 .1) (c .before .match .rest .1)
+returns-7 c =
+    let start = c .before .before .before in
+    let match-found = c .before .match in
+    λ ns as′. c .all2 .ensures ∙ as-hidden (typeRecords (start .args .types .now)) ns as′ (start .args .from) (start .args .to)
+    (start .args .r .first) (start .args .r .second) (start .args .r .kind) (start .pre) (match-found .rest .0 .0 .0 .0 .0 .1)
+    (match-found .rest .0 .0 .0 .0 .1) (match-found .rest .0 .0 .0 .1) (match-found .rest .0 .0 .1) (match-found .rest .0 .1) (match-found .rest .1)
 
 pub other-fits-spec : {M : Type 1} → statement M
 other-fits-spec =

@@ -19,7 +19,16 @@ all3-requires c κs = search needs
 
 returns : tie.Need-returns
 unfolding kindRule source target
-returns c = λ ns. cc (ap (λ a. a .source) (c .before .before .before .before .before .arrow-at .ensures), ap (λ a. a .target) (c .before .before .before .before .before .arrow-at .ensures), ap (λ a. a .source) (c .before .before .before .before .arrow-at2 .ensures), ap (λ a. a .target) (c .before .before .before .before .arrow-at2 .ensures))
+returns c =
+    let arrow-at-call = c .before .before .before .before .before .arrow-at in
+    let arrow-at2-call = c .before .before .before .before .arrow-at2 in
+    λ ns. cc (
+      ap (λ a. a .source) (arrow-at-call .ensures),
+      ap (λ a. a .target) (arrow-at-call .ensures),
+      ap (λ a. a .source)
+          (arrow-at2-call .ensures),
+      ap (λ a. a .target) (arrow-at2-call .ensures),
+    )
 
 pub pair-fits-spec : {M : Type 1} → statement M
 pair-fits-spec =

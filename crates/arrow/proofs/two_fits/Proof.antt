@@ -24,19 +24,32 @@ disconnect-fits-requires c κs = search needs
 
 returns : tie.Need-returns
 unfolding nodeOf kindOf
-returns c = as-kind (typeRecords (c .before .before .before .before .before .args .types .now)) (lentNodes [] (c .before .before .before .before .before .args .nodes .now)) (arrowRecords (c .before .before .before .before .before .args .arrows .now)) (c .before .before .before .before .before .args .from) (c .before .before .before .before .before .args .to) (c .before .before .before .before .before .args .r .first) (c .before .before .before .before .before .args .r .second) (c .before .before .before .before .before .args .r .kind) 0 (c .before .match .keys1) (c .comp-fits .ensures (typeRecords (c .before .before .before .before .before .args .types .now)) (lentNodes [] (c .before .before .before .before .before .args .nodes .now)))
+returns c =
+    let args = c .before .before .before .before .before .args in
+    as-kind (typeRecords (args .types .now)) (lentNodes [] (args .nodes .now)) (arrowRecords (args .arrows .now)) (args .from) (args .to)
+    (args .r .first) (args .r .second) (args .r .kind) 0 (c .before .match .keys1)
+    (c .comp-fits .ensures (typeRecords (args .types .now)) (lentNodes [] (args .nodes .now)))
 
 returns-2 : tie.Need-returns-2
 unfolding nodeOf kindOf
-returns-2 c = as-kind (typeRecords (c .before .before .before .before .before .args .types .now)) (lentNodes [] (c .before .before .before .before .before .args .nodes .now)) (arrowRecords (c .before .before .before .before .before .args .arrows .now)) (c .before .before .before .before .before .args .from) (c .before .before .before .before .before .args .to) (c .before .before .before .before .before .args .r .first) (c .before .before .before .before .before .args .r .second) (c .before .before .before .before .before .args .r .kind) 1 (c .before .match .keys2) (c .case-fits .ensures)
+returns-2 c =
+    let args = c .before .before .before .before .before .args in
+    as-kind (typeRecords (args .types .now)) (lentNodes [] (args .nodes .now)) (arrowRecords (args .arrows .now)) (args .from) (args .to)
+    (args .r .first) (args .r .second) (args .r .kind) 1 (c .before .match .keys2) (c .case-fits .ensures)
 
 returns-3 : tie.Need-returns-3
 unfolding nodeOf kindOf
-returns-3 c = as-kind (typeRecords (c .before .before .before .before .before .args .types .now)) (lentNodes [] (c .before .before .before .before .before .args .nodes .now)) (arrowRecords (c .before .before .before .before .before .args .arrows .now)) (c .before .before .before .before .before .args .from) (c .before .before .before .before .before .args .to) (c .before .before .before .before .before .args .r .first) (c .before .before .before .before .before .args .r .second) (c .before .before .before .before .before .args .r .kind) 2 (c .before .match .keys3) (c .pair-fits .ensures (lentNodes [] (c .before .before .before .before .before .args .nodes .now)))
+returns-3 c =
+    let args = c .before .before .before .before .before .args in
+    as-kind (typeRecords (args .types .now)) (lentNodes [] (args .nodes .now)) (arrowRecords (args .arrows .now)) (args .from) (args .to)
+    (args .r .first) (args .r .second) (args .r .kind) 2 (c .before .match .keys3) (c .pair-fits .ensures (lentNodes [] (args .nodes .now)))
 
 returns-4 : tie.Need-returns-4
 unfolding nodeOf kindOf
-returns-4 c = as-kind (typeRecords (c .before .before .before .before .before .args .types .now)) (lentNodes [] (c .before .before .before .before .before .args .nodes .now)) (arrowRecords (c .before .before .before .before .before .args .arrows .now)) (c .before .before .before .before .before .args .from) (c .before .before .before .before .before .args .to) (c .before .before .before .before .before .args .r .first) (c .before .before .before .before .before .args .r .second) (c .before .before .before .before .before .args .r .kind) 3 (omega arith) (c .disconnect-fits .ensures (lentNodes [] (c .before .before .before .before .before .args .nodes .now)))
+returns-4 c =
+    let args = c .before .before .before .before .before .args in
+    as-kind (typeRecords (args .types .now)) (lentNodes [] (args .nodes .now)) (arrowRecords (args .arrows .now)) (args .from) (args .to)
+    (args .r .first) (args .r .second) (args .r .kind) 3 (omega arith) (c .disconnect-fits .ensures (lentNodes [] (args .nodes .now)))
 
 pub two-fits-spec : {M : Type 1} → statement M
 two-fits-spec =

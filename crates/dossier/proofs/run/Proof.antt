@@ -8,11 +8,10 @@ use Rattle.dossier.proofs.run.Statement.{statement}
 use Rattle.dossier.proofs.run.Tie as tie
 use Rattle.dossier.proofs.run.Reads as reads
 use Rattle.dossier.proofs.run.Lts as lts
-use Rattle.decode.proofs.clear_bytes.Reads as clear-bytes-reads
-use Rattle.decode.proofs.clear_numbers.Reads as clear-numbers-reads
+use Rattle.common.proofs.clear_bytes.Reads as clear-bytes-reads
+use Rattle.common.proofs.clear_numbers.Reads as clear-numbers-reads
 use Rattle.decode.proofs.decode.Reads as decode-reads
 use Rattle.dossier.proofs.check_front.Reads as check-front-reads
-use Rattle.dossier.proofs.refused.Reads as refused-reads
 use Rattle.dossier.proofs.run_decoded.Reads as run-decoded-reads
 use Rattle.dossier.proofs.settle.Reads as settle-reads
 use Rattle.dossier.proofs.undecoded.Reads as undecoded-reads
@@ -34,8 +33,8 @@ clear-numbers-requires c κs = search needs
 clear-bytes-requires : tie.Need-clear-bytes-requires
 clear-bytes-requires c κs = search needs
 
-refused-requires : tie.Need-refused-requires
-refused-requires c κs = search needs
+answer-of-requires : tie.Need-answer-of-requires
+answer-of-requires c κs = search needs
 
 same-length : tie.Need-same-length
 same-length c = search needs
@@ -44,7 +43,7 @@ same-length-2 : tie.Need-same-length-2
 same-length-2 c = search needs
 
 returns : tie.Need-returns
-returns c = ends-front (c .before .before .before .before .before .before .before .before .before .before .before .before .before .before .before .before .before .before .args .dossier .now) (c .before .before .before .before .before .before .before .before .before .before .before .before .before .before .before .before .before .before .args .nodes .now) (c .before .before .before .before .before .before .before .before .before .before .before .before .before .before .before .before .before .before .args .hashes .now) (c .before .before .before .before .before .before .before .before .before .before .before .before .before .before .before .before .before .before .args .cells .now) (c .before .before .before .before .before .before .before .before .before .before .before .before .before .before .before .before .before .before .args .frames .now) (c .before .before .before .before .before .before .before .before .before .before .before .before .before .before .before .before .before .before .args .answer .now) (c .before .before .before .before .before .before .before .before .before .before .before .check-front .result) (c .before .before .before .before .before .before .before .before .before .before .before .check-front .ensures) _ (c .before .before .before .before .before .before .before .before .before .enum-told2 .given .1) (c .refused .result) (c .refused .ensures) (c .before .before .before .before .before .before .before .clear-numbers .last .0) (c .before .before .before .clear-bytes .last .0) (c .before .before .before .before .before .before .before .clear-numbers .ensures) (c .before .before .before .clear-bytes .ensures)
+returns c = ends-front (c .before .before .before .before .before .before .before .before .before .before .before .before .before .before .before .before .before .before .args .dossier .now) (c .before .before .before .before .before .before .before .before .before .before .before .before .before .before .before .before .before .before .args .nodes .now) (c .before .before .before .before .before .before .before .before .before .before .before .before .before .before .before .before .before .before .args .hashes .now) (c .before .before .before .before .before .before .before .before .before .before .before .before .before .before .before .before .before .before .args .cells .now) (c .before .before .before .before .before .before .before .before .before .before .before .before .before .before .before .before .before .before .args .frames .now) (c .before .before .before .before .before .before .before .before .before .before .before .before .before .before .before .before .before .before .args .answer .now) (c .before .before .before .before .before .before .before .before .before .before .before .check-front .result) (c .before .before .before .before .before .before .before .before .before .before .before .check-front .ensures) _ (c .before .before .before .before .before .before .before .before .before .enum-told2 .given .1) (c .answer-of .result) (c .answer-of .ensures) (c .before .before .before .before .before .before .before .clear-numbers .last .0) (c .before .before .before .clear-bytes .last .0) (c .before .before .before .before .before .before .before .clear-numbers .ensures) (c .before .before .before .clear-bytes .ensures)
 
 section-requires : tie.Need-section-requires
 section-requires c κs = search needs
@@ -124,7 +123,7 @@ run-spec =
     enum-told-2
     clear-numbers-requires
     clear-bytes-requires
-    refused-requires
+    answer-of-requires
     same-length
     same-length-2
     returns

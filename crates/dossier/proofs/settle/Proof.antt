@@ -6,8 +6,8 @@ use Rattle.dossier.proofs.settle.Statement.{statement}
 use Rattle.dossier.proofs.settle.Tie as tie
 use Rattle.dossier.proofs.settle.Reads as reads
 use Rattle.dossier.proofs.settle.Lts as lts
-use Rattle.decode.proofs.clear_bytes.Reads as clear-bytes-reads
-use Rattle.decode.proofs.clear_numbers.Reads as clear-numbers-reads
+use Rattle.common.proofs.clear_bytes.Reads as clear-bytes-reads
+use Rattle.common.proofs.clear_numbers.Reads as clear-numbers-reads
 use Rattle.dossier.proofs.keeps.Reads as keeps-reads
 
 keeps-requires : tie.Need-keeps-requires

@@ -6,16 +6,15 @@ use Rattle.exports.proofs.drevaloci_arrows.Statement.{statement}
 use Rattle.exports.proofs.drevaloci_arrows.Tie as tie
 use Rattle.exports.proofs.drevaloci_arrows.Reads as reads
 use Rattle.exports.proofs.drevaloci_arrows.Lts as lts
-use Rattle.arrow.proofs.arrow_stage.Reads as arrow-stage-reads
+use Rattle.stages.proofs.arrow_stage.Reads as arrow-stage-reads
 use Rattle.exports.proofs.answer_code.Reads as answer-code-reads
 use Rattle.exports.proofs.answer_told.Reads as answer-told-reads
-use Rattle.exports.proofs.check_answer.Reads as check-answer-reads
 
 arrow-stage-requires : tie.Need-arrow-stage-requires
 arrow-stage-requires c κs = search needs
 
-check-answer-requires : tie.Need-check-answer-requires
-check-answer-requires c κs = search needs
+answer-of-requires : tie.Need-answer-of-requires
+answer-of-requires c κs = search needs
 
 answer-told-requires : tie.Need-answer-told-requires
 answer-told-requires c κs = search needs
@@ -24,14 +23,14 @@ answer-code-requires : tie.Need-answer-code-requires
 answer-code-requires c κs = search needs
 
 returns : tie.Need-returns
-returns c = check-told (c .before .before .before .arrow-stage .result) _ (c .before .before .before .arrow-stage .ensures) (c .before .before .check-answer .result) (c .before .before .check-answer .ensures) _ _ (c .answer-code .ensures) (c .before .answer-told .ensures)
+returns c = check-told (c .before .before .before .arrow-stage .result) _ (c .before .before .before .arrow-stage .ensures) (c .before .before .answer-of .result) (c .before .before .answer-of .ensures) _ _ (c .answer-code .ensures) (c .before .answer-told .ensures)
 
 pub drevaloci-arrows-spec : {M : Type 1} → statement M
 drevaloci-arrows-spec =
     tie.close
     (tie.spec
     arrow-stage-requires
-    check-answer-requires
+    answer-of-requires
     answer-told-requires
     answer-code-requires
     returns)

@@ -1,8 +1,7 @@
+-- `lookup::padding_of` meets its contract.
 use borrow.Author.Needs.{needs}
 use Rattle.lookup.proofs.padding_of.Statement.{statement}
 use Rattle.lookup.proofs.padding_of.Tie as tie
-use Rattle.lookup.proofs.padding_of.Reads as reads
-use Rattle.lookup.proofs.padding_of.Lts as lts
 use Rattle.lookup.proofs.Lookup.{wider-right, wider-left}
 
 sub-t5 : tie.Need-sub-t5

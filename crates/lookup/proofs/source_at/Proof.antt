@@ -1,10 +1,8 @@
+-- `lookup::source_at` meets its contract.
 use borrow.Author.Needs.{needs}
 use Rattle.lookup.proofs.source_at.Statement.{statement}
 use Rattle.lookup.proofs.source_at.Tie as tie
-use Rattle.lookup.proofs.source_at.Reads as reads
-use Rattle.lookup.proofs.source_at.Lts as lts
-use Rattle.arrow.proofs.arrow_at.Reads as arrow-at-reads
-use mathlib.Core.Path.{_≡_, refl, sym, ap, _∙_}
+use mathlib.Core.Path.{ap}
 use Rattle.scope.specs.Arrows.{source}
 
 arrow-at-requires : tie.Need-arrow-at-requires

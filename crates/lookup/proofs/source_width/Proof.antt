@@ -1,11 +1,7 @@
+-- `lookup::source_width` meets its contract.
 use borrow.Author.Needs.{needs}
 use Rattle.lookup.proofs.source_width.Statement.{statement}
 use Rattle.lookup.proofs.source_width.Tie as tie
-use Rattle.lookup.proofs.source_width.Reads as reads
-use Rattle.lookup.proofs.source_width.Lts as lts
-use Rattle.lookup.proofs.source_at.Reads as source-at-reads
-use Rattle.types.proofs.width_at.Reads as width-at-reads
-use mathlib.Core.Path.{_≡_, refl, sym, ap, _∙_}
 
 source-at-requires : tie.Need-source-at-requires
 source-at-requires c κs = search needs

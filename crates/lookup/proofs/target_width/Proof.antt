@@ -1,11 +1,7 @@
+-- `lookup::target_width` meets its contract.
 use borrow.Author.Needs.{needs}
 use Rattle.lookup.proofs.target_width.Statement.{statement}
 use Rattle.lookup.proofs.target_width.Tie as tie
-use Rattle.lookup.proofs.target_width.Reads as reads
-use Rattle.lookup.proofs.target_width.Lts as lts
-use Rattle.lookup.proofs.target_at.Reads as target-at-reads
-use Rattle.types.proofs.width_at.Reads as width-at-reads
-use mathlib.Core.Path.{_≡_, refl, sym, ap, _∙_}
 
 target-at-requires : tie.Need-target-at-requires
 target-at-requires c κs = search needs

@@ -50,19 +50,19 @@ returns : tie.Need-returns
 unfolding typeTable
 returns c = λ program hashes given held. (let a = c .before .before .before .before .before .before .before .before .before .before .before .before .before .before .before .before .before .before .args in
     c .refused2 .ensures ∙ ap refusedOf (c .before .enum-told2 .given .1) ∙ supplies-stop (a .types .now) (a .nodes .now) (a .arrows .now) program hashes given (a .witness .now) (a .witness-bits) (a .input .now) (a .input-bits) (a .cells) (a .frames) (a .answer) held (c .before .before .before .before .before .before .before .bounded2 .given .0 .0) (c .before .before .before .before .before .before .before .bounded2 .given .0 .1 .0) (c .before .before .before .before .before .before .before .bounded2 .given .0 .1 .1 .0)
-    (sym (ap boundedOf (c .before .before .before .before .before .before .before .bounded2 .given .1)) ∙ c .before .before .before .before .before .before .before .before .before .bounds .ensures ∙ ap (λ (t : TypeTable). countedBounds (t .widths) (a .nodes .now) (a .arrows .now)) (c .before .before .before .before .before .before .before .before .before .before .before .before .before .before .before .before .before .before .pre .0)) (c .before .before .before .check-supplied .result) (c .before .before .before .check-supplied .ensures (streamOf program) hashes) _ (c .before .enum-told2 .given .1))
+    (sym (ap boundedOf (c .before .before .before .before .before .before .before .bounded2 .given .1)) ∙ c .before .before .before .before .before .before .before .before .before .bounds .ensures ∙ ap (λ (t : TypeTable). countedBounds (a .types .now) (t .widths) (a .nodes .now) (a .arrows .now)) (c .before .before .before .before .before .before .before .before .before .before .before .before .before .before .before .before .before .before .pre .0)) (c .before .before .before .check-supplied .result) (c .before .before .before .check-supplied .ensures (streamOf program) hashes) _ (c .before .enum-told2 .given .1))
 
 returns-2 : tie.Need-returns-2
 unfolding typeTable
 returns-2 c = λ program hashes given held. (let a = c .before .before .before .before .before .before .before .before .before .before .before .before .before .args in
-    c .refused .ensures ∙ bounds-stop (a .types .now) (a .nodes .now) (a .arrows .now) program hashes given (a .witness .now) (a .witness-bits) (a .input .now) (a .input-bits) (a .cells) (a .frames) (a .answer) held (c .before .before .bounded .given .0 .0) (sym (ap boundedOf (c .before .before .bounded .given .1)) ∙ c .before .before .before .before .bounds .ensures ∙ ap (λ (t : TypeTable). countedBounds (t .widths) (a .nodes .now) (a .arrows .now)) (c .before .before .before .before .before .before .before .before .before .before .before .before .before .pre .0)))
+    c .refused .ensures ∙ bounds-stop (a .types .now) (a .nodes .now) (a .arrows .now) program hashes given (a .witness .now) (a .witness-bits) (a .input .now) (a .input-bits) (a .cells) (a .frames) (a .answer) held (c .before .before .bounded .given .0 .0) (sym (ap boundedOf (c .before .before .bounded .given .1)) ∙ c .before .before .before .before .bounds .ensures ∙ ap (λ (t : TypeTable). countedBounds (a .types .now) (t .widths) (a .nodes .now) (a .arrows .now)) (c .before .before .before .before .before .before .before .before .before .before .before .before .before .pre .0)))
 
 returns-3 : tie.Need-returns-3
 unfolding typeTable
 returns-3 c = λ program hashes given held. (let a = c .before .before .before .before .before .before .before .before .before .before .before .before .before .before .before .before .before .before .args in
     ap (λ (t : TypeTable). record { answer = Bounds (c .before .before .before .before .before .before .before .bounded2 .given .0 .0) (c .before .before .before .before .before .before .before .bounded2 .given .0 .1 .0); widths = t .widths; next = t .next; positions = c .before .before .before .check-supplied .result .positions }) (c .before .before .before .before .before .before .before .before .before .before .before .before .before .before .before .before .before .before .pre .0)
     ∙ run-ready (a .types .now) (a .nodes .now) (a .arrows .now) program hashes given (a .witness .now) (a .witness-bits) (a .input .now) (a .input-bits) (a .cells) (a .frames) (a .answer) held (c .before .before .before .before .before .before .before .bounded2 .given .0 .0) (c .before .before .before .before .before .before .before .bounded2 .given .0 .1 .0) (c .before .before .before .before .before .before .before .bounded2 .given .0 .1 .1 .0)
-    (sym (ap boundedOf (c .before .before .before .before .before .before .before .bounded2 .given .1)) ∙ c .before .before .before .before .before .before .before .before .before .bounds .ensures ∙ ap (λ (t : TypeTable). countedBounds (t .widths) (a .nodes .now) (a .arrows .now)) (c .before .before .before .before .before .before .before .before .before .before .before .before .before .before .before .before .before .before .pre .0)) (c .before .before .before .check-supplied .result) (c .before .before .before .check-supplied .ensures (streamOf program) hashes) (c .before .enum-told .given .1))
+    (sym (ap boundedOf (c .before .before .before .before .before .before .before .bounded2 .given .1)) ∙ c .before .before .before .before .before .before .before .before .before .bounds .ensures ∙ ap (λ (t : TypeTable). countedBounds (a .types .now) (t .widths) (a .nodes .now) (a .arrows .now)) (c .before .before .before .before .before .before .before .before .before .before .before .before .before .before .before .before .before .before .pre .0)) (c .before .before .before .check-supplied .result) (c .before .before .before .check-supplied .ensures (streamOf program) hashes) (c .before .enum-told .given .1))
 
 pub check-ready-spec : {M : Type 1} → statement M
 check-ready-spec =

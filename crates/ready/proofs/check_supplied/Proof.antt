@@ -3,7 +3,7 @@ use mathlib.Core.Path.{_≡_, sym, ap, _∙_}
 use Prim.Native.Nat.{ℕ, _-_}
 use lib.ListN.{length, getD}
 use borrow.Author.Needs.{needs}
-use Rattle.table.proofs.Records.{length-nodes}
+use Rattle.common.specs.Nodes.{length-nodes}
 use Rattle.arrow.specs.Answers.{arrowOf}
 use Rattle.scope.specs.Arrows.{noArrow, arrowRecords}
 use Rattle.scope.specs.Nodes.{nodeRecords, nodesOf}

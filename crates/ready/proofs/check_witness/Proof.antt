@@ -6,7 +6,7 @@ use native.Mathlib.Omega.{arith}
 use lib.ListN.{length, set, length-set, length-replicate}
 use borrow.Author.Tests.{not-true, not-false}
 use borrow.Author.Needs.{needs}
-use Rattle.table.proofs.Records.{length-records, length-nodes}
+use Rattle.common.specs.Nodes.{length-records, length-nodes}
 use Rattle.scope.specs.Arrows.{arrowRecords}
 use Rattle.scope.specs.Nodes.{nodeRecords, nodesOf}
 use Rattle.scope.specs.Types.{typeRecords}

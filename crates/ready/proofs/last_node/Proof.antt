@@ -1,7 +1,7 @@
 -- `ready::last_node` meets its contract: the records are counted, and none is taken as one.
 use native.Mathlib.Omega.{arith}
 use borrow.Author.Needs.{needs}
-use Rattle.table.proofs.Records.{length-records}
+use Rattle.common.specs.Nodes.{length-records}
 use Rattle.ready.proofs.last_node.Statement.{statement}
 use Rattle.ready.proofs.last_node.Tie as tie
 

@@ -1,19 +1,18 @@
 -- `table::check_count` meets its contract: the records are a fourth of the numbers.
-use Rattle.common.specs.Nodes.{length-records}
-use Rattle.common.specs.Checks.{counted-none, counted-over, counted-fine}
+use mathlib.Core.Path.{sym, ap, _∙_}
+use Prim.Native.Nat.{ℕ}
+use borrow.Author.Needs.{needs}
 use Rattle.limits.specs.Limits.{nodeCount}
-use mathlib.Core.Path.{sym}
+use Rattle.scope.specs.Stages.{counted}
+use Rattle.common.specs.Nodes.{length-records}
 use Rattle.table.proofs.check_count.Statement.{statement}
 use Rattle.table.proofs.check_count.Tie as tie
 
+check-count-requires : tie.Need-check-count-requires
+check-count-requires c κs = search needs
+
 returns : tie.Need-returns
-returns c = rw (length-records (c .before .args .nodes .now)) (sym (counted-none _ nodeCount (c .if1 .taken)))
-
-returns-2 : tie.Need-returns-2
-returns-2 c = rw (length-records (c .before .before .args .nodes .now)) (sym (counted-over _ nodeCount (c .if2 .taken)))
-
-returns-3 : tie.Need-returns-3
-returns-3 c = rw (length-records (c .before .before .args .nodes .now)) (sym (counted-fine _ nodeCount (c .before .if1 .left) (c .if2 .left)))
+returns c = c .check-count .ensures ∙ ap (λ (n : ℕ). counted n nodeCount) (sym (length-records (c .before .before .args .nodes .now)))
 
 pub check-count-spec : {M : Type 1} → statement M
-check-count-spec = tie.close (tie.spec returns returns-2 returns-3)
+check-count-spec = tie.close (tie.spec check-count-requires returns)

@@ -6,7 +6,7 @@ use Rattle.bit_machine.proofs.engine.branch.Lts as lts
 use Rattle.bit_machine.proofs.rules.forward.Reads as forward-reads
 use Rattle.bit_machine.proofs.rules.peek.Reads as peek-reads
 use Rattle.table.proofs.hidden_at.Reads as hidden-at-reads
-use Rattle.lookup.proofs.left_part.Reads as left-part-reads
+use Rattle.types.proofs.left_of.Reads as left-of-reads
 use Rattle.lookup.proofs.padding_at.Reads as padding-at-reads
 use Rattle.lookup.proofs.source_at.Reads as source-at-reads
 use Rattle.table.proofs.record_at.Reads as record-at-reads
@@ -26,8 +26,8 @@ record-at-requires c κs = search needs
 source-at-requires : tie.Need-source-at-requires
 source-at-requires c κs = search needs
 
-left-part-requires : tie.Need-left-part-requires
-left-part-requires c κs = search needs
+left-of-requires : tie.Need-left-of-requires
+left-of-requires c κs = search needs
 
 padding-at-requires : tie.Need-padding-at-requires
 padding-at-requires c κs = search needs
@@ -57,14 +57,14 @@ add-n : tie.Need-add-n
 add-n c =
     let start = c .before .before .before .before .before .before .before .before .before .before .before .before .before .before .before .before .before .before .before .before .before .before .before in
     let record-at-call = c .before .before .before .before .before .before .before .before .before .before .record-at in
-    let h = ByKind.left-need (start .pre .0) (start .args .i) (recordOf (record-at-call .result)) (record-at-call .ensures) _ (start .pre .1 .1 .0) ((ap (λ (r : NodeRecord). r .kind) (record-at-call .ensures)) ∙ (start .pre .1 .1 .1)) (sym (c .before .before .before .before .peek .ensures) ∙ c .before .before .before .if1 .taken) _ (c .before .before .hidden-at .ensures) (c .before .if2 .left) _ (rw (c .before .before .before .before .before .before .before .before .left-part .ensures, c .before .before .before .before .before .before .before .before .before .source-at .ensures) at (ap (λ (p : Padding). p .left) (c .before .before .before .before .before .before .before .padding-at .ensures))) (omega arith) .fits in
+    let h = ByKind.left-need (start .pre .0) (start .args .i) (recordOf (record-at-call .result)) (record-at-call .ensures) _ (start .pre .1 .1 .0) ((ap (λ (r : NodeRecord). r .kind) (record-at-call .ensures)) ∙ (start .pre .1 .1 .1)) (sym (c .before .before .before .before .peek .ensures) ∙ c .before .before .before .if1 .taken) _ (c .before .before .hidden-at .ensures) (c .before .if2 .left) _ (rw (c .before .before .before .before .before .before .before .before .left-of .ensures, c .before .before .before .before .before .before .before .before .before .source-at .ensures) at (ap (λ (p : Padding). p .left) (c .before .before .before .before .before .before .before .padding-at .ensures))) (omega arith) .fits in
     omega (arith, fed-bits (within-fed (start .pre .1 .0)))
 
 forward-requires : tie.Need-forward-requires
 forward-requires c κs =
     let start = c .before .before .before .before .before .before .before .before .before .before .before .before .before .before .before .before .before .before .before .before .before .before .before .before in
     let record-at-call = c .before .before .before .before .before .before .before .before .before .before .before .record-at in
-    λ pos. read-over [] (fed-bits (within-fed (start .pre .1 .0))) (ByKind.left-need (start .pre .0) (start .args .i) (recordOf (record-at-call .result)) (record-at-call .ensures) _ (start .pre .1 .1 .0) ((ap (λ (r : NodeRecord). r .kind) (record-at-call .ensures)) ∙ (start .pre .1 .1 .1)) (sym (c .before .before .before .before .before .peek .ensures) ∙ c .before .before .before .before .if1 .taken) _ (c .before .before .before .hidden-at .ensures) (c .before .before .if2 .left) _ (rw (c .before .before .before .before .before .before .before .before .before .left-part .ensures, c .before .before .before .before .before .before .before .before .before .before .source-at .ensures) at (ap (λ (p : Padding). p .left) (c .before .before .before .before .before .before .before .before .padding-at .ensures))) pos)
+    λ pos. read-over [] (fed-bits (within-fed (start .pre .1 .0))) (ByKind.left-need (start .pre .0) (start .args .i) (recordOf (record-at-call .result)) (record-at-call .ensures) _ (start .pre .1 .1 .0) ((ap (λ (r : NodeRecord). r .kind) (record-at-call .ensures)) ∙ (start .pre .1 .1 .1)) (sym (c .before .before .before .before .before .peek .ensures) ∙ c .before .before .before .before .if1 .taken) _ (c .before .before .before .hidden-at .ensures) (c .before .before .if2 .left) _ (rw (c .before .before .before .before .before .before .before .before .before .left-of .ensures, c .before .before .before .before .before .before .before .before .before .before .source-at .ensures) at (ap (λ (p : Padding). p .left) (c .before .before .before .before .before .before .before .before .padding-at .ensures))) pos)
 
 same-length-3 : tie.Need-same-length-3
 same-length-3 c = search needs
@@ -76,7 +76,7 @@ returns-2 : tie.Need-returns-2
 returns-2 c =
     let start = c .before .before .before .before .before .before .before .before .before .before .before .before .before .before .before .before .before .before .before .before .before .before .before .before .before .before .before in
     let record-at-call = c .before .before .before .before .before .before .before .before .before .before .before .before .before .before .record-at in
-    ByKind.left-one (start .pre .0) (start .args .i) (recordOf (record-at-call .result)) (record-at-call .ensures) _ (start .pre .1 .1 .0) ((ap (λ (r : NodeRecord). r .kind) (record-at-call .ensures)) ∙ (start .pre .1 .1 .1)) (sym (c .before .before .before .before .before .before .before .before .peek .ensures) ∙ c .before .before .before .before .before .before .before .if1 .taken) _ (c .before .before .before .before .before .before .hidden-at .ensures) (c .before .before .before .before .before .if2 .left) _ (rw (c .before .before .before .before .before .before .before .before .before .before .before .before .left-part .ensures, c .before .before .before .before .before .before .before .before .before .before .before .before .before .source-at .ensures) at (ap (λ (p : Padding). p .left) (c .before .before .before .before .before .before .before .before .before .before .before .padding-at .ensures))) _ (c .before .before .forward .ensures _)
+    ByKind.left-one (start .pre .0) (start .args .i) (recordOf (record-at-call .result)) (record-at-call .ensures) _ (start .pre .1 .1 .0) ((ap (λ (r : NodeRecord). r .kind) (record-at-call .ensures)) ∙ (start .pre .1 .1 .1)) (sym (c .before .before .before .before .before .before .before .before .peek .ensures) ∙ c .before .before .before .before .before .before .before .if1 .taken) _ (c .before .before .before .before .before .before .hidden-at .ensures) (c .before .before .before .before .before .if2 .left) _ (rw (c .before .before .before .before .before .before .before .before .before .before .before .before .left-of .ensures, c .before .before .before .before .before .before .before .before .before .before .before .before .before .source-at .ensures) at (ap (λ (p : Padding). p .left) (c .before .before .before .before .before .before .before .before .before .before .before .padding-at .ensures))) _ (c .before .before .forward .ensures _)
 
 hidden-at-requires-2 : tie.Need-hidden-at-requires-2
 hidden-at-requires-2 c κs = search needs
@@ -97,14 +97,14 @@ add-n-2 : tie.Need-add-n-2
 add-n-2 c =
     let start = c .before .before .before .before .before .before .before .before .before .before .before .before .before .before .before .before .before .before .before .before .before .before .before in
     let record-at-call = c .before .before .before .before .before .before .before .before .before .before .record-at in
-    let h = ByKind.right-need (start .pre .0) (start .args .i) (recordOf (record-at-call .result)) (record-at-call .ensures) _ (start .pre .1 .1 .0) ((ap (λ (r : NodeRecord). r .kind) (record-at-call .ensures)) ∙ (start .pre .1 .1 .1)) (λ z. c .before .before .before .if1 .left (c .before .before .before .before .peek .ensures ∙ z)) _ (c .before .before .hidden-at2 .ensures) (c .before .if3 .left) _ (rw (c .before .before .before .before .before .before .before .before .left-part .ensures, c .before .before .before .before .before .before .before .before .before .source-at .ensures) at (ap (λ (p : Padding). p .right) (c .before .before .before .before .before .before .before .padding-at .ensures))) (omega arith) .fits in
+    let h = ByKind.right-need (start .pre .0) (start .args .i) (recordOf (record-at-call .result)) (record-at-call .ensures) _ (start .pre .1 .1 .0) ((ap (λ (r : NodeRecord). r .kind) (record-at-call .ensures)) ∙ (start .pre .1 .1 .1)) (λ z. c .before .before .before .if1 .left (c .before .before .before .before .peek .ensures ∙ z)) _ (c .before .before .hidden-at2 .ensures) (c .before .if3 .left) _ (rw (c .before .before .before .before .before .before .before .before .left-of .ensures, c .before .before .before .before .before .before .before .before .before .source-at .ensures) at (ap (λ (p : Padding). p .right) (c .before .before .before .before .before .before .before .padding-at .ensures))) (omega arith) .fits in
     omega (arith, fed-bits (within-fed (start .pre .1 .0)))
 
 forward-requires-2 : tie.Need-forward-requires-2
 forward-requires-2 c κs =
     let start = c .before .before .before .before .before .before .before .before .before .before .before .before .before .before .before .before .before .before .before .before .before .before .before .before in
     let record-at-call = c .before .before .before .before .before .before .before .before .before .before .before .record-at in
-    λ pos. read-over [] (fed-bits (within-fed (start .pre .1 .0))) (ByKind.right-need (start .pre .0) (start .args .i) (recordOf (record-at-call .result)) (record-at-call .ensures) _ (start .pre .1 .1 .0) ((ap (λ (r : NodeRecord). r .kind) (record-at-call .ensures)) ∙ (start .pre .1 .1 .1)) (λ z. c .before .before .before .before .if1 .left (c .before .before .before .before .before .peek .ensures ∙ z)) _ (c .before .before .before .hidden-at2 .ensures) (c .before .before .if3 .left) _ (rw (c .before .before .before .before .before .before .before .before .before .left-part .ensures, c .before .before .before .before .before .before .before .before .before .before .source-at .ensures) at (ap (λ (p : Padding). p .right) (c .before .before .before .before .before .before .before .before .padding-at .ensures))) pos)
+    λ pos. read-over [] (fed-bits (within-fed (start .pre .1 .0))) (ByKind.right-need (start .pre .0) (start .args .i) (recordOf (record-at-call .result)) (record-at-call .ensures) _ (start .pre .1 .1 .0) ((ap (λ (r : NodeRecord). r .kind) (record-at-call .ensures)) ∙ (start .pre .1 .1 .1)) (λ z. c .before .before .before .before .if1 .left (c .before .before .before .before .before .peek .ensures ∙ z)) _ (c .before .before .before .hidden-at2 .ensures) (c .before .before .if3 .left) _ (rw (c .before .before .before .before .before .before .before .before .before .left-of .ensures, c .before .before .before .before .before .before .before .before .before .before .source-at .ensures) at (ap (λ (p : Padding). p .right) (c .before .before .before .before .before .before .before .before .padding-at .ensures))) pos)
 
 same-length-7 : tie.Need-same-length-7
 same-length-7 c = search needs
@@ -116,7 +116,7 @@ returns-4 : tie.Need-returns-4
 returns-4 c =
     let start = c .before .before .before .before .before .before .before .before .before .before .before .before .before .before .before .before .before .before .before .before .before .before .before .before .before .before .before in
     let record-at-call = c .before .before .before .before .before .before .before .before .before .before .before .before .before .before .record-at in
-    ByKind.right-one (start .pre .0) (start .args .i) (recordOf (record-at-call .result)) (record-at-call .ensures) _ (start .pre .1 .1 .0) ((ap (λ (r : NodeRecord). r .kind) (record-at-call .ensures)) ∙ (start .pre .1 .1 .1)) (λ z. c .before .before .before .before .before .before .before .if1 .left (c .before .before .before .before .before .before .before .before .peek .ensures ∙ z)) _ (c .before .before .before .before .before .before .hidden-at2 .ensures) (c .before .before .before .before .before .if3 .left) _ (rw (c .before .before .before .before .before .before .before .before .before .before .before .before .left-part .ensures, c .before .before .before .before .before .before .before .before .before .before .before .before .before .source-at .ensures) at (ap (λ (p : Padding). p .right) (c .before .before .before .before .before .before .before .before .before .before .before .padding-at .ensures))) _ (c .before .before .forward2 .ensures _)
+    ByKind.right-one (start .pre .0) (start .args .i) (recordOf (record-at-call .result)) (record-at-call .ensures) _ (start .pre .1 .1 .0) ((ap (λ (r : NodeRecord). r .kind) (record-at-call .ensures)) ∙ (start .pre .1 .1 .1)) (λ z. c .before .before .before .before .before .before .before .if1 .left (c .before .before .before .before .before .before .before .before .peek .ensures ∙ z)) _ (c .before .before .before .before .before .before .hidden-at2 .ensures) (c .before .before .before .before .before .if3 .left) _ (rw (c .before .before .before .before .before .before .before .before .before .before .before .before .left-of .ensures, c .before .before .before .before .before .before .before .before .before .before .before .before .before .source-at .ensures) at (ap (λ (p : Padding). p .right) (c .before .before .before .before .before .before .before .before .before .before .before .padding-at .ensures))) _ (c .before .before .forward2 .ensures _)
 
 pub branch-spec : {M : Type 1} → statement M
 branch-spec =
@@ -124,7 +124,7 @@ branch-spec =
     (tie.spec
     record-at-requires
     source-at-requires
-    left-part-requires
+    left-of-requires
     padding-at-requires
     peek-requires
     hidden-at-requires

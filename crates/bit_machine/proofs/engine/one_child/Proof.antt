@@ -6,7 +6,7 @@ use Rattle.bit_machine.proofs.engine.one_child.Lts as lts
 use Rattle.bit_machine.proofs.rules.forward.Reads as forward-reads
 use Rattle.bit_machine.proofs.rules.skip.Reads as skip-reads
 use Rattle.bit_machine.proofs.rules.write_bit.Reads as write-bit-reads
-use Rattle.lookup.proofs.left_width.Reads as left-width-reads
+use Rattle.types.proofs.left_width.Reads as left-width-reads
 use Rattle.lookup.proofs.padding_at.Reads as padding-at-reads
 use Rattle.lookup.proofs.source_at.Reads as source-at-reads
 use Rattle.lookup.proofs.target_at.Reads as target-at-reads

@@ -5,13 +5,13 @@ use Rattle.bit_machine.proofs.values.write_hash.Reads as reads
 use Rattle.bit_machine.proofs.values.write_hash.Lts as lts
 use Rattle.bit_machine.proofs.rules.write_bits.Reads as write-bits-reads
 use Rattle.bit_machine.proofs.wide.Reads as wide-reads
-use Rattle.branch.proofs.branch_hash.Reads as branch-hash-reads
+use Rattle.hashes.proofs.branch_hash.Reads as branch-hash-reads
 use native.Mathlib.Omega.{arith}
 use mathlib.Core.Path.{_≡_, refl, sym, ap, _∙_, subst}
 use mathlib.Core.List.{List, []}
 use Prim.Native.Nat.{ℕ}
 use lib.ListN.{length}
-use Rattle.layout.specs.Safe.{length-bitsOf}
+use Rattle.common.specs.Bits.{length-bits}
 use Rattle.layout.specs.Rules.{bitsWritten}
 use Rattle.scope.specs.Hashes.{branchHash}
 use Rattle.bit_machine.proofs.Written.{hash-short, hash-count, hash-bits, written-as}
@@ -39,7 +39,7 @@ write-bits-requires c κs =
     let e = hash-count (c .before .before .branch-hash .ensures ∙ ap (branchHash _ _) (wide-there .ensures .0)) in (
       start .pre .0,
       (
-        omega (arith, length-bitsOf (c .before .before .branch-hash .result .now)),
+        omega (arith, length-bits (c .before .before .branch-hash .result .now)),
         λ pos. rw e (start .pre .1 (rw e at pos)),
       ),
     )

@@ -11,7 +11,8 @@ use Rattle.value.proofs.pad.Reads as pad-reads
 use native.Mathlib.Omega.{arith}
 use mathlib.Core.Path.{_≡_, refl, sym, ap, _∙_, subst}
 use mathlib.Core.List.{List, []}
-use Rattle.layout.specs.Safe.{write-over, fed-bits, length-bitsOf}
+use Rattle.common.specs.Bits.{length-bits}
+use Rattle.layout.specs.Safe.{write-over, fed-bits}
 use Rattle.scope.specs.Numbers.{streamOf}
 use Rattle.bit_machine.proofs.Needs.{within-fed}
 use Rattle.bit_machine.proofs.Written.{value-none, value-written}
@@ -57,7 +58,7 @@ returns-2 c =
     let pad-call = c .before .before .before .before .before .before .pad in
     let e = width-at-call .ensures in
     c .before .before .skip .ensures _
-    ∙ value-written (start .pre .0) (start .args .k) (streamOf (start .args .source .now)) (start .args .p) (start .pre .1 .1 .0) (width-at-call .result) (width-at-call .ensures) _ _ _ _ _ (if1-there .left) (rw e ((start .pre .1 .1 .1) (omega (arith, if1-there .left)))) (let z = start .pre .1 .0 .cells in omega (arith, length-bitsOf (start .args .cells .now)))
+    ∙ value-written (start .pre .0) (start .args .k) (streamOf (start .args .source .now)) (start .args .p) (start .pre .1 .1 .0) (width-at-call .result) (width-at-call .ensures) _ _ _ _ _ (if1-there .left) (rw e ((start .pre .1 .1 .1) (omega (arith, if1-there .left)))) (let z = start .pre .1 .0 .cells in omega (arith, length-bits (start .args .cells .now)))
     (write-cursor-call .result) (write-cursor-call .ensures) (pad-call .result) _
     (rw (sym (c .before .before .before .before .before .before .before .before .wide .ensures .0)) (pad-call .ensures))
 

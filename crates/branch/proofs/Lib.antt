@@ -1,4 +1,0 @@
-pub mod KindNumbers
-pub mod Records
-pub mod Hashes
-pub mod Pins

@@ -1,0 +1,4 @@
+pub mod Rights
+pub mod Entries
+pub mod Branch
+pub mod Pins

@@ -1,0 +1,4 @@
+pub mod Lent
+pub mod Passed
+pub mod Typing
+pub mod Pins

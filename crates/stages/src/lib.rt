@@ -1,0 +1,182 @@
+// The stages over lent tables, each after the ones before it: all that is tested again (4, 26, 1, 2, 6 to 9), then the arrows (11, 12), then the
+// supplied hashes (13). The check of the types makes arrays of widths and of next records. A stage hands them back with its verdict, so that
+// who goes on after it checks no table twice and is told nothing by a caller.
+use refusal::Refusal;
+use common::Checked;
+ghost use mathlib.Core.Path.{_≡_};
+ghost use mathlib.Core.List.{List};
+ghost use lib.ListN.{length};
+ghost use Rattle.limits.specs.Limits.{typeCount};
+ghost use Rattle.scope.specs.Types.{typeRecords};
+ghost use Rattle.scope.specs.Stages.{counted, arrowStage, hashStage};
+ghost use Rattle.types.specs.Table.{typeTable};
+ghost use Rattle.common.specs.Answers.{checkOf};
+ghost use Rattle.stages.specs.Answers.{withoutCount, stagedOf};
+ghost use Rattle.stages.specs.Stage.{countedTypes, toldTables, toldArrows, toldHashes};
+
+// A stage's verdict, and what the check of the types made.
+pub struct Staged {
+    pub answer: Checked,
+    pub table: types::TypeTable,
+}
+
+// The type table has a record, and not too many (4).
+fn type_count(types: &[u8]) -> Checked
+    ensures { λ r. ⌜ checkOf r ≡ counted (length (typeRecords (now (types .entry)))) typeCount ⌝ }
+{
+    common::check_count(types.len() / limits::TYPE_BYTES, limits::TYPE_COUNT)
+}
+
+// What the check of a type table said, without the count of its records.
+fn without_count(answer: types::TypeAnswer) -> Checked
+    ensures { λ r. ⌜ checkOf r ≡ withoutCount answer ⌝ }
+{
+    match answer {
+        types::TypeAnswer::Records(_) => Checked::Passed,
+        types::TypeAnswer::Refused(why) => Checked::Refused(why),
+    }
+}
+
+// The type table keeps its rules (2), after its count (4).
+pub fn types_hold(types: &[u8]) -> Checked
+    ensures { λ r. ⌜ checkOf r ≡ countedTypes (now (types .entry)) ⌝ }
+{
+    let table = types::check_types(types);
+    let answer = table.answer;
+    without_count(answer)
+}
+
+// Lent tables tested again, where the check of the types said this: 4 of the nodes, then of the types, 26, 1 for a program over the limit, 2, then 6 to 9.
+fn told_tables(held: Checked, types: &[u8], nodes: &[u32], program: &[u8], hashes: &[u8]) -> Checked
+    ensures { λ r. ⌜ checkOf r ≡ toldTables (checkOf held) (now (types .entry)) (now (nodes .entry)) (now (program .entry)) (now (hashes .entry)) ⌝ }
+{
+    let some = table::check_count(nodes);
+    let Checked::Passed = some else {
+        return some;
+    };
+    let typed = type_count(types);
+    let Checked::Passed = typed else {
+        return typed;
+    };
+    let records = table::check_records(program, hashes, nodes);
+    let Checked::Passed = records else {
+        return records;
+    };
+    if limits::DOSSIER_BYTES < program.len() {
+        return Checked::Refused(Refusal::Header(0));
+    }
+    let Checked::Passed = held else {
+        return held;
+    };
+    table::walk(nodes, hashes)
+}
+
+// The same, then 11 and 12.
+fn told_arrows(
+    held: Checked,
+    types: &[u8],
+    nodes: &[u32],
+    arrows: &[u8],
+    program: &[u8],
+    hashes: &[u8],
+) -> Checked
+    ensures { λ r. ⌜ checkOf r ≡ toldArrows (checkOf held) (now (types .entry)) (now (nodes .entry)) (now (arrows .entry)) (now (program .entry)) (now (hashes .entry)) ⌝ }
+{
+    let tables = told_tables(held, types, nodes, program, hashes);
+    let Checked::Passed = tables else {
+        return tables;
+    };
+    arrow::check_arrows(types, nodes, arrows)
+}
+
+// The same, then 13.
+fn told_hashes(
+    held: Checked,
+    types: &[u8],
+    nodes: &[u32],
+    arrows: &[u8],
+    program: &[u8],
+    hashes: &[u8],
+    given: &[u8],
+) -> Checked
+    ensures { λ r. ⌜ checkOf r ≡ toldHashes (checkOf held) (now (types .entry)) (now (nodes .entry)) (now (arrows .entry)) (now (program .entry)) (now (hashes .entry))
+        (now (given .entry)) ⌝ }
+{
+    let arrowed = told_arrows(held, types, nodes, arrows, program, hashes);
+    let Checked::Passed = arrowed else {
+        return arrowed;
+    };
+    hashes::check_hashes(nodes, given)
+}
+
+// Lent tables up to their arrows (12), with what the check of the types made.
+pub fn arrow_tables(
+    types: &[u8],
+    nodes: &[u32],
+    arrows: &[u8],
+    program: &[u8],
+    hashes: &[u8],
+) -> Staged
+    ensures { λ r. ⌜ stagedOf r ≡ (
+      arrowStage (now (types .entry)) (now (nodes .entry)) (now (arrows .entry)) (now (program .entry)) (now (hashes .entry)),
+      typeTable (now (types .entry)),
+    ) ⌝ }
+{
+    let table = types::check_types(types);
+    let said = table.answer;
+    let held = without_count(said);
+    let answer = told_arrows(held, types, nodes, arrows, program, hashes);
+    Staged { answer, table }
+}
+
+// Lent tables up to the supplied hashes (13), with the same.
+pub fn hash_tables(
+    types: &[u8],
+    nodes: &[u32],
+    arrows: &[u8],
+    program: &[u8],
+    hashes: &[u8],
+    given: &[u8],
+) -> Staged
+    ensures { λ r. ⌜ stagedOf r ≡ (
+      hashStage (now (types .entry)) (now (nodes .entry)) (now (arrows .entry)) (now (program .entry)) (now (hashes .entry))
+          (now (given .entry)),
+      typeTable (now (types .entry)),
+    ) ⌝ }
+{
+    let table = types::check_types(types);
+    let said = table.answer;
+    let held = without_count(said);
+    let answer = told_hashes(held, types, nodes, arrows, program, hashes, given);
+    Staged { answer, table }
+}
+
+// Lent tables up to their arrows (12): the verdict alone.
+pub fn arrow_stage(
+    types: &[u8],
+    nodes: &[u32],
+    arrows: &[u8],
+    program: &[u8],
+    hashes: &[u8],
+) -> Checked
+    ensures { λ r. ⌜ checkOf r ≡ arrowStage (now (types .entry)) (now (nodes .entry)) (now (arrows .entry)) (now (program .entry)) (now (hashes .entry)) ⌝ }
+{
+    let staged = arrow_tables(types, nodes, arrows, program, hashes);
+    staged.answer
+}
+
+// Lent tables up to the supplied hashes (13): the verdict alone.
+pub fn hash_stage(
+    types: &[u8],
+    nodes: &[u32],
+    arrows: &[u8],
+    program: &[u8],
+    hashes: &[u8],
+    given: &[u8],
+) -> Checked
+    ensures { λ r. ⌜ checkOf r ≡ hashStage (now (types .entry)) (now (nodes .entry)) (now (arrows .entry)) (now (program .entry)) (now (hashes .entry))
+        (now (given .entry)) ⌝ }
+{
+    let staged = hash_tables(types, nodes, arrows, program, hashes, given);
+    staged.answer
+}
