@@ -1,7 +1,7 @@
 // The bounds of a run (14), after analysis.rs: extra cells, extra frames and cost of every node by the requirements' table, in one pass upwards.
 // A number over its limit is held at the limit plus one: such a program is refused, so no answer shows the number itself.
-use refusal::Refusal;
 use common::Checked;
+use refusal::Refusal;
 use table::NodeRecord;
 ghost use mathlib.Core.Path.{_≡_};
 ghost use mathlib.Core.List.{List};

@@ -1,7 +1,7 @@
 // Arrows, after types/arrow.rs, but checked and not inferred: a disconnect with one child is refused (11), then a count of arrows other than
 // that of the nodes, then the first node whose arrow is not the report's (12). Types are compared by their indices in a checked table.
-use refusal::Refusal;
 use common::Checked;
+use refusal::Refusal;
 use table::NodeRecord;
 ghost use mathlib.Core.Path.{_≡_};
 ghost use mathlib.Core.List.{List, [], _∷_};

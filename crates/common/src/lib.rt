@@ -105,11 +105,7 @@ pub fn number_at(bytes: &[u8], at: usize) -> u32
 pub fn entry_at(numbers: &[u32], at: usize) -> u32
     ensures { λ r. ⌜ r ≡ getD (now (numbers .entry)) at 0 ⌝ }
 {
-    if at < numbers.len() {
-        numbers[at]
-    } else {
-        0
-    }
+    if at < numbers.len() { numbers[at] } else { 0 }
 }
 
 // The part of n bytes from a place on, as far as there are any.

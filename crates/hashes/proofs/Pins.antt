@@ -4,7 +4,8 @@ use mathlib.Core.List.{List}
 use Prim.Native.Nat.{ℕ}
 use Rattle.scope.specs.Hashes.{branchHash}
 use Rattle.table.specs.Lent.{lentNodes}
-use Rattle.common.specs.Answers.{check-tells, OneResult}
+use Rattle.common.specs.Answers.{check-tells}
+use Rattle.promise.specs.Outcomes.{OneResult}
 use Rattle.hashes.proofs.check_hashes.Kinds as check-hashes-kinds
 use Rattle.hashes.proofs.check_hashes.Reads as check-hashes-reads
 

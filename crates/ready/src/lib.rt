@@ -2,8 +2,8 @@
 // Values are not kept: a witness node's value is found again by its position in the witness bits. Everything is lent by `&`,
 // so a refusal leaves all stores as they were.
 use analysis::BoundsAnswer;
-use refusal::Refusal;
 use common::Checked;
+use refusal::Refusal;
 use value::ValueRead;
 ghost use mathlib.Core.Path.{_≡_};
 ghost use mathlib.Core.Bool.{true, false};

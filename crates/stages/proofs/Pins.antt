@@ -1,6 +1,7 @@
 -- What each public call promises has one outcome: over the call's own promise, `Post`, two results are the same.
 use mathlib.Core.Path.{_≡_, sym, ap, _∙_}
-use Rattle.common.specs.Answers.{check-tells, OneResult}
+use Rattle.common.specs.Answers.{check-tells}
+use Rattle.promise.specs.Outcomes.{OneResult}
 use Rattle.stages.specs.Answers.{stagedOf}
 use Rattle.stages.specs.declared.Staged.{Staged}
 use Rattle.stages.proofs.types_hold.Kinds as types-hold-kinds

@@ -1,8 +1,8 @@
 // The stages over lent tables, each after the ones before it: all that is tested again (4, 26, 1, 2, 6 to 9), then the arrows (11, 12), then the
 // supplied hashes (13). The check of the types makes arrays of widths and of next records. A stage hands them back with its verdict, so that
 // who goes on after it checks no table twice and is told nothing by a caller.
-use refusal::Refusal;
 use common::Checked;
+use refusal::Refusal;
 ghost use mathlib.Core.Path.{_≡_};
 ghost use mathlib.Core.List.{List};
 ghost use lib.ListN.{length};

@@ -29,7 +29,7 @@ use Rattle.scope.specs.Witness.{checkWitness}
 use Rattle.scope.specs.Input.{checkInput}
 use Rattle.scope.specs.Stores.{checkStores}
 use Rattle.scope.specs.Run.{Tables, Ready, programOf, checkTables, checkReady, tablesOf, checkDossier, Ended, run}
-use Rattle.exactness.specs.Checks.{both-passed, then-passes}
+use Rattle.common.specs.Checks.{both-passed, then-passes}
 use Rattle.exactness.specs.Types.{TypesPass, types-pass, pass-types}
 use Rattle.exactness.specs.Nodes.{layout, fit-at}
 use Rattle.exactness.specs.NodeTyping.{ArrowsTyped}

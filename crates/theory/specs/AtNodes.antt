@@ -19,10 +19,10 @@ use Rattle.scope.specs.Walk.{hiddenAt, noneHidden, allowed}
 use Rattle.scope.specs.Program.{Program, sourceTy, targetTy, caseTerm, termOf, termAt, last, whole, wholeSource, wholeTarget}
 use Rattle.scope.specs.Bounds.{Bound, bounds, childRow, pairRow, caseRow, compRow, disconnectRow, wholeCells, wholeFrames}
 use Rattle.scope.specs.Machine.{State, state, putBits, moveFrame, writeBits, skip, copy, fwd, input, output}
-use Rattle.exactness.specs.Bits.{AllBelow}
+use Rattle.common.specs.Bits.{AllBelow}
 use Rattle.exactness.specs.Values.{length-padded}
 use Rattle.exactness.specs.NodeTyping.{Goes, Branch, NodeTyped}
-use Rattle.exactness.specs.Checks.{not-both}
+use Rattle.common.specs.Checks.{not-both}
 use Rattle.theory.specs.NodeTerms.{term-step}
 use Rattle.theory.specs.Sound.{Sound, none-hidden, arrow-typed-in, term-typed}
 use Rattle.theory.specs.WholeRuns.{input-does, output-does}

@@ -9,7 +9,7 @@ use Rattle.report.specs.Meaning.{done, _>>=_}
 use Rattle.scope.specs.Program.{Program, sourceTy, targetTy, termAt, wholeSource, wholeTarget}
 use Rattle.scope.specs.Bounds.{wholeCells, wholeFrames}
 use Rattle.scope.specs.Machine.{State, Step, state, moveFrame, writeBits, skip, copy, fwd, input, output}
-use Rattle.exactness.specs.Checks.{clash}
+use Rattle.common.specs.Checks.{clash}
 use Rattle.theory.specs.BinaryCells.{BitCells, BitsAfter, BitsDone, BitsFailed, BitsPruned, BitsStuck, padded-bits, after-bind, after-newFrame, after-moveFrame, after-writeBits, after-skip, after-copy, after-fwd, exec-bits, input-bits, output-bits}
 use Rattle.theory.specs.Entered.{push, runNode, handed, Entered, LastNode, CompLeft, CompRight, PairLeft, PairRight, InInjl, InInjr, CaseLeft, CaseRight, InTake, InDrop, DisconnectLeft, DisconnectRight}
 

@@ -12,7 +12,7 @@ use Rattle.report.specs.Typing.{Typed}
 use Rattle.report.specs.Meaning.{done, Means, eval}
 use Rattle.scope.specs.Machine.{Frame, frameFrom, State, Step, state, forward, reset, exec}
 use Rattle.scope.specs.Bounds.{Bound, bounds}
-use Rattle.exactness.specs.Checks.{clash}
+use Rattle.common.specs.Checks.{clash}
 use Rattle.layout.specs.Follow.{Inside, Fits}
 use Rattle.theory.specs.Cells.{In, Apart}
 use Rattle.theory.specs.Instructions.{At, advance}

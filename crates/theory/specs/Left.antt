@@ -17,7 +17,7 @@ use Rattle.scope.specs.Machine.{State, Step}
 use Rattle.scope.specs.Program.{Program, whole, wholeSource, wholeTarget}
 use Rattle.scope.specs.Bounds.{wholeCells}
 use Rattle.scope.specs.Run.{Ready, Left, cellsOf, packed, written, ends, ran}
-use Rattle.exactness.specs.Bits.{AreBits, are-bits, bits-of-bytes, length-bytes}
+use Rattle.common.specs.Bits.{AreBits, are-bits, bits-of-bytes, length-bytes}
 use Rattle.layout.specs.Layout.{length-tabulate, get-tabulate}
 use Rattle.theory.specs.BinaryCells.{BitCells, BitsAfter, BitsDone, BitsFailed, BitsPruned, machine-bits}
 use Rattle.theory.specs.WholeRuns.{Ran, RanValue, RanFail, RanPrune}

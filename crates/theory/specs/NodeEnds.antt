@@ -10,7 +10,7 @@ use Rattle.report.specs.Meaning.{done, failed, pruned, stuck, Means, eval}
 use Rattle.scope.specs.Machine.{Frame, State, Step, state, exec}
 use Rattle.scope.specs.Bounds.{Bound, wholeCells, wholeFrames}
 use Rattle.scope.specs.Program.{Program, sourceTy, targetTy, termAt}
-use Rattle.exactness.specs.Checks.{clash}
+use Rattle.common.specs.Checks.{clash}
 use Rattle.layout.specs.Follow.{Inside}
 use Rattle.theory.specs.Cells.{Kept}
 use Rattle.theory.specs.Instructions.{At, advance}

@@ -36,8 +36,8 @@ use Rattle.scope.specs.Witness.{Values, valuesFrom, checkWitness}
 use Rattle.scope.specs.Input.{checkInput}
 use Rattle.scope.specs.Stores.{checkStores}
 use Rattle.scope.specs.Run.{Tables, Ready, programOf, checkTables, checkReady, tablesOf, checkDossier}
-use Rattle.exactness.specs.Checks as Checks
-use Rattle.exactness.specs.Table.{entries-at, entries-past, length-entries}
+use Rattle.common.specs.Checks as Checks
+use Rattle.common.specs.Tables.{entries-at, entries-past, length-entries}
 
 -- a refusal with a number from lo to hi
 pub record Numbered (lo hi : ℕ) (r : Refusal) : Type 0 where

@@ -19,7 +19,7 @@ use Rattle.scope.specs.Walk.{hiddenAt}
 use Rattle.scope.specs.Program.{Program, valueFrom, sourceTy, targetTy, caseTerm, termOf, termAt, last, whole, wholeSource, wholeTarget}
 use Rattle.scope.specs.Bounds.{wholeCells, wholeFrames}
 use Rattle.scope.specs.Machine.{Frame, State, Step, state, need, inFrame, newFrame, moveFrame, dropFrame, writeBits, skip, copy, fwd, back, peek, input, output, exec, machine}
-use Rattle.exactness.specs.Bits.{AllBelow}
+use Rattle.common.specs.Bits.{AllBelow}
 use Rattle.theory.specs.NodeTerms.{term-step}
 use Rattle.theory.specs.Sound.{Sound}
 use Rattle.theory.specs.Programs.{runOf}

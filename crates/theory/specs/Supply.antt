@@ -31,9 +31,9 @@ use Rattle.scope.specs.Bounds.{wholeCells, wholeFrames, wholeCost, checkLimits,
 use Rattle.scope.specs.Witness.{Values, valuesFrom, checkWitness}
 use Rattle.scope.specs.Input.{checkInput}
 use Rattle.scope.specs.Stores.{checkStores}
-use Rattle.exactness.specs.Checks as Checks
-use Rattle.exactness.specs.Checks.{every-all, all-every, none-below, below-none, same-equal, equal-same, require-holds, holds-require, both-passed, then-passes, each-holds, holds-each}
-use Rattle.exactness.specs.Bits.{AreBits, below-front}
+use Rattle.common.specs.Checks as Checks
+use Rattle.common.specs.Checks.{every-all, all-every, none-below, below-none, same-equal, equal-same, require-holds, holds-require, both-passed, then-passes, each-holds, holds-each}
+use Rattle.common.specs.Bits.{AreBits, below-front}
 use Rattle.exactness.specs.Values.{reads-compact, read-is-compact}
 use Rattle.exactness.specs.Stream.{Stands}
 use Rattle.exactness.specs.Programs.{Closed}
