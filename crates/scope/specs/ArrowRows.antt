@@ -8,8 +8,8 @@ use Rattle.refusal.specs.declared.Refusal.the-variants.{OneChildDisconnect, Arr
 use Rattle.report.specs.Lines.{Line, _is_, Hold}
 use Rattle.report.specs.Nodes.{Node, comp, case, pair, disconnect, injl, injr, take, drop, disconnect1, iden, unit, witness, fail, hidden, word}
 use Rattle.scope.specs.Check.{Check, passed, refused}
-use Rattle.scope.specs.Types.{TypeRecord}
-use Rattle.scope.specs.Arrows.{Arrow, arrowRecords, noArrow, source, target, isUnit, isSum, isProduct, leftAt, rightAt, isWord, kindRule, arrowRule, checkArrows}
+use Rattle.scope.specs.Types.{TypeRecord, isUnit, isSum, isProduct, leftAt, rightAt, isWord}
+use Rattle.scope.specs.Arrows.{Arrow, arrowRecords, noArrow, source, target, kindRule, arrowRule, checkArrows}
 use Rattle.scope.specs.Shorthand.{ty, to}
 
 -- the types of the rows, by their indices; 13 is the word of 256 bits

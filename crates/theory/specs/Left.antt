@@ -18,7 +18,7 @@ use Rattle.scope.specs.Program.{Program, whole, wholeSource, wholeTarget}
 use Rattle.scope.specs.Bounds.{wholeCells}
 use Rattle.scope.specs.Run.{Ready, Left, cellsOf, packed, written, ends, ran}
 use Rattle.common.specs.Bits.{AreBits, are-bits, bits-of-bytes, length-bytes}
-use Rattle.layout.specs.Layout.{length-tabulate, get-tabulate}
+use Rattle.common.specs.Tables.{length-tabulate, tabulate-at}
 use Rattle.theory.specs.BinaryCells.{BitCells, BitsAfter, BitsDone, BitsFailed, BitsPruned, machine-bits}
 use Rattle.theory.specs.WholeRuns.{Ran, RanValue, RanFail, RanPrune}
 use Rattle.theory.specs.Sound.{Sound}
@@ -50,7 +50,7 @@ bits-from i (suc n) c h = (omega (arith, h i), bits-from (suc i) n c h)
 packed-cell : (n : ℕ) (c : Cells) → BitCells c → (j : ℕ) → j < 8 * n → cellsOf (packed n c) j ≡ c j
 unfolding cellsOf packed tabulate
 packed-cell n c h j l =
-    ap (λ (bs : List Bit). getD bs j 0) (bits-of-bytes n (tabulate (8 * n) c) (length-tabulate (8 * n) c) (bits-from 0 (8 * n) c h) .0) ∙ get-tabulate (8 * n) c j l
+    ap (λ (bs : List Bit). getD bs j 0) (bits-of-bytes n (tabulate (8 * n) c) (length-tabulate c (8 * n)) (bits-from 0 (8 * n) c h) .0) ∙ tabulate-at c (8 * n) j 0 l
 
 -- the cells of a store are bits
 bit-below : (bs : List Bit) → AreBits bs → (j : ℕ) → getD bs j 0 ≤ 1
