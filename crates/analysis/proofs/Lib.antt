@@ -1,7 +1,6 @@
 pub mod Sums
 pub mod HeldRows
 pub mod RowKinds
-pub mod Filling
 pub mod Tables
 pub mod Totals
 pub mod Programs

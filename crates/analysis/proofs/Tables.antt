@@ -20,7 +20,7 @@ use Rattle.common.specs.Tables.{length-entries, entries-at, entries-past}
 use Rattle.analysis.specs.Held.{held, plain}
 use Rattle.analysis.specs.Rows.{rowOf, rowMake, boundAt, belowOr}
 use Rattle.analysis.specs.declared.Bound.{Bound}
-use Rattle.common.specs.Filling.{upToward, fill-at, fill-past}
+use Rattle.common.specs.Filling.{filledTo, fill-at, fill-past}
 use Rattle.analysis.proofs.HeldRows.{held-row}
 
 pub below-in : (child i : ℕ) → child < i → child ≡ belowOr child i
@@ -71,17 +71,17 @@ module _ (types : List TypeRecord) (widths : List ℕ) (records : List NodeRecor
       ∙ sym (entries-at (rowMake types widths records arrows) records i noRow noRecord h)
 
   -- what a pass finds where it looks for a child
-  pub child-found : (i child : ℕ) → i ≤ length records → getD (upToward heldAt (held noRow) nodeCount i) (belowOr child i) (held noRow)
+  pub child-found : (i child : ℕ) → i ≤ length records → getD (filledTo heldAt (held noRow) nodeCount i) (belowOr child i) (held noRow)
       ≡ held (childBound i child)
   child-found i child h = elim (decLt child i) [
-    | yes l ↦ ap (λ k. getD (upToward heldAt (held noRow) nodeCount i) k (held noRow)) (sym (below-in child i l))
+    | yes l ↦ ap (λ k. getD (filledTo heldAt (held noRow) nodeCount i) k (held noRow)) (sym (below-in child i l))
         ∙ fill-at heldAt (held noRow) nodeCount i child l ∙ ap held (sym (child-below i child l))
-    | no l ↦ ap (λ k. getD (upToward heldAt (held noRow) nodeCount i) k (held noRow)) (sym (below-out child i (omega arith)))
+    | no l ↦ ap (λ k. getD (filledTo heldAt (held noRow) nodeCount i) k (held noRow)) (sym (below-out child i (omega arith)))
         ∙ fill-past heldAt (held noRow) nodeCount i i (omega arith) ∙ ap held (sym (child-not-below i child h (omega arith)))
   ]
 
   -- the same of the array and the place that the code has
-  pub child-read : (i child : ℕ) → i ≤ length records → (rows : List Bound) (at : ℕ) → rows ≡ upToward heldAt (held noRow) nodeCount i → at
+  pub child-read : (i child : ℕ) → i ≤ length records → (rows : List Bound) (at : ℕ) → rows ≡ filledTo heldAt (held noRow) nodeCount i → at
       ≡ belowOr child i
       → getD rows at (record { cells = 0; frames = 0; cost = record { units = 0 } }) ≡ held (childBound i child)
   unfolding noRow

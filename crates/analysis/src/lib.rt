@@ -41,19 +41,12 @@ pub enum BoundsAnswer {
     Refused(Refusal),
 }
 
-// A number, as 64 bits, so that no sum of two wraps.
-fn wide(n: u32) -> u64
-    ensures { λ r. ⌜ (r ≡ n) × (r < 2 ^ 32) ⌝ }
-{
-    n as u64
-}
-
 // A number, or one above its limit.
 fn up_to(limit: u32, n: u64) -> u32
     requires { ⌜ (limit + 1 < 2 ^ 32) × (n < 2 ^ 36) ⌝ }
     ensures { λ r. ⌜ r ≡ upTo limit n ⌝ }
 {
-    if n <= wide(limit) {
+    if n <= common::wide(limit) {
         n as u32
     } else {
         limit + 1
@@ -64,7 +57,11 @@ fn up_to(limit: u32, n: u64) -> u32
 fn larger(a: u32, b: u32) -> u64
     ensures { λ r. ⌜ (r ≡ max a b) × (r < 2 ^ 32) ⌝ }
 {
-    if a < b { wide(b) } else { wide(a) }
+    if a < b {
+        common::wide(b)
+    } else {
+        common::wide(a)
+    }
 }
 
 impl Cost {
@@ -78,7 +75,7 @@ impl Cost {
         ensures { λ r. ⌜ r .units ≡ upTo costLimit (nodeCost + n) ⌝ }
     {
         Cost {
-            units: up_to(Cost::LIMIT, wide(Cost::OVERHEAD) + n),
+            units: up_to(Cost::LIMIT, common::wide(Cost::OVERHEAD) + n),
         }
     }
 
@@ -87,7 +84,7 @@ impl Cost {
         ensures { λ r. ⌜ r .units ≡ upTo costLimit (a .units + b .units) ⌝ }
     {
         Cost {
-            units: up_to(Cost::LIMIT, wide(a.units) + wide(b.units)),
+            units: up_to(Cost::LIMIT, common::wide(a.units) + common::wide(b.units)),
         }
     }
 }
@@ -110,7 +107,7 @@ fn copy_row(width: u32) -> Bound
     Bound {
         cells: 0,
         frames: 0,
-        cost: Cost::of(wide(width)),
+        cost: Cost::of(common::wide(width)),
     }
 }
 
@@ -121,8 +118,8 @@ fn child_row(child: Bound) -> Bound
     let own = child.cost;
     let overhead = Cost::of(0);
     Bound {
-        cells: up_to(limits::CELL_COUNT, wide(child.cells)),
-        frames: up_to(limits::FRAME_COUNT, wide(child.frames)),
+        cells: up_to(limits::CELL_COUNT, common::wide(child.cells)),
+        frames: up_to(limits::FRAME_COUNT, common::wide(child.frames)),
         cost: Cost::add(overhead, own),
     }
 }
@@ -162,10 +159,10 @@ fn comp_row(middle: u32, left: Bound, right: Bound) -> Bound
     Bound {
         cells: up_to(
             limits::CELL_COUNT,
-            wide(middle) + larger(left.cells, right.cells),
+            common::wide(middle) + larger(left.cells, right.cells),
         ),
         frames: up_to(limits::FRAME_COUNT, 1 + larger(left.frames, right.frames)),
-        cost: Cost::add(Cost::of(wide(middle)), Cost::add(a, b)),
+        cost: Cost::add(Cost::of(common::wide(middle)), Cost::add(a, b)),
     }
 }
 
@@ -175,12 +172,12 @@ fn disconnect_row(source: u32, kept: u32, handed: u32, left: Bound, right: Bound
 {
     let a = left.cost;
     let b = right.cost;
-    let s = HASH_CELLS + wide(source);
-    let t = wide(kept) + wide(handed);
+    let s = HASH_CELLS + common::wide(source);
+    let t = common::wide(kept) + common::wide(handed);
     Bound {
         cells: up_to(limits::CELL_COUNT, s + t + larger(left.cells, right.cells)),
         frames: up_to(limits::FRAME_COUNT, 2 + larger(left.frames, right.frames)),
-        cost: Cost::add(Cost::of(2 * s + t + wide(kept)), Cost::add(a, b)),
+        cost: Cost::add(Cost::of(2 * s + t + common::wide(kept)), Cost::add(a, b)),
     }
 }
 
@@ -188,7 +185,7 @@ fn disconnect_row(source: u32, kept: u32, handed: u32, left: Bound, right: Bound
 fn witness_row(width: u32) -> Bound
     ensures { λ r. ⌜ r ≡ held (witnessRow width) ⌝ }
 {
-    let w = wide(width);
+    let w = common::wide(width);
     Bound {
         cells: 0, // it goes straight into the write frame
         frames: 0,
@@ -381,10 +378,10 @@ pub fn bounds(types: &[u8], widths: &[u32], nodes: &[u32], arrows: &[u8]) -> Bou
     let rows = node_rows(types, widths, nodes, arrows);
     let at = last as usize;
     let own = rows[at];
-    let ends = wide(lookup::source_width(arrows, widths, last))
-        + wide(lookup::target_width(arrows, widths, last));
-    let cells = up_to(limits::CELL_COUNT, ends + wide(own.cells));
-    let frames = up_to(limits::FRAME_COUNT, wide(own.frames) + 2);
+    let ends = common::wide(lookup::source_width(arrows, widths, last))
+        + common::wide(lookup::target_width(arrows, widths, last));
+    let cells = up_to(limits::CELL_COUNT, ends + common::wide(own.cells));
+    let frames = up_to(limits::FRAME_COUNT, common::wide(own.frames) + 2);
     let price = own.cost;
     judged(cells, frames, price.units)
 }

@@ -12,13 +12,13 @@ use Rattle.scope.specs.Bounds.{failRow, noRow}
 use Rattle.table.specs.Answers.{recordOf}
 use Rattle.analysis.specs.Held.{held}
 use Rattle.analysis.proofs.Tables.{heldAt, bound-past, child-read, row-made}
-use Rattle.common.specs.Filling.{upToward, fill-start, fill-more, fill-end}
+use Rattle.common.specs.Filling.{filledTo, fill-start, fill-more, fill-end}
 use Rattle.analysis.proofs.node_rows.Statement.{statement}
 use Rattle.analysis.proofs.node_rows.Tie as tie
 
 abbrev Inv-loop : tie.InvT-loop
 Inv-loop types widths nodes arrows rows₀ n i₀ rows i =
-    (rows ≡ upToward (heldAt (typeRecords types) widths (nodeRecords nodes) (arrowRecords arrows)) (held noRow) nodeCount i) × (i ≤ n) ×
+    (rows ≡ filledTo (heldAt (typeRecords types) widths (nodeRecords nodes) (arrowRecords arrows)) (held noRow) nodeCount i) × (i ≤ n) ×
     (n ≡ min (length (nodeRecords nodes)) nodeCount)
 
 abbrev μ-loop : tie.MeasureT-loop
