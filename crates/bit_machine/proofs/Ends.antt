@@ -163,7 +163,7 @@ module _ {P : Program} {input : List ℕ} {size most : ℕ} {cells frames answer
       bits-after = ap bitsOf after-is ∙ bytes-left cells (bytesFor (wholeCells P)) held part (s .cells) (wholeCells P) (omega arith) is (r .kept)
 
       as-many : length after ≡ length cells
-      as-many = omega (arith, length-bits after, ap length bits-after, length-tabulate (8 * length cells) (s .cells))
+      as-many = omega (arith, length-bits after, ap length bits-after, length-tabulate (s .cells) (8 * length cells))
 
       cells-are : after ≡ packed (length cells) (s .cells)
       cells-are =
@@ -174,7 +174,7 @@ module _ {P : Program} {input : List ℕ} {size most : ℕ} {cells frames answer
       unfolding cellsOf wholeCells
       value-is = same-value (wholeTarget P) (cellsOf after) (s .cells) (width (wholeSource P)) (width (wholeSource P))
           (λ k l. ap (λ (bits : List Bit). getD bits (width (wholeSource P) + k) 0) bits-after
-          ∙ tabulate-at (8 * length cells) (s .cells) (width (wholeSource P) + k) (let h = held in omega arith))
+          ∙ tabulate-at (s .cells) (8 * length cells) (width (wholeSource P) + k) 0 (let h = held in omega arith))
 
     abbrev Ended : Left → Type 0
     Ended left = left ≡ ran (readyOf P input) cells frames answer

@@ -26,7 +26,8 @@ use Rattle.scope.specs.Run.{Ready, checkReady, cellsOf}
 use Rattle.scope.specs.Stages.{lent, hashStage}
 use Rattle.layout.specs.Mach.{Mach, recordsOf, length-recordsOf}
 use Rattle.layout.specs.Exec.{Outcome, runTerm}
-use Rattle.layout.specs.Safe.{Safe, length-bitsOf}
+use Rattle.common.specs.Bits.{length-bits}
+use Rattle.layout.specs.Safe.{Safe}
 use Rattle.layout.specs.Layout.{layout}
 use Rattle.layout.specs.Follow.{Fits}
 use Rattle.layout.specs.Match.{laidOut}
@@ -110,7 +111,7 @@ stores-within bytes numbers heights lentCells size most s fits c f e =
     let l = Theorems.layout-size lentCells size most s fits in
     let b : length (bitsOf bytes) ≡ lentCells = ap (λ (m : Mach). length (m .bits)) e ∙ l .0 in
     let n : length (recordsOf numbers) ≡ most = ap (λ (m : Mach). length (m .records)) e ∙ l .1 in
-    record { cells = omega (arith, length-bitsOf bytes); frames = omega (arith, length-recordsOf numbers) }
+    record { cells = omega (arith, length-bits bytes); frames = omega (arith, length-recordsOf numbers) }
 
 -- a run over lent tables that passed their checks
 module _ (types nodes arrows program hashes given witness : List ℕ) (witnessBits : ℕ) (input : List ℕ) (inputBits : ℕ)

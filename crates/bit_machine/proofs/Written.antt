@@ -29,12 +29,11 @@ use Rattle.value.proofs.Types.{read-fit}
 use Rattle.value.proofs.Sound.{paddedTo, pad-is}
 use Rattle.common.specs.Bits.{length-bits}
 use Rattle.layout.specs.Mach.{Mach, mach, activeWrite}
-use Rattle.layout.specs.Rules.{bitsPut, bitsWritten, skipped, writeMoved, bitsWritten-some, skipped-some}
+use Rattle.layout.specs.Rules.{bitsWritten, skipped, writeMoved, bitsWritten-some, skipped-some}
 use Rattle.layout.specs.Safe.{WriteOk}
 use Rattle.ready.specs.Lent.{Reads, TypesShown}
 use Rattle.bit_machine.proofs.Types.{width-found}
 use Rattle.bit_machine.proofs.Lent.{hash-whole}
-use Rattle.bit_machine.proofs.Bits.{puts}
 
 -- a hash has at most 32 bytes
 pub hash-short : (part : List ℕ) (ns : List Node) (given : List ℕ) (j : ℕ) → part ≡ branchHash ns given j → length part ≤ hashBytes
@@ -63,11 +62,11 @@ none-written (b ∷ bs) m e = absurd (omega arith)
 
 -- bits that were put at the write cursor, which was then moved behind them
 put-written : (bits bs : List ℕ) (rs : List Frame) (w r x n : ℕ) → length bs ≡ n → (n ≡ 0 → ⊥) → (bits′ : List ℕ)
-    → bits′ ≡ bitsPut bits (activeWrite (mach bits rs w r x) .cursor) bs → skipped n (mach bits′ rs w r x) ≡ bitsWritten bs (mach bits rs w r x)
+    → bits′ ≡ sets bits (activeWrite (mach bits rs w r x) .cursor) bs → skipped n (mach bits′ rs w r x) ≡ bitsWritten bs (mach bits rs w r x)
 put-written bits bs rs w r x n e some bits′ eb =
     skipped-some n (mach bits′ rs w r x) some
     ∙ ap (λ (b : List ℕ). mach b (writeMoved (forward n) (mach bits rs w r x)) w r x) eb
-    ∙ ap (λ (k : ℕ). mach (bitsPut bits (activeWrite (mach bits rs w r x) .cursor) bs) (writeMoved (forward k) (mach bits rs w r x)) w r x) (sym e)
+    ∙ ap (λ (k : ℕ). mach (sets bits (activeWrite (mach bits rs w r x) .cursor) bs) (writeMoved (forward k) (mach bits rs w r x)) w r x) (sym e)
     ∙ sym (bitsWritten-some bs (mach bits rs w r x) (λ z. some (sym e ∙ z)))
 
 -- the value of type k that stands at bit p of a stream
@@ -93,7 +92,7 @@ module _ {types widths next : List ℕ} (shown : TypesShown types widths next) (
   value-none e m = sym (none-written cells m (value-long ∙ e))
 
   padded-cells : (bits : List ℕ) (at : ℕ) → (n ≡ 0 → ⊥) → at + n ≤ length bits → length bits ≤ cellCount → (says : ValueRead) (bits′ : List ℕ)
-      → padding says bits′ ≡ padStage (shapeAt types widths next k) (getD widths k 0) stream p bits at → bits′ ≡ bitsPut bits at cells
+      → padding says bits′ ≡ padStage (shapeAt types widths next k) (getD widths k 0) stream p bits at → bits′ ≡ sets bits at cells
   unfolding paddedTo
   padded-cells bits at some fits few says bits′ e =
       let v : Val = reads .0 in
@@ -101,7 +100,7 @@ module _ {types widths next : List ℕ} (shown : TypesShown types widths next) (
       let right : padStage (shapeAt types widths next k) (getD widths k 0) stream p bits at ≡ paddedTo A p bits at (readValue A (drop p stream)) =
       rw (shown .widthsAre, shown .nextAre) (pad-is types (shown .count) (passed-table types (shown .count) (shown .passes)) k stream p bits at) in
       let done : paddedTo A p bits at (readValue A (drop p stream)) ≡ padding (Next (p + length (compact v))) (sets bits at (padded A v)) = rw (reads .2, roomy, paddedTo) in
-      ap (λ (z : Padded). z .cells) (e ∙ right ∙ done) ∙ puts bits at (padded A v) ∙ ap (λ (v : Val). bitsPut bits at (padded A v)) (sym value-is)
+      ap (λ (z : Padded). z .cells) (e ∙ right ∙ done) ∙ ap (λ (v : Val). sets bits at (padded A v)) (sym value-is)
 
   pub value-written : (bits : List ℕ) (rs : List Frame) (w r x : ℕ) → (n ≡ 0 → ⊥) → WriteOk (length bits) n (mach bits rs w r x) → length bits ≤ cellCount
       → (cursor : ℕ) → cursor ≡ activeWrite (mach bits rs w r x) .cursor → (says : ValueRead) (bits′ : List ℕ)
@@ -109,4 +108,4 @@ module _ {types widths next : List ℕ} (shown : TypesShown types widths next) (
       → skipped n (mach bits′ rs w r x) ≡ bitsWritten cells (mach bits rs w r x)
   value-written bits rs w r x some ok few cursor ec says bits′ e =
       put-written bits cells rs w r x n value-long some bits′
-      (padded-cells bits cursor some (let z = ok .fits in omega arith) few says bits′ e ∙ ap (λ (at : ℕ). bitsPut bits at cells) ec)
+      (padded-cells bits cursor some (let z = ok .fits in omega arith) few says bits′ e ∙ ap (λ (at : ℕ). sets bits at cells) ec)

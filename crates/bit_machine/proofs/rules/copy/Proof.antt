@@ -4,7 +4,6 @@ use native.Mathlib.Omega.{arith}
 use mathlib.Core.Path.{_≡_, refl, sym, ap, _∙_}
 use Rattle.layout.specs.Safe.{fed-bits}
 use Rattle.layout.specs.Rules.{copied-zero, copied-some}
-use Rattle.bit_machine.proofs.Bits.{copy-alike}
 use Rattle.bit_machine.proofs.rules.copy.Statement.{statement}
 use Rattle.bit_machine.proofs.rules.copy.Tie as tie
 
@@ -53,7 +52,7 @@ returns-2 c =
     let from = c .before .before .before .before .before .before .before .before .before .before .cursor-at .ensures in
     let records = c .before .before .before .before .before .before .before .before .before .before .before .before .records .ensures in
     let some = c .before .before .before .before .before .before .before .before .before .before .before .before .before .before .before .if1 .left in
-    rw (c .before .before .advance .ensures, copied, to, from, records, copy-alike, copied-some _ _ some)
+    rw (c .before .before .advance .ensures, copied, to, from, records, copied-some _ _ some)
 
 pub copy-spec : {M : Type 1} → statement M
 copy-spec =
