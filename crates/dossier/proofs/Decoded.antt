@@ -10,6 +10,7 @@ use lib.Dec.{leb}
 use lib.ListN.{length, getD, take, drop, length-drop}
 use lib.Seq.{length-take-le}
 use borrow.Author.Tests.{le-leb, leb-true}
+use Rattle.common.specs.Nodes.{records-back}
 use Rattle.limits.specs.Limits.{nodeCount, typeCount, typeBytes, dossierBytes}
 use Rattle.refusal.specs.declared.Refusal.{Refusal}
 use Rattle.refusal.specs.declared.Refusal.the-variants.{Natural, NodeRecord as BadNodeRecord, Header}
@@ -28,7 +29,7 @@ use Rattle.scope.specs.Closing.{decode}
 use Rattle.scope.specs.Arrows.{arrowRecords}
 use Rattle.scope.specs.Run.{Tables, checkTables, tablesOf, Left, leftWith, runTables}
 use Rattle.scope.specs.Stages.{counted, noRecord, recordRule, checkRecords, lentTables, lent, hashStage, runStage}
-use Rattle.common.specs.Checks.{every-all, all-every, holds-require, then-passes, holds-each}
+use Rattle.common.specs.Checks.{every-all, all-every, holds-require, then-passes, holds-each, counted-fine}
 use Rattle.exactness.specs.Nodes.{recordsFrom, hashesOf, layout}
 use Rattle.exactness.specs.Stream.{Stands, stands-split}
 use Rattle.exactness.specs.Programs.{IsProgram}

@@ -8,6 +8,7 @@ use native.Mathlib.Omega.{arith}
 use lib.Dec.{leb}
 use lib.ListN.{length, length-append, length-replicate}
 use borrow.Author.Tests.{le-leb, lt-leb}
+use Rattle.common.specs.Nodes.{length-numbers}
 use Rattle.limits.specs.Limits.{nodeNumbers}
 use Rattle.refusal.specs.declared.Refusal.{Refusal}
 use Rattle.refusal.specs.declared.Answer.{Answer}
@@ -24,7 +25,7 @@ use Rattle.scope.specs.Reading.{Table}
 use Rattle.scope.specs.Closing.{decode}
 use Rattle.scope.specs.Stages.{lent, hashStage}
 use Rattle.scope.specs.Run.{Tables, checkTables, tablesOf, checkDossier, Left, leftWith, runTables, Ended, ended, run}
-use Rattle.common.specs.Checks.{both-passed, then-passes}
+use Rattle.common.specs.Checks.{both-passed, then-passes, then-then}
 use Rattle.exactness.specs.Nodes.{layout}
 use Rattle.exactness.specs.Decoding.{decoded-is-program}
 use Rattle.dossier.specs.Ends.{front, keeps, settled}

@@ -7,7 +7,7 @@ use native.Mathlib.Omega.{arith}
 use lib.ListN.{length}
 use Rattle.refusal.specs.declared.Answer.{Answer}
 use Rattle.scope.specs.Numbers.{zeros}
-use Rattle.common.specs.Stores.{cleared}
+use Rattle.common.specs.Stores.{cleared, all-cleared}
 use Rattle.dossier.specs.Ends.{keeps, settled}
 
 module _ (said : Answer) (store : List ℕ) where

@@ -5,6 +5,7 @@ use Prim.Native.Nat.{ℕ, _*_, _-_, _/_, _≤_}
 use native.Mathlib.Omega.{arith}
 use lib.ListN.{length, take, length-append}
 use lib.Seq.{take-at}
+use Rattle.common.specs.Nodes.{length-numbers}
 use Rattle.limits.specs.Limits.{nodeNumbers}
 use Rattle.refusal.specs.declared.Refusal.{Refusal}
 use Rattle.refusal.specs.declared.Answer.{Answer}
@@ -19,7 +20,7 @@ use Rattle.scope.specs.Closing.{nodesLeft, hashesLeft}
 use Rattle.scope.specs.Stages.{runStage}
 use Rattle.scope.specs.Run.{checkTables, tablesOf, Left, leftWith, Ended, ended, run}
 use Rattle.common.specs.Checks.{clash, both-passed}
-use Rattle.common.specs.Answers.{checkOf}
+use Rattle.common.specs.Answers.{checkOf, answerOf}
 use Rattle.common.specs.declared.Checked.{Checked}
 use Rattle.common.specs.declared.Checked.the-variants as Checked
 use Rattle.decode.specs.declared.Sizes.{Sizes}
@@ -30,7 +31,6 @@ use Rattle.common.specs.Stores.{cleared, all-cleared}
 use Rattle.decode.specs.Stores.{left, tableSizes, leftBy}
 use Rattle.decode.specs.Stores as Stores
 use Rattle.dossier.specs.Ends.{front, settled, undecodedOf, sectionsRun}
-use Rattle.dossier.proofs.Records.{length-numbers}
 use Rattle.dossier.proofs.Decoded.{stage, stage-own}
 use Rattle.dossier.proofs.Job.{nodes-fit, hashes-fit, job-front, job-read, job-ran}
 
