@@ -16,7 +16,7 @@ use Rattle.bititer.specs.Answers.{naturalFault, gotNatural}
 use Rattle.bititer.specs.declared.NaturalFault.{NaturalFault}
 use Rattle.bititer.specs.declared.NaturalRead.{NaturalRead}
 use Rattle.bititer.specs.declared.NaturalRead.the-variants as NaturalRead
-use Rattle.common.specs.Answers.{checkOf}
+use Rattle.common.specs.Answers.{checkOf, answerOf}
 use Rattle.common.specs.declared.Checked.{Checked}
 use Rattle.common.specs.declared.Checked.the-variants as Checked
 use Rattle.decode.specs.declared.Sizes.{Sizes}
