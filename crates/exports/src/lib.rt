@@ -105,9 +105,9 @@ pub extern "C" fn drevaloci_walk(
 ) -> u32
     ensures { λ r. ⌜ judged r (now (place .exit)) ≡ judgedBy (walkStage (now (program .entry)) (now (hashes .entry)) (now (nodes .entry))) ⌝ }
 {
-    let said = common::answer_of(table::walk_stage(program, hashes, nodes));
-    *place = answer_told(said);
-    answer_code(said)
+    let walked = common::answer_of(table::walk_stage(program, hashes, nodes));
+    *place = answer_told(walked);
+    answer_code(walked)
 }
 
 // Lent tables up to their arrows: 11 and 12.
