@@ -1,7 +1,13 @@
 # Packs dossiers with known answers for the programs that replay them. vectors/cases/README.md says what stands in a record. The same bytes come out each time.
 #
+#   pack_cases.py                           all test data of crates replay and stores_test, from vectors/cases, vectors/original and make_known.py
 #   pack_cases.py cases CASES CRATES        edges.tsv and random.tsv of the folder CASES for crate replay, stores.tsv for crate stores_test
 #   pack_cases.py original ORIGINAL CRATES  bounds.tsv of the folder vectors/original for crate replay, outputs.tsv for crate stores_test
+#
+# A table may be compressed (edges.tsv.xz).
+import lzma
+import os
+import subprocess
 import sys
 
 import limits
@@ -14,7 +20,9 @@ LIMITS = (limits.CELL_COUNT, limits.FRAME_COUNT, limits.COST_LIMIT)
 
 
 def rows(path):
-    return [line.rstrip("\n").split("\t") for line in open(path) if not line.startswith("#")]
+    opened = open(path, encoding="utf8") if os.path.isfile(path) else lzma.open(path + ".xz", "rt", encoding="utf8")
+    with opened as table:
+        return [line.rstrip("\n").split("\t") for line in table if not line.startswith("#")]
 
 
 def number32(n):
@@ -129,5 +137,12 @@ def main(kind, source, crates):
         print(len(made), name, sum(map(len, made)), "bytes")
 
 
+def everything():
+    root = os.path.dirname(os.path.dirname(os.path.abspath(__file__)))
+    main("cases", f"{root}/vectors/cases", f"{root}/crates")
+    main("original", f"{root}/vectors/original", f"{root}/crates")
+    subprocess.run([sys.executable, f"{root}/crates/replay/make_known.py", f"{root}/crates"], check=True)
+
+
 if __name__ == "__main__":
-    main(*sys.argv[1:])
+    main(*sys.argv[1:]) if sys.argv[1:] else everything()
