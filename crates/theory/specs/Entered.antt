@@ -16,7 +16,7 @@ use Rattle.scope.specs.Bounds.{wholeCells, wholeFrames}
 use Rattle.scope.specs.Machine.{State, Step, state, newFrame, moveFrame, writeBits, skip, copy, fwd, peek, input, output, exec}
 
 module _ (P : Program) where
-  -- within the program's bounds: a new frame of n cells, and the run of node i
+  -- a new frame of n cells, within the program's bounds
   abbrev pub push : (n : ℕ) → State → Step
   push n s = newFrame (wholeCells P) (wholeFrames P) n s
 

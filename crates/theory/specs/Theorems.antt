@@ -181,7 +181,7 @@ module _ (P : Program) (ok : Sound P) (v : Val) (hv : HasTy v (wholeSource P)) (
   pub entered-shown : (i < length (P .nodes)) × (hiddenAt (P .nodes) i ≡ false)
   entered-shown = (entered-at P ok v hv c h .inTable, entered-at P ok v hv c h .shown)
 
-  -- The state meets what `machine-within-bounds` asks for that arrow, in the cells and frames of the whole program: a value to read and room to write at the cursors,
+  -- The state meets what `machine-is-meaning` asks for that arrow, in the cells and frames of the whole program: a value to read and room to write at the cursors,
   -- below the first free cell and apart, and as many cells and frames beyond as the bounds of its term.
   pub entered-meets : At (s .reads) (cursorOf (s .reads)) (width (sourceTy P i)) × At (s .writes) (cursorOf (s .writes)) (width (targetTy P i))
       × (cursorOf (s .reads) + width (sourceTy P i) ≤ s .next) × (cursorOf (s .writes) + width (targetTy P i) ≤ s .next)
