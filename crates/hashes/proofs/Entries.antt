@@ -26,14 +26,6 @@ pub whole-there : (l : List ℕ) → length l ≡ hashBytes → l ≡ whole l
 unfolding whole
 whole-there l e = rw (whole, eq-eqb (length l) hashBytes e)
 
-pub whole-missing : (l : List ℕ) → (length l ≡ hashBytes → ⊥) → [] ≡ whole l
-unfolding whole
-whole-missing l n = rw (whole, ne-eqb (length l) hashBytes n)
-
-pub entry-missing : (s : List ℕ) (e : ℕ) → length s / hashBytes ≤ e → [] ≡ whole (entry s e)
-unfolding entry
-entry-missing s e h = whole-missing (take hashBytes (drop (hashBytes * e) s)) (simp (length-take, length-drop) (λ q. omega arith))
-
 pub entry-there : (s : List ℕ) (e : ℕ) → hashBytes * (e + 1) ≤ length s → whole (entry s e) ≡ entry s e
 unfolding entry
 entry-there s e h = sym (whole-there (take hashBytes (drop (hashBytes * e) s)) (simp (length-take, length-drop) (omega arith)))

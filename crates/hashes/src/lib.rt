@@ -9,40 +9,42 @@ ghost use mathlib.Core.Bool.{not};
 ghost use mathlib.Core.List.{[], _++_};
 ghost use Prim.Native.Nat.{_+_, _*_, _^_, _<_, _≤_};
 ghost use lib.ListN.{length, take, drop};
+ghost use Rattle.promise.specs.Parts.{partOf};
 ghost use Rattle.limits.specs.Limits.{nodeCount, hashBytes};
 ghost use Rattle.refusal.specs.declared.Refusal.the-variants.{Hash};
 ghost use Rattle.scope.specs.Check.{each};
 ghost use Rattle.scope.specs.Nodes.{nodeRecords};
-ghost use Rattle.scope.specs.Hashes.{rights, whole, entry, entryFor, branchHash, countPlace};
+ghost use Rattle.scope.specs.Hashes.{rights, countPlace};
 ghost use Rattle.common.specs.Answers.{checkOf};
 ghost use Rattle.table.specs.Answers.{recordOf};
 ghost use Rattle.table.specs.Lent.{lentNodes};
+ghost use Rattle.hashes.specs.Branch.{wholePart, entryPart, suppliedPart, branchPart};
 ghost use Rattle.hashes.specs.Hashes.{rightOf, pushed, unlikeAt, clashAt, countedHashes};
 
 // The 32 bytes from a place on; empty where they are not all there.
 fn hash_at(bytes: &[u8], at: usize) -> &[u8]
-    ensures { λ r. ⌜ now r ≡ whole (take hashBytes (drop at (now (bytes .entry)))) ⌝ }
+    ensures { λ r. ⌜ partOf r ≡ wholePart (partOf (bytes .entry)) at (take hashBytes (drop at (now (bytes .entry)))) ⌝ }
 {
     let hash = common::part(bytes, at, limits::HASH_BYTES);
     if hash.len() == limits::HASH_BYTES {
         return hash;
     }
-    &bytes[..0]
+    common::part(bytes, 0, 0)
 }
 
 // Entry e of the supplied hashes; empty where it is not all there.
 fn entry_at(given: &[u8], e: usize) -> &[u8]
-    ensures { λ r. ⌜ now r ≡ whole (entry (now (given .entry)) e) ⌝ }
+    ensures { λ r. ⌜ partOf r ≡ entryPart (partOf (given .entry)) e ⌝ }
 {
     if given.len() / limits::HASH_BYTES <= e {
-        return &given[..0];
+        return common::part(given, 0, 0);
     }
     hash_at(given, limits::HASH_BYTES * e)
 }
 
 // The first supplied hash that is for node j; empty where there is none.
 fn supplied<'a>(nodes: &[u32], given: &'a [u8], j: usize) -> &'a [u8]
-    ensures { λ r. ⌜ now r ≡ entryFor [] (now (given .entry)) j 0 (rights (lentNodes [] (now (nodes .entry)))) ⌝ }
+    ensures { λ r. ⌜ partOf r ≡ suppliedPart (partOf (given .entry)) j 0 (rights (lentNodes [] (now (nodes .entry)))) ⌝ }
 {
     let count = nodes.len() / limits::NODE_NUMBERS;
     let mut i: usize = 0;
@@ -57,16 +59,16 @@ fn supplied<'a>(nodes: &[u32], given: &'a [u8], j: usize) -> &'a [u8]
         }
         i += 1;
     }
-    &given[..0]
+    common::part(given, 0, 0)
 }
 
 // The hash of the branch at node j; empty for an unknown node and for one that has no hash.
 pub fn branch_hash<'a>(nodes: &[u32], hashes: &'a [u8], given: &'a [u8], j: usize) -> &'a [u8]
-    ensures { λ r. ⌜ now r ≡ branchHash (lentNodes (now (hashes .entry)) (now (nodes .entry))) (now (given .entry)) j ⌝ }
+    ensures { λ r. ⌜ partOf r ≡ branchPart (now (nodes .entry)) (partOf (hashes .entry)) (partOf (given .entry)) j ⌝ }
 {
     let r = table::record_in(nodes, j);
     if table::WORD < r.kind {
-        return &hashes[..0];
+        return common::part(hashes, 0, 0);
     }
     if r.kind == table::HIDDEN {
         return hash_at(hashes, common::place(r.first));

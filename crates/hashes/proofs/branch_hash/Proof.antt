@@ -4,21 +4,23 @@ use Prim.Native.Nat.{ℕ}
 use lib.ListN.{take, drop}
 use borrow.Author.Needs.{needs}
 use Rattle.limits.specs.Limits.{hashBytes}
-use Rattle.scope.specs.Hashes.{whole}
+use Rattle.promise.specs.Parts.{partOf}
 use Rattle.table.specs.Answers.{recordOf}
-use Rattle.hashes.proofs.Branch.{no-kind, in-store, in-supply}
+use Rattle.hashes.specs.Branch.{wholePart}
+use Rattle.hashes.proofs.Branch.{part-none, part-stored, part-supplied}
 use Rattle.hashes.proofs.branch_hash.Statement.{statement}
 use Rattle.hashes.proofs.branch_hash.Tie as tie
 
 record-in-requires : tie.Need-record-in-requires
 record-in-requires c κs = search needs
 
-slice-aggregate-result : tie.Need-slice-aggregate-result
-slice-aggregate-result c = search needs
+part-requires : tie.Need-part-requires
+part-requires c κs = search needs
 
 returns : tie.Need-returns
 returns c =
-    no-kind _ _ _ _ (recordOf (c .before .before .before .record-in .result)) (c .before .before .before .record-in .ensures) (c .before .if1 .taken)
+    let own = c .before .before .before .record-in in
+    c .part .ensures ∙ part-none _ _ _ _ (recordOf (own .result)) (own .ensures) (c .before .if1 .taken)
 
 place-requires : tie.Need-place-requires
 place-requires c κs = search needs
@@ -29,24 +31,25 @@ hash-at-requires c κs = search needs
 returns-2 : tie.Need-returns-2
 returns-2 c =
     let a = c .before .before .before .before .before .before .before .before .before .before .args in
-    c .hash-at .ensures ∙ ap (λ (at : ℕ). whole (take hashBytes (drop at (a .hashes .now)))) (c .before .place .ensures .0)
-    ∙ in-store _ _ _ _ (recordOf (c .before .before .before .before .before .before .record-in .result))
-    (c .before .before .before .before .before .before .record-in .ensures) (c .before .before .if2 .taken)
+    let own = c .before .before .before .before .before .before .record-in in
+    c .hash-at .ensures
+    ∙ ap (λ (at : ℕ). wholePart (partOf (a .hashes)) at (take hashBytes (drop at (a .hashes .now)))) (c .before .place .ensures .0)
+    ∙ part-stored _ _ _ _ (recordOf (own .result)) (own .ensures) (c .before .before .if2 .taken)
 
 supplied-requires : tie.Need-supplied-requires
 supplied-requires c κs = search needs
 
 returns-3 : tie.Need-returns-3
 returns-3 c =
-    c .supplied .ensures ∙ in-supply _ _ _ _ (recordOf (c .before .before .before .before .before .record-in .result))
-    (c .before .before .before .before .before .record-in .ensures) (c .before .before .before .if1 .left) (c .before .if2 .left)
+    let own = c .before .before .before .before .before .record-in in
+    c .supplied .ensures ∙ part-supplied _ _ _ _ (recordOf (own .result)) (own .ensures) (c .before .before .before .if1 .left) (c .before .if2 .left)
 
 pub branch-hash-spec : {M : Type 1} → statement M
 branch-hash-spec =
     tie.close
     (tie.spec
     record-in-requires
-    slice-aggregate-result
+    part-requires
     returns
     place-requires
     hash-at-requires

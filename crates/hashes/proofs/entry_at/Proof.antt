@@ -1,15 +1,19 @@
 -- `hashes::entry_at` meets its contract.
+use mathlib.Core.Path.{_∙_}
 use borrow.Author.Needs.{needs}
+use Rattle.promise.specs.Parts.{partOf}
 use Rattle.scope.specs.Hashes.{entry}
-use Rattle.hashes.proofs.Entries.{entry-missing}
+use Rattle.hashes.proofs.Branch.{entry-past}
 use Rattle.hashes.proofs.entry_at.Statement.{statement}
 use Rattle.hashes.proofs.entry_at.Tie as tie
 
-slice-aggregate-result : tie.Need-slice-aggregate-result
-slice-aggregate-result c = search needs
+part-requires : tie.Need-part-requires
+part-requires c κs = search needs
 
 returns : tie.Need-returns
-returns c = entry-missing _ _ (c .before .if1 .taken)
+returns c =
+    let a = c .before .before .before .args in
+    c .part .ensures ∙ entry-past (partOf (a .given)) (a .e) (c .before .if1 .taken)
 
 mul-hash-at : tie.Need-mul-hash-at
 mul-hash-at c = search needs
@@ -23,4 +27,4 @@ returns-2 c = c .hash-at .ensures
 
 pub entry-at-spec : {M : Type 1} → statement M
 entry-at-spec =
-    tie.close (tie.spec slice-aggregate-result returns mul-hash-at hash-at-requires returns-2)
+    tie.close (tie.spec part-requires returns mul-hash-at hash-at-requires returns-2)

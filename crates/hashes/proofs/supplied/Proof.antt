@@ -1,23 +1,30 @@
 -- `hashes::supplied` meets its contract.
--- The loop's invariant: the entry that is looked for is the first for node j from entry e on, among the disconnects from node i on.
-use mathlib.Core.Path.{_≡_, sym, ap, _∙_}
+-- The loop's invariant: wherever the supplied hashes lie, the entry that is looked for is the first for node j from entry e on, among the disconnects from node i on.
+use mathlib.Core.Path.{_≡_, refl, sym, ap, _∙_}
+use mathlib.Core.List.{List}
 use mathlib.Core.Logic.{⊎-elim}
-use Prim.Native.Nat.{_+_, _-_, _≤_}
+use Prim.Native.Nat.{ℕ, _+_, _-_, _≤_}
 use native.Mathlib.Omega.{arith}
 use borrow.Author.Needs.{needs}
+use Rattle.promise.specs.Parts.{Part, partOf}
 use Rattle.table.specs.Answers.{recordOf}
 use Rattle.hashes.proofs.Branch.{fromNode, found-here, passed-child, passed-kind, at-end}
 use Rattle.hashes.proofs.supplied.Statement.{statement}
 use Rattle.hashes.proofs.supplied.Tie as tie
 
+-- bytes that lie at a place
+abbrev lying : ℕ × ℕ → List ℕ → Part
+lying place bytes = record { place = place; bytes = bytes }
+
 abbrev Inv-loop : tie.InvT-loop
-Inv-loop nodes given j count i₀ e₀ i e = (fromNode nodes given j 0 0 ≡ fromNode nodes given j i e) × (i ≤ count) × (e ≤ i)
+Inv-loop nodes given j count i₀ e₀ i e =
+    ((place : ℕ × ℕ) → fromNode nodes (lying place given) j 0 0 ≡ fromNode nodes (lying place given) j i e) × (i ≤ count) × (e ≤ i)
 
 abbrev μ-loop : tie.MeasureT-loop
 μ-loop nodes given j count i₀ e₀ i e = count - i
 
 loop-holds : tie.Need-loop-holds Inv-loop μ-loop
-loop-holds c = search needs
+loop-holds c = (λ place. refl, search needs, search needs)
 
 record-in-requires : tie.Need-record-in-requires Inv-loop μ-loop
 record-in-requires c κs = search needs
@@ -34,8 +41,8 @@ returns c =
     let turn = c .before .before .before .before .before .before .before .loop in
     let own = c .before .before .before .before .before .record-in in
     c .entry-at .ensures
-    ∙ sym (turn .inv .0
-    ∙ found-here (a .nodes .now) (a .given .now) (a .j) (turn .i) (turn .e) (recordOf (own .result))
+    ∙ sym (turn .inv .0 (a .given .ptr)
+    ∙ found-here (a .nodes .now) (partOf (a .given)) (a .j) (turn .i) (turn .e) (recordOf (own .result))
     (c .before .before .before .before .before .before .loop-test .taken) (own .ensures) (c .before .before .before .if1 .taken)
     (sym (c .before .before .place .ensures .0) ∙ c .before .if2 .taken))
 
@@ -55,32 +62,32 @@ loop-again c =
     let own = c .before .before .record-in in
     ⊎-elim
     (λ w. (
-      turn .inv .0
-          ∙ passed-child (a .nodes .now) (a .given .now) (a .j) (turn .i) (turn .e) (recordOf (own .result))
+      λ place. turn .inv .0 place
+          ∙ passed-child (a .nodes .now) (lying place (a .given .now)) (a .j) (turn .i) (turn .e) (recordOf (own .result))
           (c .before .before .before .loop-test .taken) (own .ensures) (w .0 .taken)
           (λ q. w .2 .left (w .1 .ensures .0 ∙ q))
-          ∙ ap (fromNode (a .nodes .now) (a .given .now) (a .j) (turn .i + 1)) (sym (w .3)),
+          ∙ ap (fromNode (a .nodes .now) (lying place (a .given .now)) (a .j) (turn .i + 1)) (sym (w .3)),
       omega arith,
       omega arith,
     ))
     (λ w. (
-      turn .inv .0
-          ∙ passed-kind (a .nodes .now) (a .given .now) (a .j) (turn .i) (turn .e) (recordOf (own .result))
+      λ place. turn .inv .0 place
+          ∙ passed-kind (a .nodes .now) (lying place (a .given .now)) (a .j) (turn .i) (turn .e) (recordOf (own .result))
           (c .before .before .before .loop-test .taken) (own .ensures) (w .0 .left)
-          ∙ ap (fromNode (a .nodes .now) (a .given .now) (a .j) (turn .i + 1)) (sym (w .1)),
+          ∙ ap (fromNode (a .nodes .now) (lying place (a .given .now)) (a .j) (turn .i + 1)) (sym (w .1)),
       omega arith,
       omega arith,
     ))
     (c .if1 .came)
 
-slice-aggregate-result : tie.Need-slice-aggregate-result Inv-loop μ-loop
-slice-aggregate-result c = search needs
+part-requires : tie.Need-part-requires Inv-loop μ-loop
+part-requires c κs = search needs
 
 returns-2 : tie.Need-returns-2 Inv-loop μ-loop
 returns-2 c =
     let a = c .before .before .before .before .before .args in
     let turn = c .before .before .loop in
-    at-end (a .nodes .now) (a .given .now) (a .j) (turn .i) (turn .e) (c .before .loop-test .left) ∙ sym (turn .inv .0)
+    c .part .ensures ∙ at-end (a .nodes .now) (partOf (a .given)) (a .j) (turn .i) (turn .e) (c .before .loop-test .left) ∙ sym (turn .inv .0 (a .given .ptr))
 
 pub supplied-spec : {M : Type 1} → statement M
 supplied-spec =
@@ -97,5 +104,5 @@ supplied-spec =
     add-i
     loop-less
     loop-again
-    slice-aggregate-result
+    part-requires
     returns-2)

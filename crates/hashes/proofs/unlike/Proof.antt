@@ -4,7 +4,9 @@ use mathlib.Core.Bool.{not}
 use Prim.Native.Nat.{_-_}
 use native.Mathlib.Omega.{arith}
 use borrow.Author.Needs.{needs}
+use Rattle.promise.specs.Parts.{partOf}
 use Rattle.scope.specs.Numbers.{same}
+use Rattle.hashes.proofs.Branch.{entry-holds}
 use Rattle.hashes.proofs.Entries.{entry-there, other-child, same-child}
 use Rattle.hashes.proofs.unlike.Statement.{statement}
 use Rattle.hashes.proofs.unlike.Tie as tie
@@ -37,8 +39,8 @@ returns-2 : tie.Need-returns-2
 returns-2 c =
     let a = c .before .before .before .before .before .before .before .before .args in
     ap not (c .same-bytes .ensures
-    ∙ ap₂ same (c .before .before .entry-at .ensures ∙ entry-there (a .given .now) (a .d) (omega arith))
-    (c .before .entry-at2 .ensures ∙ entry-there (a .given .now) (a .e) (omega arith)))
+    ∙ ap₂ same (entry-holds _ (partOf (a .given)) (a .d) (c .before .before .entry-at .ensures) ∙ entry-there (a .given .now) (a .d) (omega arith))
+    (entry-holds _ (partOf (a .given)) (a .e) (c .before .entry-at2 .ensures) ∙ entry-there (a .given .now) (a .e) (omega arith)))
     ∙ same-child (a .children .now) (a .given .now) (a .e) (a .d) (c .before .before .before .if1 .left)
 
 pub unlike-spec : {M : Type 1} → statement M
