@@ -11,7 +11,7 @@ use lib.ListN.{length, getD}
 use Rattle.report.specs.Types.{Ty, width, wordTy, leftOf}
 use Rattle.report.specs.Values.{Val}
 use Rattle.report.specs.Canonical.{children}
-use Rattle.report.specs.Terms.{Term, bad}
+use Rattle.report.specs.Terms.{Term, fail}
 use Rattle.scope.specs.Check.{passed, _>>=_}
 use Rattle.scope.specs.Types.{TypeRecord, tyAt, leftAt}
 use Rattle.scope.specs.Nodes.{Kind, kComp, kCase, kPair, kDisconnect, kInjl, kInjr, kTake, kDrop, kIden, kUnit, kFail, kDisconnect1, kWitness, kHidden, kWord, kUnknown, kindOf, NodeRecord, nodeOf, nodesOf, nodeAt}
@@ -88,7 +88,7 @@ module _ (types : List TypeRecord) (records : List NodeRecord) (arrows : List Ar
     module _ (below : (i : ℕ) → i < length records → AllBelow i (children (nodeAt (nodesOf bits hashes records) i))) where
       bounds-past : (i : ℕ) → length records ≤ i → noRow ≡ bounds (termAt program i)
       unfolding termAt bounds
-      bounds-past i h = ap bounds (sym (entries-past (termMake program) (nodesOf bits hashes records) i bad
+      bounds-past i h = ap bounds (sym (entries-past (termMake program) (nodesOf bits hashes records) i (fail i)
           (omega (arith, length-nodes bits hashes records))))
 
       bounds-below : (n i : ℕ) → i < n → boundAt types widths records arrows i ≡ bounds (termAt program i)

@@ -65,18 +65,18 @@ module _ (types : List TypeRecord) (nodes : List Node) (arrows : List Arrow) (fr
       → ok ≡ kindRule types nodes arrows from to (nodeOf [] [] (kindOf kind) a b)
   as-kind kind k e p = p ∙ ap (λ n. kindRule types nodes arrows from to (nodeOf [] [] (kindOf n) a b)) (sym e)
 
-  -- a hidden node, or a kind that no node has
-  pub as-hidden : (kind : ℕ) → 7 < kind → (kind ≡ 8 → ⊥) → (kind ≡ 9 → ⊥) → (kind ≡ 10 → ⊥) → (kind ≡ 11 → ⊥) → (kind ≡ 12 → ⊥) → (kind ≡ 14 → ⊥)
-      → every (eqb from 0 ∷ eqb to 0 ∷ []) ≡ kindRule types nodes arrows from to (nodeOf [] [] (kindOf kind) a b)
+  -- a witness, a fail node, or a kind that no node has: any arrow
+  pub as-any : (kind : ℕ) → 7 < kind → (kind ≡ 8 → ⊥) → (kind ≡ 9 → ⊥) → (kind ≡ 11 → ⊥) → (kind ≡ 13 → ⊥) → (kind ≡ 14 → ⊥)
+      → true ≡ kindRule types nodes arrows from to (nodeOf [] [] (kindOf kind) a b)
   unfolding kindRule nodeOf kindOf
-  as-hidden =
-      by-kind (λ k. 7 < k → (k ≡ 8 → ⊥) → (k ≡ 9 → ⊥) → (k ≡ 10 → ⊥) → (k ≡ 11 → ⊥) → (k ≡ 12 → ⊥) → (k ≡ 14 → ⊥)
-      → every (eqb from 0 ∷ eqb to 0 ∷ []) ≡ kindRule types nodes arrows from to (nodeOf [] [] (kindOf k) a b))
+  as-any =
+      by-kind (λ k. 7 < k → (k ≡ 8 → ⊥) → (k ≡ 9 → ⊥) → (k ≡ 11 → ⊥) → (k ≡ 13 → ⊥) → (k ≡ 14 → ⊥)
+      → true ≡ kindRule types nodes arrows from to (nodeOf [] [] (kindOf k) a b))
       (λ h. absurd (omega arith)) (λ h. absurd (omega arith)) (λ h. absurd (omega arith)) (λ h. absurd (omega arith))
       (λ h. absurd (omega arith)) (λ h. absurd (omega arith)) (λ h. absurd (omega arith)) (λ h. absurd (omega arith))
-      (λ h m n o p q r. absurd (m refl)) (λ h m n o p q r. absurd (n refl)) (λ h m n o p q r. absurd (o refl)) (λ h m n o p q r. absurd (p refl))
-      (λ h m n o p q r. absurd (q refl)) (λ h m n o p q r. refl) (λ h m n o p q r. absurd (r refl))
-      (λ k g h m n o p q r. ap (λ x. kindRule types nodes arrows from to (nodeOf [] [] x a b)) (sym (unknown k g)))
+      (λ h m n o p q. absurd (m refl)) (λ h m n o p q. absurd (n refl)) (λ h m n o p q. refl) (λ h m n o p q. absurd (o refl))
+      (λ h m n o p q. refl) (λ h m n o p q. absurd (p refl)) (λ h m n o p q. absurd (q refl))
+      (λ k g h m n o p q. ap (λ x. kindRule types nodes arrows from to (nodeOf [] [] x a b)) (sym (unknown k g)))
 
 -- whether a kind is the disconnect with one child
 one-child-by : (a b k : ℕ) → not (eqb k 11) ≡ onOneChild (nodeOf [] [] (kindOf k) a b) (λ child. false) true

@@ -257,7 +257,7 @@ fn one_fits(types: &[u8], arrows: &[u8], r: NodeRecord, from: usize, to: usize) 
     }
 }
 
-// The nodes with none, and the disconnect with one; a hidden node, and what has no kind, goes from record 0 to record 0.
+// The nodes with none, and the disconnect with one; a hidden node goes from record 0 to record 0, what has no kind, as a fail node, anywhere.
 fn other_fits(types: &[u8], r: NodeRecord, from: usize, to: usize) -> bool
     requires { ⌜ 7 < r .kind ⌝ }
     ensures { λ ok. ⌜ ((ns : List Node) (as′ : List ScopeArrow) → ok ≡ kindRule (typeRecords (now (types .entry))) ns as′ from to (nodeIs [] (recordOf r))) ⌝ }
@@ -266,11 +266,10 @@ fn other_fits(types: &[u8], r: NodeRecord, from: usize, to: usize) -> bool
     match kind {
         table::IDEN => from == to,
         table::UNIT => types::is_unit(types, to),
-        table::FAIL => true,
         table::DISCONNECT1 => false,
-        table::WITNESS => true,
+        table::HIDDEN => all2(from == 0, to == 0),
         table::WORD => word_fits(types, r.first, from, to),
-        _ => all2(from == 0, to == 0),
+        _ => true,
     }
 }
 

@@ -57,10 +57,6 @@ module _ {types widths next nodes arrows program hashes given witnesses position
   unfolding kindOf nodeOf
   unit-run e = Nodes.run-unit P (Lent.children-below shown i) i m (by-kind 9 e)
 
-  pub fail-run : r .kind ≡ 10 → runTerm (termAt P i) m ≡ failed i m
-  unfolding kindOf nodeOf
-  fail-run e = Nodes.run-fail P (Lent.children-below shown i) i m _ (by-kind 10 e)
-
   module _ (e : r .kind ≡ 8) (n : ℕ) (en : n ≡ getD widths (source (arrowRecords arrows) i) 0) where
     pub iden-need : 0 < n → CopyOk (length (m .bits)) n m
     unfolding kindOf nodeOf
@@ -91,33 +87,10 @@ module _ {types widths next nodes arrows program hashes given witnesses position
         → runTerm (termAt P i) m ≡ done m′
     witness-run = Nodes.run-witness P (Lent.children-below shown i) i m _ is-witness value-is
 
-  -- what is left of the kinds above 7 is a word
-  abbrev Left : ℕ → Type 0
-  Left k = (7 < k) × (k ≡ 9 → ⊥) × (k ≡ 10 → ⊥) × (k ≡ 8 → ⊥) × (k ≡ 12 → ⊥)
-
-  word-by : (k : ℕ) → Is (nodeOf (streamOf program) hashes (kindOf k) (r .first) (r .second)) → Left k
-      → Is (Node.word (r .first) (take (2 ^ (r .first - 1)) (drop (r .second) (streamOf program))))
-  unfolding kindOf nodeOf
-  word-by zero e h = absurd (omega (arith, h .0))
-  word-by (suc zero) e h = absurd (omega (arith, h .0))
-  word-by (suc (suc zero)) e h = absurd (omega (arith, h .0))
-  word-by (suc (suc (suc zero))) e h = absurd (omega (arith, h .0))
-  word-by (suc (suc (suc (suc zero)))) e h = absurd (omega (arith, h .0))
-  word-by (suc (suc (suc (suc (suc zero))))) e h = absurd (omega (arith, h .0))
-  word-by (suc (suc (suc (suc (suc (suc zero)))))) e h = absurd (omega (arith, h .0))
-  word-by (suc (suc (suc (suc (suc (suc (suc zero))))))) e h = absurd (omega (arith, h .0))
-  word-by (suc (suc (suc (suc (suc (suc (suc (suc zero)))))))) e h = absurd (h .3 refl)
-  word-by (suc (suc (suc (suc (suc (suc (suc (suc (suc zero))))))))) e h = absurd (h .1 refl)
-  word-by (suc (suc (suc (suc (suc (suc (suc (suc (suc (suc zero)))))))))) e h = absurd (h .2 refl)
-  word-by (suc (suc (suc (suc (suc (suc (suc (suc (suc (suc (suc zero))))))))))) e h = absurd (Nodes.never-one-child P (Lent.children-below shown i) i m _ e safe)
-  word-by (suc (suc (suc (suc (suc (suc (suc (suc (suc (suc (suc (suc zero)))))))))))) e h = absurd (h .4 refl)
-  word-by (suc (suc (suc (suc (suc (suc (suc (suc (suc (suc (suc (suc (suc zero))))))))))))) e h = absurd (Nodes.never-hidden P (Lent.children-below shown i) i m _ e safe)
-  word-by (suc (suc (suc (suc (suc (suc (suc (suc (suc (suc (suc (suc (suc (suc zero)))))))))))))) e h = e
-  word-by (suc (suc (suc (suc (suc (suc (suc (suc (suc (suc (suc (suc (suc (suc (suc k))))))))))))))) e h = absurd (Nodes.never-hidden P (Lent.children-below shown i) i m _ e safe)
-
-  module _ (h : Left (r .kind)) (n : ℕ) (en : n ≡ getD widths (target (arrowRecords arrows) i) 0) where
+  module _ (e : r .kind ≡ 14) (n : ℕ) (en : n ≡ getD widths (target (arrowRecords arrows) i) 0) where
     is-word : Is (Node.word (r .first) (take (2 ^ (r .first - 1)) (drop (r .second) (streamOf program))))
-    is-word = word-by (r .kind) (by-kind (r .kind) refl) h
+    unfolding kindOf nodeOf
+    is-word = by-kind 14 e
 
     pub word-inside : r .second + n ≤ length (bitsOf program)
     word-inside = rw en (Lent.word-inside shown i (r .first) (r .second) is-word)
@@ -135,6 +108,32 @@ module _ {types widths next nodes arrows program hashes given witnesses position
 
     pub word-run : (m′ : Mach) → m′ ≡ bitsWritten (take n (drop (r .second) (bitsOf program))) m → runTerm (termAt P i) m ≡ done m′
     word-run = Nodes.run-word P (Lent.children-below shown i) i m (take n (drop (r .second) (bitsOf program))) (r .first) _ is-word bits-are
+
+  -- what is left of the kinds above 7 can only fail: a fail node, or a kind that no node has
+  abbrev Left : ℕ → Type 0
+  Left k = (7 < k) × (k ≡ 9 → ⊥) × (k ≡ 8 → ⊥) × (k ≡ 12 → ⊥) × (k ≡ 14 → ⊥)
+
+  fail-by : (k : ℕ) → Is (nodeOf (streamOf program) hashes (kindOf k) (r .first) (r .second)) → Left k → runTerm (termAt P i) m ≡ failed i m
+  unfolding kindOf nodeOf
+  fail-by zero e h = absurd (omega (arith, h .0))
+  fail-by (suc zero) e h = absurd (omega (arith, h .0))
+  fail-by (suc (suc zero)) e h = absurd (omega (arith, h .0))
+  fail-by (suc (suc (suc zero))) e h = absurd (omega (arith, h .0))
+  fail-by (suc (suc (suc (suc zero)))) e h = absurd (omega (arith, h .0))
+  fail-by (suc (suc (suc (suc (suc zero))))) e h = absurd (omega (arith, h .0))
+  fail-by (suc (suc (suc (suc (suc (suc zero)))))) e h = absurd (omega (arith, h .0))
+  fail-by (suc (suc (suc (suc (suc (suc (suc zero))))))) e h = absurd (omega (arith, h .0))
+  fail-by (suc (suc (suc (suc (suc (suc (suc (suc zero)))))))) e h = absurd (h .2 refl)
+  fail-by (suc (suc (suc (suc (suc (suc (suc (suc (suc zero))))))))) e h = absurd (h .1 refl)
+  fail-by (suc (suc (suc (suc (suc (suc (suc (suc (suc (suc zero)))))))))) e h = Nodes.run-fail P (Lent.children-below shown i) i m _ e
+  fail-by (suc (suc (suc (suc (suc (suc (suc (suc (suc (suc (suc zero))))))))))) e h = absurd (Nodes.never-one-child P (Lent.children-below shown i) i m _ e safe)
+  fail-by (suc (suc (suc (suc (suc (suc (suc (suc (suc (suc (suc (suc zero)))))))))))) e h = absurd (h .3 refl)
+  fail-by (suc (suc (suc (suc (suc (suc (suc (suc (suc (suc (suc (suc (suc zero))))))))))))) e h = absurd (Nodes.never-hidden P (Lent.children-below shown i) i m _ e safe)
+  fail-by (suc (suc (suc (suc (suc (suc (suc (suc (suc (suc (suc (suc (suc (suc zero)))))))))))))) e h = absurd (h .4 refl)
+  fail-by (suc (suc (suc (suc (suc (suc (suc (suc (suc (suc (suc (suc (suc (suc (suc k))))))))))))))) e h = Nodes.run-fail P (Lent.children-below shown i) i m _ e
+
+  pub fail-run : Left (r .kind) → runTerm (termAt P i) m ≡ failed i m
+  fail-run h = fail-by (r .kind) (by-kind (r .kind) refl) h
 
   -- nodes with one child
 

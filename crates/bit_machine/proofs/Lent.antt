@@ -19,7 +19,7 @@ use Rattle.report.specs.Nodes as Node
 use Rattle.report.specs.Canonical.{children}
 use Rattle.scope.specs.Numbers.{streamOf, tabulate}
 use Rattle.scope.specs.Types.{typeRecords, tyAt, leftAt, rightAt}
-use Rattle.scope.specs.Nodes.{Kind, kComp, kCase, kPair, kDisconnect, kInjl, kInjr, kTake, kDrop, kIden, kUnit, kFail, kDisconnect1, kWitness, kHidden, kWord, kUnknown, kindOf, NodeRecord, nodeRecords, nodeOf, nodesOf, nodeAt, onHidden, onDisconnect, onWitness}
+use Rattle.scope.specs.Nodes.{Kind, kComp, kCase, kPair, kDisconnect, kInjl, kInjr, kTake, kDrop, kIden, kUnit, kFail, kDisconnect1, kWitness, kHidden, kWord, kUnknown, kindOf, NodeRecord, nodeRecords, noNode, nodeOf, nodesOf, nodeAt, onHidden, onDisconnect, onWitness}
 use Rattle.scope.specs.Arrows.{arrowRecords, source, target}
 use Rattle.scope.specs.Hashes.{rights, whole, entry, entryFor, branchHash}
 use Rattle.scope.specs.Program.{Program, valueFrom, sourceTy, targetTy}
@@ -192,7 +192,7 @@ module _ {types widths next nodes arrows program hashes given witnesses position
     where
       past : length (programNodes nodes program hashes) ≤ i → ⊥
       past h =
-          let d : nodeAt (programNodes nodes program hashes) i ≡ Node.hidden [] = List·getD-eq-default (programNodes nodes program hashes) (Node.hidden []) {n = i} h in
+          let d : nodeAt (programNodes nodes program hashes) i ≡ noNode = List·getD-eq-default (programNodes nodes program hashes) noNode {n = i} h in
           let z : _≡_ {A = ℕ} 0 1 = cc in
           omega arith
 

@@ -23,7 +23,7 @@ ghost use Rattle.lookup.specs.Lookup.{recordAt};
 ghost use Rattle.ready.specs.Lent.{programAt, Shown};
 ghost use Rattle.bit_machine.specs.Engine.{outOf, aroundOf, handed, TwoKind, Planned};
 
-// A node with no child: iden, unit, fail, witness or word.
+// A node with no child: unit, iden, witness or word; any other can only fail.
 fn leaf<'a>(
     types: &'a [u8],
     widths: &'a [u32],
@@ -50,9 +50,6 @@ fn leaf<'a>(
     if record.kind == table::UNIT {
         return Plan::Rest;
     }
-    if record.kind == table::FAIL {
-        return Plan::Stop(Reason::Failed(i));
-    }
     if record.kind == table::IDEN {
         rules::copy(cells, frames, h, lookup::source_width(arrows, widths, i));
         return Plan::Rest;
@@ -63,9 +60,12 @@ fn leaf<'a>(
         values::write_value(types, widths, next, k, witness, p, cells, frames, h);
         return Plan::Rest;
     }
-    let n = lookup::target_width(arrows, widths, i);
-    rules::write_bits(program, record.second, n, cells, frames, h);
-    Plan::Rest
+    if record.kind == table::WORD {
+        let n = lookup::target_width(arrows, widths, i);
+        rules::write_bits(program, record.second, n, cells, frames, h);
+        return Plan::Rest;
+    }
+    Plan::Stop(Reason::Failed(i))
 }
 
 // A node with one child: injl, injr, take or drop.

@@ -37,7 +37,7 @@ unfolding nodesOf
 length-nodes bits hashes [] = refl
 length-nodes bits hashes (r ∷ rs) = ap suc (length-nodes bits hashes rs)
 
--- node i is that of record i; past the end both stand for nothing
+-- node i is that of record i; past the end both are `noNode`
 pub node-at : (bits hashes : List ℕ) (rs : List NodeRecord) (i : ℕ)
     → nodeAt (nodesOf bits hashes rs) i ≡ nodeOf bits hashes (kindOf (getD rs i noRecord .kind)) (getD rs i noRecord .first) (getD rs i noRecord .second)
 unfolding nodesOf nodeAt nodeOf kindOf

@@ -12,11 +12,11 @@ use lib.Seq.{length-take-le, getD-take, getD-append-seam}
 use borrow.Author.Tests.{not-true}
 use Rattle.refusal.specs.declared.Refusal.the-variants.{HiddenElsewhere}
 use Rattle.report.specs.Table.{entries}
-use Rattle.report.specs.Nodes.{Node, hidden}
+use Rattle.report.specs.Nodes.{Node}
 use Rattle.report.specs.Canonical.{children, isDone, upFrom, order, Canonical}
 use Rattle.report.specs.Canonical.{walkEach as plainEach, walkMake as plainMake}
 use Rattle.scope.specs.Check.{Check, passed, require}
-use Rattle.scope.specs.Nodes.{nodeAt}
+use Rattle.scope.specs.Nodes.{noNode, nodeAt}
 use Rattle.scope.specs.Walk.{hiddenAt, allowed, walkEach, walkMake, walkFrom, checkWalk}
 use Rattle.common.specs.Tables.{length-entries, entries-at, before-none}
 use Rattle.common.specs.Checks.{clash, require-holds, holds-require, both-passed, then-passes}
@@ -191,7 +191,7 @@ module _ (nodes : List Node) where
   plain-at : (i : ℕ) → i < length nodes → (d : List ℕ) → plainFrom i d ≡ plainNode (isDone i d) i (plainsBefore i) (nodeAt nodes i) d
   unfolding plainFrom nodeAt plainsBefore
   plain-at i h d =
-      ap (λ (w : List ℕ → List ℕ). w d) (entries-at plainMake nodes i (λ d. d) (hidden []) h)
+      ap (λ (w : List ℕ → List ℕ). w d) (entries-at plainMake nodes i (λ d. d) noNode h)
       ∙ plain-make (plainsBefore i) (nodeAt nodes i) d
       ∙ ap (λ (l : ℕ). plainNode (isDone l d) l (plainsBefore i) (nodeAt nodes i) d)
       (length-take-le i (entries plainMake nodes) (omega (arith, length-entries plainMake nodes)))

@@ -14,10 +14,10 @@ use borrow.Author.Tests.{ltb-true, ltb-false, lt-ltb, le-ltb, eq-eqb, ne-eqb, eq
 use Rattle.refusal.specs.declared.Refusal.{Refusal}
 use Rattle.refusal.specs.declared.Refusal.the-variants.{CanonicalOrder, HiddenElsewhere}
 use Rattle.report.specs.Table.{entries}
-use Rattle.report.specs.Nodes.{Node, hidden}
+use Rattle.report.specs.Nodes.{Node}
 use Rattle.report.specs.Canonical.{children, isDone, upFrom}
 use Rattle.scope.specs.Check.{Check, passed, refused, _>>=_, require}
-use Rattle.scope.specs.Nodes.{nodeAt}
+use Rattle.scope.specs.Nodes.{noNode, nodeAt}
 use Rattle.scope.specs.Walk.{hiddenAt, allowed, walkEach, walkMake, walkFrom, checkWalk}
 use Rattle.common.specs.Tables.{length-entries, entries-at, before-at}
 use Rattle.common.specs.Checks.{clash, require-holds, both-passed}
@@ -193,7 +193,7 @@ module _ (nodes : List Node) where
   pub walk-at : (i : ℕ) → i < length nodes → (d : List ℕ) → walkFrom nodes i d ≡ walkNode (isDone i d) i (walksBefore i) (nodeAt nodes i) d
   unfolding walkFrom nodeAt walksBefore
   walk-at i h d =
-      ap (λ (w : List ℕ → Check (List ℕ)). w d) (entries-at (walkMake nodes) nodes i (λ d. passed d) (hidden []) h)
+      ap (λ (w : List ℕ → Check (List ℕ)). w d) (entries-at (walkMake nodes) nodes i (λ d. passed d) noNode h)
       ∙ make-is-node (walksBefore i) (nodeAt nodes i) d
       ∙ ap (λ (l : ℕ). walkNode (isDone l d) l (walksBefore i) (nodeAt nodes i) d) (length-before i (omega arith))
 

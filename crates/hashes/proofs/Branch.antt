@@ -6,10 +6,10 @@ use mathlib.Core.List.{List, [], _∷_, _++_}
 use Prim.Native.Nat.{ℕ, suc, _+_, _*_, _/_, _<_, _≤_}
 use native.Mathlib.Numerals.{add-one}
 use native.Mathlib.Omega.{arith}
-use native.Mathlib.Decide.{decLt, ℕ-discrete}
-use lib.Dec.{eqb, ltb}
+use native.Mathlib.Decide.{ℕ-discrete}
+use lib.Dec.{eqb}
 use lib.ListN.{length, getD, take, drop, drop-of-length-le, length-take, length-drop}
-use borrow.Author.Tests.{eq-eqb, ne-eqb, lt-ltb, le-ltb}
+use borrow.Author.Tests.{eq-eqb, ne-eqb}
 use Rattle.promise.specs.Parts.{Part, cut}
 use Rattle.limits.specs.Limits.{hashBytes, nodeNumbers}
 use Rattle.report.specs.Nodes.{Node}
@@ -18,7 +18,7 @@ use Rattle.scope.specs.Hashes.{rights, whole, entry, entryFor, branchHash}
 use Rattle.scope.specs.Stages.{noRecord}
 use Rattle.table.specs.Lent.{nodeIs, lentNodes, hiddenKind, hashIs}
 use Rattle.common.specs.Nodes.{length-records, length-nodes, node-at}
-use Rattle.table.proofs.Groups.{by-hidden, hidden-by, no-hash}
+use Rattle.table.proofs.Groups.{by-hidden, hidden-by}
 use Rattle.hashes.specs.Branch.{wholePart, entryPart, suppliedPart, branchPart}
 use Rattle.hashes.specs.Hashes.{rightOf}
 use Rattle.hashes.proofs.Rights.{right-none, right-own, rights-alike, rights-from}
@@ -97,18 +97,13 @@ module _ (hashes nodes : List ℕ) (j : ℕ) (r : NodeRecord) (is : r ≡ getD (
       by-hidden [] hashes (kindOf (r .kind)) (r .first) (r .second) f other
       ∙ ap (λ (h : Bool). elim h [ true ↦ f (hashIs (nodeIs hashes r)) | false ↦ other ]) e
 
-  pub no-kind : 14 < r .kind → f [] ≡ onHidden (nodeAt (lentNodes hashes nodes) j) f other
-  no-kind h =
-      let hides : hiddenKind (r .kind) ≡ true = hidden-by (r .kind) ∙ rw (ne-eqb (r .kind) 13 (λ e. omega arith), lt-ltb 14 (r .kind) h) in
-      sym (ap f (no-hash hashes (r .kind) (r .first) (r .second) (λ e. omega arith))) ∙ sym (shown true hides) ∙ by-record
-
   pub in-store : r .kind ≡ 13 → f (take hashBytes (drop (r .first) hashes)) ≡ onHidden (nodeAt (lentNodes hashes nodes) j) f other
   unfolding kindOf nodeOf onHidden
   in-store e = sym (ap (λ (k : ℕ). onHidden (nodeOf [] hashes (kindOf k) (r .first) (r .second)) f other) e) ∙ by-record
 
-  pub not-hidden : r .kind ≤ 14 → (r .kind ≡ 13 → ⊥) → other ≡ onHidden (nodeAt (lentNodes hashes nodes) j) f other
-  not-hidden h n =
-      let shows : hiddenKind (r .kind) ≡ false = hidden-by (r .kind) ∙ rw (ne-eqb (r .kind) 13 n, le-ltb 14 (r .kind) h) in
+  pub not-hidden : (r .kind ≡ 13 → ⊥) → other ≡ onHidden (nodeAt (lentNodes hashes nodes) j) f other
+  not-hidden n =
+      let shows : hiddenKind (r .kind) ≡ false = hidden-by (r .kind) ∙ ne-eqb (r .kind) 13 n in
       sym (shown false shows) ∙ by-record
 
 -- the part of node j's branch, by the record of node j
@@ -123,19 +118,15 @@ module _ (nodes : List ℕ) (hashes given : Part) (j : ℕ) where
     abbrev stored : List ℕ → Part
     stored = wholePart hashes (getD (nodeRecords nodes) j noRecord .first)
 
-    pub part-none : 14 < r .kind → cut hashes 0 0 ≡ branchPart nodes hashes given j
-    unfolding branchPart wholePart
-    part-none h = no-kind (hashes .bytes) nodes j r is stored supply h
-
     pub part-stored : r .kind ≡ 13 → wholePart hashes (r .first) (take hashBytes (drop (r .first) (hashes .bytes))) ≡ branchPart nodes hashes given j
     unfolding branchPart
     part-stored e =
         ap (λ (at : ℕ). wholePart hashes at (take hashBytes (drop (r .first) (hashes .bytes)))) (ap (λ (r : NodeRecord). r .first) is)
         ∙ in-store (hashes .bytes) nodes j r is stored supply e
 
-    pub part-supplied : r .kind ≤ 14 → (r .kind ≡ 13 → ⊥) → supply ≡ branchPart nodes hashes given j
+    pub part-supplied : (r .kind ≡ 13 → ⊥) → supply ≡ branchPart nodes hashes given j
     unfolding branchPart
-    part-supplied h n = not-hidden (hashes .bytes) nodes j r is stored supply h n
+    part-supplied n = not-hidden (hashes .bytes) nodes j r is stored supply n
 
   pub branch-holds : (part : Part) → part ≡ branchPart nodes hashes given j → part .bytes ≡ branchHash lent (given .bytes) j
   unfolding branchHash
@@ -147,12 +138,9 @@ module _ (nodes : List ℕ) (hashes given : Part) (j : ℕ) where
           let bytes : Part → List ℕ = λ (p : Part). p .bytes in
           elim (ℕ-discrete (r .kind) 13) [
             | yes e ↦ sym (ap bytes (part-stored r is e)) ∙ whole-holds hashes (r .first) ∙ in-store (hashes .bytes) nodes j r is whole held e
-            | no n ↦ elim (decLt 14 (r .kind)) [
-              | yes h ↦ sym (ap bytes (part-none r is h)) ∙ no-kind (hashes .bytes) nodes j r is whole held h
-              | no m ↦ sym (ap bytes (part-supplied r is (omega arith) n)) ∙ supplied-holds lent given j 0 (rights (lentNodes [] nodes))
-                  ∙ ap (entryFor lent (given .bytes) j 0) (sym (rights-alike [] (hashes .bytes) (nodeRecords nodes)))
-                  ∙ not-hidden (hashes .bytes) nodes j r is whole held (omega arith) n
-            ]
+            | no n ↦ sym (ap bytes (part-supplied r is n)) ∙ supplied-holds lent given j 0 (rights (lentNodes [] nodes))
+                ∙ ap (entryFor lent (given .bytes) j 0) (sym (rights-alike [] (hashes .bytes) (nodeRecords nodes)))
+                ∙ not-hidden (hashes .bytes) nodes j r is whole held n
           ]
 
 -- one pass over the table: the entries from e on are those of the disconnects from node i on

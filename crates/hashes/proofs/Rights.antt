@@ -10,7 +10,7 @@ use lib.ListN.{length, getD, take as takeL, drop as dropL, set, length-append, l
 use lib.Seq.{take-suc, drop-cons, set-split, take-at, drop-at, drop-drop, take-length}
 use borrow.Author.Tests.{eq-eqb, ne-eqb}
 use Rattle.report.specs.Nodes.{Node, comp, case, pair, disconnect, injl, injr, take, drop, disconnect1, iden, unit, witness, fail, hidden, word}
-use Rattle.scope.specs.Nodes.{kindOf, nodeOf, nodesOf, NodeRecord, nodeRecords, nodeAt, onDisconnect}
+use Rattle.scope.specs.Nodes.{kindOf, noNode, nodeOf, nodesOf, NodeRecord, nodeRecords, nodeAt, onDisconnect}
 use Rattle.scope.specs.Hashes.{rights}
 use Rattle.scope.specs.Stages.{noRecord}
 use Rattle.table.specs.Lent.{nodeIs, lentNodes}
@@ -114,7 +114,7 @@ module _ (nodes : List ℕ) where
   unfolding rightOf nodeAt
   found-more i h =
       ap (λ k. rights (takeL k (lentNodes [] nodes))) (add-one i)
-      ∙ ap rights (take-suc (lentNodes [] nodes) i (hidden []) (omega (arith, length-nodes [] [] (nodeRecords nodes))))
+      ∙ ap rights (take-suc (lentNodes [] nodes) i noNode (omega (arith, length-nodes [] [] (nodeRecords nodes))))
       ∙ rights-append (takeL i (lentNodes [] nodes)) (nodeAt (lentNodes [] nodes) i ∷ [])
       ∙ ap (λ n. found i ++ rights (n ∷ [])) (node-at [] [] (nodeRecords nodes) i)
 
@@ -161,7 +161,7 @@ pub rights-from : (nodes : List ℕ) (i : ℕ) (r : NodeRecord) → i < length (
     → rights (dropL i (lentNodes [] nodes)) ≡ rightOf r ++ rights (dropL (i + 1) (lentNodes [] nodes))
 unfolding rightOf nodeAt
 rights-from nodes i r h e =
-    ap rights (drop-cons (lentNodes [] nodes) i (hidden []) (omega (arith, length-nodes [] [] (nodeRecords nodes))))
+    ap rights (drop-cons (lentNodes [] nodes) i noNode (omega (arith, length-nodes [] [] (nodeRecords nodes))))
     ∙ rights-append (nodeAt (lentNodes [] nodes) i ∷ []) (dropL (suc i) (lentNodes [] nodes))
     ∙ ap₂ (λ n k. rights (n ∷ []) ++ rights (dropL k (lentNodes [] nodes))) (node-at [] [] (nodeRecords nodes) i ∙ ap (nodeIs []) (sym e))
     (sym (add-one i))

@@ -62,14 +62,11 @@ fn supplied<'a>(nodes: &[u32], given: &'a [u8], j: usize) -> &'a [u8]
     common::part(given, 0, 0)
 }
 
-// The hash of the branch at node j; empty for an unknown node and for one that has no hash.
+// The hash of the branch at node j; empty for one that has no hash.
 pub fn branch_hash<'a>(nodes: &[u32], hashes: &'a [u8], given: &'a [u8], j: usize) -> &'a [u8]
     ensures { λ r. ⌜ partOf r ≡ branchPart (now (nodes .entry)) (partOf (hashes .entry)) (partOf (given .entry)) j ⌝ }
 {
     let r = table::record_in(nodes, j);
-    if table::WORD < r.kind {
-        return common::part(hashes, 0, 0);
-    }
     if r.kind == table::HIDDEN {
         return hash_at(hashes, common::place(r.first));
     }

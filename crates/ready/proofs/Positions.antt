@@ -15,7 +15,7 @@ use Rattle.report.specs.Nodes as Node
 use Rattle.scope.specs.Check.{passed, refused}
 use Rattle.scope.specs.Numbers.{tabulate}
 use Rattle.scope.specs.Types.{TypeRecord, tyAt}
-use Rattle.scope.specs.Nodes.{nodeAt, onWitness}
+use Rattle.scope.specs.Nodes.{noNode, nodeAt, onWitness}
 use Rattle.scope.specs.Arrows.{Arrow, target}
 use Rattle.scope.specs.Program.{valueFrom}
 use Rattle.scope.specs.Witness.{Values, valuesFrom}
@@ -98,7 +98,7 @@ module _ (types : List TypeRecord) (nodes : List Node) (arrows : List Arrow) (bi
       ≡ valuesFrom types arrows (suc i) (drop (suc i) nodes) (vs ++ v ∷ []) (drop (at (suc i)) bits)
   unfolding valuesFrom readFor positionAt bitsTaken nodeAt
   walk-on i vs v rest h e =
-      ap (λ (ns : List Node). valuesFrom types arrows i ns vs (drop (at i) bits)) (drop-cons nodes i (hidden []) h)
+      ap (λ (ns : List Node). valuesFrom types arrows i ns vs (drop (at i) bits)) (drop-cons nodes i noNode h)
       ∙ ap (λ (r : Read). elim r [ value v rest ↦ valuesFrom types arrows (suc i) (drop (suc i) nodes) (vs ++ v ∷ []) rest | short ↦ refused (Witness i) ]) e
       ∙ ap (λ (l : List Bit). valuesFrom types arrows (suc i) (drop (suc i) nodes) (vs ++ v ∷ []) l)
       (read-leaves i (at i) v rest e ∙ ap (λ (r : Read). drop (at i + bitsTaken r) bits) (sym e))
@@ -108,7 +108,7 @@ module _ (types : List TypeRecord) (nodes : List Node) (arrows : List Arrow) (bi
       → valuesFrom types arrows i (drop i nodes) vs (drop (at i) bits) ≡ refused (Witness i)
   unfolding valuesFrom readFor nodeAt
   walk-short i vs h e =
-      ap (λ (ns : List Node). valuesFrom types arrows i ns vs (drop (at i) bits)) (drop-cons nodes i (hidden []) h)
+      ap (λ (ns : List Node). valuesFrom types arrows i ns vs (drop (at i) bits)) (drop-cons nodes i noNode h)
       ∙ ap (λ (r : Read). elim r [ value v rest ↦ valuesFrom types arrows (suc i) (drop (suc i) nodes) (vs ++ v ∷ []) rest | short ↦ refused (Witness i) ]) e
 
   -- the end of the table

@@ -12,13 +12,13 @@ use Rattle.refusal.specs.declared.Refusal.the-variants.{Witness}
 use Rattle.report.specs.Bits.{Bit, bitsOf}
 use Rattle.report.specs.Types.{Ty, width, wordTy}
 use Rattle.report.specs.Values.{Val, ⟨⟩, Read, value, readValue}
-use Rattle.report.specs.Nodes.{Node, witness, hidden, word}
+use Rattle.report.specs.Nodes.{Node, witness, word}
 use Rattle.report.specs.Canonical.{children}
 use Rattle.report.specs.Meaning.{stuck}
 use Rattle.scope.specs.Check.{passed, _>>=_, require}
 use Rattle.scope.specs.Numbers.{streamOf, tabulate, every, bytesFor, zeros}
 use Rattle.scope.specs.Types.{TypeRecord, typeRecords, tyAt, checkTypes}
-use Rattle.scope.specs.Nodes.{nodeRecords, nodeAt, onWitness}
+use Rattle.scope.specs.Nodes.{nodeRecords, noNode, nodeAt, onWitness}
 use Rattle.scope.specs.Closing.{closes}
 use Rattle.scope.specs.Arrows.{Arrow, arrowRecords, target}
 use Rattle.scope.specs.Program.{Program, valueFrom, whole, wholeSource, wholeTarget}
@@ -159,14 +159,14 @@ module _ (types nodes arrows program hashes given witnesses : List ℕ) (witness
       go : Dec (i < length (programNodes nodes program hashes)) → AllBelow i (children (nodeAt (programNodes nodes program hashes) i))
       go (yes h) = checked .below i h
       go (no h) =
-          subst (λ (n : Node). AllBelow i (children n)) (sym (List·getD-eq-default (programNodes nodes program hashes) (hidden []) {n = i} (omega arith))) tt
+          subst (λ (n : Node). AllBelow i (children n)) (sym (List·getD-eq-default (programNodes nodes program hashes) noNode {n = i} (omega arith))) tt
 
-  -- a node other than a hidden one is in the table
-  in-table : (i : ℕ) (n : Node) → nodeAt (programNodes nodes program hashes) i ≡ n → (n ≡ hidden [] → ⊥) → i < length (programNodes nodes program hashes)
+  -- a node other than `noNode` is in the table
+  in-table : (i : ℕ) (n : Node) → nodeAt (programNodes nodes program hashes) i ≡ n → (n ≡ noNode → ⊥) → i < length (programNodes nodes program hashes)
   unfolding nodeAt
   in-table i n e other = elim (decLt i (length (programNodes nodes program hashes))) [
     | yes h ↦ h
-    | no h ↦ absurd (other (sym e ∙ List·getD-eq-default (programNodes nodes program hashes) (hidden []) {n = i} (omega arith)))
+    | no h ↦ absurd (other (sym e ∙ List·getD-eq-default (programNodes nodes program hashes) noNode {n = i} (omega arith)))
   ]
 
   -- the type of a word

@@ -9,6 +9,8 @@ use Rattle.refusal.specs.declared.Refusal.the-variants.{Hash}
 use Rattle.report.specs.Lines.{Line, _is_, Hold}
 use Rattle.report.specs.Nodes.{Node, comp, disconnect, disconnect1, iden, unit, fail, hidden}
 use Rattle.scope.specs.Check.{Check, passed, refused}
+use Rattle.scope.specs.Nodes.{nodesOf}
+use Rattle.scope.specs.Shorthand.{row}
 use Rattle.scope.specs.Hashes.{rights, whole, entry, lastPlace, countPlace, checkHashes, branchHash}
 
 -- a hash of one byte again and again
@@ -18,6 +20,10 @@ hash b = replicate hashBytes b
 -- the disconnects are nodes 3, 4 and 6; their right children are 2, 1 and 2
 abbrev nodes : List Node
 nodes = iden ∷ unit ∷ unit ∷ disconnect 0 2 ∷ disconnect 0 1 ∷ comp 3 4 ∷ disconnect 5 2 ∷ hidden (hash 4) ∷ hidden (4 ∷ []) ∷ fail (hash 5) ∷ disconnect1 1 ∷ []
+
+-- a damaged record, of kind 15, is the right child of a disconnect; the next one is of no disconnect
+abbrev damaged : List Node
+damaged = nodesOf [] (hash 4) (row 9 0 0 ∷ row 15 0 0 ∷ row 3 0 1 ∷ row 15 0 0 ∷ [])
 
 entries : Hold (
     rights nodes is (2 ∷ 1 ∷ 2 ∷ [])
@@ -41,8 +47,12 @@ branch-hashes : Hold (
     ∷ branchHash nodes (hash 7 ++ hash 8 ++ hash 9) 8 is []
     ∷ branchHash nodes (hash 7 ++ hash 8 ++ hash 9) 9 is []
     ∷ branchHash nodes (hash 7 ++ hash 8 ++ hash 9) 99 is []
+    -- a node of no kind is not hidden: it gets the supplied hash if it is a right child, else none; so does what stands past the table
+    ∷ branchHash damaged (hash 7) 1 is hash 7
+    ∷ branchHash damaged (hash 7) 3 is []
+    ∷ branchHash (unit ∷ disconnect 0 9 ∷ []) (hash 7) 9 is hash 7
     ∷ [])
-unfolding Hold branchHash
+unfolding Hold branchHash nodesOf
 branch-hashes = refl
 
 -- as many as disconnects, at the count given; equal hashes for one child, unlike ones for two; a clash at the later entry

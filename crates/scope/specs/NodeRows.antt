@@ -8,7 +8,7 @@ use Rattle.report.specs.Lines.{Line, _is_, Hold}
 use Rattle.report.specs.Bits.{Bit}
 use Rattle.report.specs.Nodes.{Node, comp, case, pair, disconnect, injl, injr, take, drop, disconnect1, iden, unit, witness, fail, hidden, word}
 use Rattle.scope.specs.Numbers.{tabulate}
-use Rattle.scope.specs.Nodes.{Kind, kComp, kCase, kPair, kDisconnect, kInjl, kInjr, kTake, kDrop, kIden, kUnit, kFail, kDisconnect1, kWitness, kHidden, kWord, kUnknown, kindOf, NodeRecord, nodeRecord, nodeRecords, nodeNumbersOf, nodesOf, nodeAt, onHidden, onDisconnect, onOneChild, onWitness}
+use Rattle.scope.specs.Nodes.{Kind, kComp, kCase, kPair, kDisconnect, kInjl, kInjr, kTake, kDrop, kIden, kUnit, kFail, kDisconnect1, kWitness, kHidden, kWord, kUnknown, kindOf, NodeRecord, nodeRecord, nodeRecords, nodeNumbersOf, noNode, nodesOf, nodeAt, onHidden, onDisconnect, onOneChild, onWitness}
 
 kinds : Hold (
     tabulate 16 kindOf
@@ -55,6 +55,10 @@ nodes : Hold (
     ∷ nodeOfKind 12 is (witness ∷ [])
     ∷ nodeOfKind 13 is (hidden (tabulate hashBytes (λ j. j + 2)) ∷ [])
     ∷ nodeOfKind 14 is (word 2 (1 ∷ 0 ∷ []) ∷ [])
+    -- a number above the kinds, and what stands past the table: a node that can only fail
+    ∷ nodeOfKind 15 is (fail [] ∷ [])
+    ∷ nodeOfKind 4294967295 is (noNode ∷ [])
+    ∷ (nodeAt (iden ∷ unit ∷ []) 2 ∷ []) is (noNode ∷ [])
     ∷ nodesOf [] [] (row 8 0 0 0 ∷ row 9 0 0 0 ∷ []) is (iden ∷ unit ∷ [])
     ∷ (nodeAt (iden ∷ unit ∷ []) 0 ∷ nodeAt (iden ∷ unit ∷ []) 1 ∷ []) is (iden ∷ unit ∷ [])
     ∷ [])

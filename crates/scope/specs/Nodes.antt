@@ -41,8 +41,12 @@ unfoldable pub nodeNumbersOf : List NodeRecord → List ℕ
 nodeNumbersOf [] = []
 nodeNumbersOf (r ∷ rs) = r .kind ∷ r .first ∷ r .second ∷ r .third ∷ nodeNumbersOf rs
 
+-- what a record of no kind stands for, and what stands past a table's end: a node that can only fail; it is not hidden and has no children
+abbrev pub noNode : Node
+noNode = fail []
+
 -- the node of a kind with its first two numbers; words take their bits from the program's, hidden and fail nodes their bytes from the hash store
--- (an unknown kind stands for no node: 26 refuses it first)
+-- (26 refuses an unknown kind first)
 unfoldable pub nodeOf : (bits : List Bit) → (hashes : List ℕ) → Kind → (a b : ℕ) → Node
 nodeOf bits hashes kComp a b = comp a b
 nodeOf bits hashes kCase a b = case a b
@@ -59,7 +63,7 @@ nodeOf bits hashes kDisconnect1 a b = disconnect1 a
 nodeOf bits hashes kWitness a b = witness
 nodeOf bits hashes kHidden a b = hidden (takeL hashBytes (dropL a hashes))
 nodeOf bits hashes kWord a b = word a (takeL (2 ^ (a - 1)) (dropL b bits))
-nodeOf bits hashes kUnknown a b = hidden []
+nodeOf bits hashes kUnknown a b = noNode
 
 -- the nodes of a table
 unfoldable pub nodesOf : (bits : List Bit) → (hashes : List ℕ) → List NodeRecord → List Node
@@ -67,9 +71,9 @@ unfolding kindOf nodeOf
 nodesOf bits hashes [] = []
 nodesOf bits hashes (r ∷ rs) = nodeOf bits hashes (kindOf (r .kind)) (r .first) (r .second) ∷ nodesOf bits hashes rs
 
--- node i of a table, and past its end a node that stands for nothing
+-- node i of a table
 unfoldable pub nodeAt : List Node → (i : ℕ) → Node
-nodeAt nodes i = getD nodes i (hidden [])
+nodeAt nodes i = getD nodes i noNode
 
 -- what is made of a hidden node's hash, or of any other node
 unfoldable pub onHidden : {X : Type 0} → Node → (List ℕ → X) → (other : X) → X

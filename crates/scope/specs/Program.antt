@@ -67,12 +67,12 @@ termOf P i (Node.word n bits) child = word (targetTy P i) (valueFrom (targetTy P
 
 unfoldable pub termMake : (P : Program) → List Term → Node → Term
 unfolding termOf
-termMake P before n = termOf P (length before) n (λ j. getD before j bad)
+termMake P before n = termOf P (length before) n (λ j. getD before j (fail j))
 
--- the term of node i
+-- the term of node i; past the table's end that of `noNode`
 unfoldable pub termAt : (P : Program) → (i : ℕ) → Term
 unfolding entries termMake
-termAt P i = getD (entries (termMake P) (P .nodes)) i bad
+termAt P i = getD (entries (termMake P) (P .nodes)) i (fail i)
 
 -- the whole program: its last node
 unfoldable pub last : Program → ℕ

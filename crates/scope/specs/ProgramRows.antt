@@ -78,12 +78,12 @@ Q = record {
   hash = λ j. ⟨⟩;
 }
 
--- each node's term is made of its children's; past the table there is none
+-- each node's term is made of its children's; past the table stands a node that can only fail
 terms-at : Hold (
     termAt Q 0 is iden b1
     ∷ termAt Q 1 is injl b1 b2 (iden b1)
     ∷ whole Q is comp b1 (iden b1) (injl b1 b2 (iden b1))
-    ∷ termAt Q 3 is bad
+    ∷ termAt Q 3 is fail 3
     ∷ [])
 unfolding Hold termAt whole
 terms-at = refl

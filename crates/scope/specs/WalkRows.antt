@@ -11,9 +11,9 @@ use Rattle.report.specs.Lines.{Line, _is_, Hold}
 use Rattle.report.specs.Nodes.{Node, comp, case, pair, disconnect, injl, injr, take, drop, disconnect1, iden, unit, witness, fail, hidden, word}
 use Rattle.scope.specs.Check.{Check, passed, refused}
 use Rattle.scope.specs.Numbers.{zeros}
-use Rattle.scope.specs.Nodes.{NodeRecord}
+use Rattle.scope.specs.Nodes.{NodeRecord, nodesOf}
 use Rattle.scope.specs.Reading.{Table}
-use Rattle.scope.specs.Walk.{allowed, walkFrom, checkWalk}
+use Rattle.scope.specs.Walk.{hiddenAt, allowed, walkFrom, checkWalk}
 use Rattle.scope.specs.Closing.{closes, decode, nodesLeft, hashesLeft}
 use Rattle.scope.specs.Shorthand.{row, table}
 
@@ -26,6 +26,15 @@ g = hidden (1 ∷ 3 ∷ [])
 -- node 5 of a table whose nodes 0 and 2 are hidden
 abbrev judged : Node → Check (Unit {0})
 judged n = allowed (h ∷ unit ∷ g ∷ fail (1 ∷ 4 ∷ []) ∷ unit ∷ []) 5 n
+
+-- a hidden node is; a record of no kind, and what stands past the table, is not
+hidden-records : Hold (
+    hiddenAt (nodesOf [] [] (row 13 0 0 ∷ row 15 0 0 ∷ [])) 0 is true
+    ∷ hiddenAt (nodesOf [] [] (row 13 0 0 ∷ row 15 0 0 ∷ [])) 1 is false
+    ∷ hiddenAt (nodesOf [] [] (row 13 0 0 ∷ row 15 0 0 ∷ [])) 2 is false
+    ∷ [])
+unfolding Hold hiddenAt nodesOf
+hidden-records = refl
 
 -- no parent but a case may have a hidden child, on either side, and a case only one; no hidden hash stands twice
 hidden-nodes : Hold (

@@ -65,8 +65,7 @@ module _ (bits hashes : List ℕ) (rs : List NodeRecord) where
   allowed-same i kHidden a b =
       ap (λ (x : Bool). require (not x) (HiddenRepeated i)) (any-same i _ _ (λ j. hides-kind bits hashes rs _ j ∙ sym (hides-kind [] hashes rs _ j)))
   allowed-same i kWord a b = refl
-  allowed-same i kUnknown a b =
-      ap (λ (x : Bool). require (not x) (HiddenRepeated i)) (any-same i _ _ (λ j. hides-kind bits hashes rs _ j ∙ sym (hides-kind [] hashes rs _ j)))
+  allowed-same i kUnknown a b = refl
 
   module _ (i : ℕ) where
     -- record i, and its node in either table

@@ -7,7 +7,7 @@ use Prim.Native.Nat.{ℕ, zero, suc, _<_, _≤_}
 use native.Mathlib.Omega.{arith}
 use lib.Dec.{eqb, ltb, leb}
 use lib.ListN.{length, getD, take, length-take, List·getD-eq-default}
-use borrow.Author.Tests.{lt-ltb, lt-leb, ne-eqb}
+use borrow.Author.Tests.{lt-leb, ne-eqb}
 use Rattle.report.specs.Canonical.{children}
 use Rattle.scope.specs.Numbers.{every}
 use Rattle.scope.specs.Nodes.{Kind, kComp, kCase, kPair, kDisconnect, kInjl, kInjr, kTake, kDrop, kIden, kUnit, kFail, kDisconnect1, kWitness, kHidden, kWord, kUnknown, kindOf, nodeOf, onHidden}
@@ -138,12 +138,12 @@ count-by =
     ∙ (rw (lt-leb k 3 (omega arith), lt-leb k 7 (omega arith), ne-eqb k 11 (omega arith))))
 
 -- whether a kind is hidden
-pub hidden-by : (k : ℕ) → hiddenKind k ≡ elim (eqb k 13) [ true ↦ true | false ↦ ltb 14 k ]
+pub hidden-by : (k : ℕ) → hiddenKind k ≡ eqb k 13
 unfolding hiddenKind onHidden nodeOf kindOf
 hidden-by =
-    by-kind (λ k. hiddenKind k ≡ elim (eqb k 13) [ true ↦ true | false ↦ ltb 14 k ])
+    by-kind (λ k. hiddenKind k ≡ eqb k 13)
     refl refl refl refl refl refl refl refl refl refl refl refl refl refl refl
-    (λ k h. ap (λ (x : Kind). onHidden (nodeOf [] [] x 0 0) (λ hash. true) false) (unknown k h) ∙ (rw (ne-eqb k 13 (omega arith), lt-ltb 14 k h)))
+    (λ k h. ap (λ (x : Kind). onHidden (nodeOf [] [] x 0 0) (λ hash. true) false) (unknown k h) ∙ rw (ne-eqb k 13 (omega arith)))
 
 -- only a node of the kind hidden has a hash
 pub no-hash : (hashes : List ℕ) (k a b : ℕ) → (k ≡ 13 → ⊥) → hashIs (nodeOf [] hashes (kindOf k) a b) ≡ []

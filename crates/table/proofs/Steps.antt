@@ -63,7 +63,7 @@ module _ (nodes : List Node) (i : ℕ) where
       (λ e n p. none-shown (own-shown _ e refl)) (λ e n p. none-shown (own-shown _ e refl)) (λ e n p. none-shown (own-shown _ e refl))
       (λ e n p. one-shown a (own-shown _ e refl))
       (λ e n p. none-shown (own-shown _ e refl)) (λ e n p. clash (cc)) (λ e n p. none-shown (own-shown _ e refl))
-      (λ k h e n p. clash (let q = sym (ap (λ (x : Kind). onHidden (nodeOf [] [] x 0 0) (λ hash. true) false) (unknown k h)) ∙ p in cc))
+      (λ k h e n p. rw (unknown k h) (none-shown (own-shown _ (e ∙ ap (λ (x : Kind). nodeOf [] hashes x a b) (unknown k h)) refl)))
 
   -- what a case asks of them, and what a hidden node asks of those before it
   pub allowed-case : (hashes : List ℕ) (a b k : ℕ) → k ≡ 1 → allowed nodes i (nodeOf [] hashes (kindOf k) a b)
@@ -78,7 +78,7 @@ module _ (nodes : List Node) (i : ℕ) where
       by-kind (λ k. hiddenKind k ≡ true → allowed nodes i (nodeOf [] hashes (kindOf k) a b) ≡ repeatRule nodes (nodeOf [] hashes (kindOf k) a b) i)
       (λ p. clash (cc)) (λ p. clash (cc)) (λ p. clash (cc)) (λ p. clash (cc)) (λ p. clash (cc)) (λ p. clash (cc)) (λ p. clash (cc)) (λ p. clash (cc))
       (λ p. clash (cc)) (λ p. clash (cc)) (λ p. clash (cc)) (λ p. clash (cc)) (λ p. clash (cc)) (λ p. refl) (λ p. clash (cc))
-      (λ k h p. rw (unknown k h))
+      (λ k h p. clash (let q = sym (ap (λ (x : Kind). onHidden (nodeOf [] [] x 0 0) (λ hash. true) false) (unknown k h)) ∙ p in cc))
 
 -- a count as the list of the nodes done
 abbrev listed : Check ℕ → Check (List ℕ)

@@ -10,11 +10,11 @@ use lib.ListN.{length, List·getD-eq-default}
 use Rattle.report.specs.Bits.{Bit}
 use Rattle.report.specs.Values.{Val, HasTy}
 use Rattle.report.specs.Meaning.{eval}
-use Rattle.report.specs.Nodes.{Node, disconnect, hidden, word}
+use Rattle.report.specs.Nodes.{Node, disconnect, word}
 use Rattle.report.specs.Canonical.{children}
 use Rattle.scope.specs.Check.{passed, _>>=_}
 use Rattle.scope.specs.Types.{checkTypes}
-use Rattle.scope.specs.Nodes.{nodeAt}
+use Rattle.scope.specs.Nodes.{noNode, nodeAt}
 use Rattle.scope.specs.Walk.{hiddenAt, allowed, checkWalk}
 use Rattle.scope.specs.Arrows.{checkArrows}
 use Rattle.scope.specs.Hashes.{checkHashes}
@@ -60,7 +60,7 @@ module _ (T : Tables) (ok : Checked T) where
       go (yes h) =
           let f : allowed (T .nodes) i (disconnect a b) ≡ passed tt = subst (λ (n : Node). allowed (T .nodes) i n ≡ passed tt) e (places-allowed (T .nodes) places i h) in
           none-hidden (T .nodes) i (a ∷ b ∷ []) f .1 .0
-      go (no h) = let f : nodeAt (T .nodes) i ≡ hidden [] = List·getD-eq-default (T .nodes) (hidden []) {n = i} (omega arith) in clash (cc)
+      go (no h) = let f : nodeAt (T .nodes) i ≡ noNode = List·getD-eq-default (T .nodes) noNode {n = i} (omega arith) in clash (cc)
 
   -- the program of checked tables with values that passed is sound
   pub sound : (values : List Val) → checkWitness (T .types) (T .nodes) (T .arrows) (T .witness) (T .witnessBits) ≡ passed values → Sound (programOf T values)

@@ -12,14 +12,14 @@ use Rattle.refusal.specs.declared.Answer.{Answer}
 use Rattle.refusal.specs.declared.Answer.the-variants.{Refused}
 use Rattle.report.specs.Bits.{Bit, bytesOf}
 use Rattle.report.specs.Values.{HasTy, compact}
-use Rattle.report.specs.Nodes.{Node, hidden, word}
+use Rattle.report.specs.Nodes.{Node, word}
 use Rattle.report.specs.Canonical.{children}
 use Rattle.report.specs.Meaning.{done, failed, pruned, stuck, Means, eval}
 use Rattle.scope.specs.Check.{Check, passed, refused, _>>=_}
 use Rattle.scope.specs.Numbers.{zeros, bytesFor, streamOf}
 use Rattle.scope.specs.Header.{checkHeader, section, sTypes, sProgram}
 use Rattle.scope.specs.Types.{typeRecords, checkTypes}
-use Rattle.scope.specs.Nodes.{nodeAt, nodesOf}
+use Rattle.scope.specs.Nodes.{nodeAt, noNode, nodesOf}
 use Rattle.scope.specs.Reading.{Table}
 use Rattle.scope.specs.Walk.{checkWalk}
 use Rattle.scope.specs.Closing.{decode}
@@ -49,7 +49,7 @@ words-whole : (ns : List Node) → WellFormed ns → (i n : ℕ) (bits : List Bi
 unfolding nodeAt
 words-whole ns h i n bits e = elim (decLt i (length ns)) [
   | yes l ↦ subst ContentFits e (fit-at ns i (h .fit) l .content) .2
-  | no m ↦ let f : nodeAt ns i ≡ hidden [] = List·getD-eq-default ns (hidden []) {n = i} (omega arith) in clash (cc)
+  | no m ↦ let f : nodeAt ns i ≡ noNode = List·getD-eq-default ns noNode {n = i} (omega arith) in clash (cc)
 ]
 
 -- so are the nodes that a decoded program stands for

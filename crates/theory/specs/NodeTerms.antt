@@ -13,9 +13,9 @@ use Rattle.report.specs.Table.{entries, entriesFrom}
 use Rattle.report.specs.Values.{Val}
 use Rattle.report.specs.Nodes.{Node, comp, case, pair, disconnect, injl, injr, take, drop, disconnect1, iden, unit, witness, fail, hidden, word}
 use Rattle.report.specs.Canonical.{children}
-use Rattle.report.specs.Terms.{Term, bad}
+use Rattle.report.specs.Terms.{Term, fail as failTerm}
 use Rattle.scope.specs.Types.{TypeRecord, tyAt}
-use Rattle.scope.specs.Nodes.{nodeAt}
+use Rattle.scope.specs.Nodes.{noNode, nodeAt}
 use Rattle.scope.specs.Walk.{hiddenAt}
 use Rattle.scope.specs.Arrows.{Arrow, source, target}
 use Rattle.scope.specs.Program.{Program, sourceTy, targetTy, caseTerm, termOf, termMake, termAt, last, whole, wholeSource, wholeTarget}
@@ -44,7 +44,7 @@ module _ (P : Program) (i : ℕ) (t t′ : ℕ → Term) (same : (j : ℕ) → j
   term-same (hidden bytes) h = refl
   term-same (word n bits) h = refl
 
--- THE TERM OF A NODE IS MADE OF ITS CHILDREN'S TERMS; past the table's end both sides stand for no term
+-- THE TERM OF A NODE IS MADE OF ITS CHILDREN'S TERMS; past the table's end both sides can only fail
 pub term-step : (P : Program) (i : ℕ) → AllBelow i (children (nodeAt (P .nodes) i)) → termAt P i ≡ termOf P i (nodeAt (P .nodes) i) (termAt P)
 unfolding termAt termMake nodeAt termOf
 term-step P i below = go (decLt i (length (P .nodes)))
@@ -55,10 +55,10 @@ term-step P i below = go (decLt i (length (P .nodes)))
     go : Dec (i < length (P .nodes)) → termAt P i ≡ termOf P i (nodeAt (P .nodes) i) (termAt P)
     go (yes h) =
         let l : length (takeL i E) ≡ i = length-take-le i E (omega (arith, length-entries (termMake P) (P .nodes))) in
-        entries-at (termMake P) (P .nodes) i bad (hidden []) h
-        ∙ rw l (term-same P i (λ j. getD (takeL i E) j bad) (termAt P) (λ j p. getD-take i E j bad p) (nodeAt (P .nodes) i) below)
-    go (no h) = entries-past (termMake P) (P .nodes) i bad (omega arith)
-        ∙ ap (λ (n : Node). termOf P i n (termAt P)) {x = hidden []} (sym (List·getD-eq-default (P .nodes) (hidden []) {n = i} (omega arith)))
+        entries-at (termMake P) (P .nodes) i (failTerm i) noNode h
+        ∙ rw l (term-same P i (λ j. getD (takeL i E) j (failTerm j)) (termAt P) (λ j p. getD-take i E j (failTerm j) p) (nodeAt (P .nodes) i) below)
+    go (no h) = entries-past (termMake P) (P .nodes) i (failTerm i) (omega arith)
+        ∙ ap (λ (n : Node). termOf P i n (termAt P)) {x = noNode} (sym (List·getD-eq-default (P .nodes) noNode {n = i} (omega arith)))
 
 -- the bounds of a node's term, of those of its children's terms
 module _ (types : List TypeRecord) (nodes : List Node) (arrows : List Arrow) where
@@ -105,11 +105,11 @@ module _ (types : List TypeRecord) (nodes : List Node) (arrows : List Arrow) whe
         let m : Term = termMake (withValues w h) before n in
         let m′ : Term = termMake (withValues w′ h′) before′ n in
         let l : length before ≡ length before′ = sym (length-map before bounds) ∙ ap length e ∙ length-map before′ bounds in
-        let child : (j : ℕ) → bounds (getD before j bad) ≡ bounds (getD before′ j bad) =
-        λ j. sym (List·getD-map bounds before j bad) ∙ ap (λ (bs : List Bound). getD bs j (bounds bad)) e ∙ List·getD-map bounds before′ j bad in
+        let child : (j : ℕ) → bounds (getD before j (failTerm j)) ≡ bounds (getD before′ j (failTerm j)) =
+        λ j. sym (List·getD-map bounds before j (failTerm j)) ∙ ap (λ (bs : List Bound). getD bs j (bounds (failTerm j))) e ∙ List·getD-map bounds before′ j (failTerm j) in
         let f : bounds m ≡ bounds m′ =
-        ap (λ (i : ℕ). bounds (termOf (withValues w h) i n (λ j. getD before j bad))) l
-        ∙ node-alike (length before′) (λ j. getD before j bad) (λ j. getD before′ j bad) child n in
+        ap (λ (i : ℕ). bounds (termOf (withValues w h) i n (λ j. getD before j (failTerm j)))) l
+        ∙ node-alike (length before′) (λ j. getD before j (failTerm j)) (λ j. getD before′ j (failTerm j)) child n in
         entries-alike ns (before ++ m ∷ []) (before′ ++ m′ ∷ [])
         (map-append bounds before (m ∷ []) ∙ ap₂ (λ xs x. xs ++ x ∷ []) e f ∙ sym (map-append bounds before′ (m′ ∷ [])))
 
@@ -119,7 +119,7 @@ module _ (types : List TypeRecord) (nodes : List Node) (arrows : List Arrow) whe
     values-alike i =
         let E : List Term = entriesFrom (termMake (withValues w h)) [] nodes in
         let E′ : List Term = entriesFrom (termMake (withValues w′ h′)) [] nodes in
-        sym (List·getD-map bounds E i bad) ∙ ap (λ (bs : List Bound). getD bs i (bounds bad)) (entries-alike nodes [] [] refl) ∙ List·getD-map bounds E′ i bad
+        sym (List·getD-map bounds E i (failTerm i)) ∙ ap (λ (bs : List Bound). getD bs i (bounds (failTerm i))) (entries-alike nodes [] [] refl) ∙ List·getD-map bounds E′ i (failTerm i)
 
 -- BOUNDS DEPEND ON TYPES, NODES AND ARROWS ALONE
 pub bounds-alike : (P Q : Program) → P .types ≡ Q .types → P .nodes ≡ Q .nodes → P .arrows ≡ Q .arrows → (i : ℕ) → bounds (termAt P i) ≡ bounds (termAt Q i)

@@ -13,10 +13,10 @@ use lib.ListN.{length, getD, take as takeL, drop as dropL, length-drop, List·ge
 use lib.Seq.{length-take-le}
 use Rattle.limits.specs.Limits.{wordMost}
 use Rattle.report.specs.Bits.{Bit}
-use Rattle.report.specs.Nodes.{hidden, word}
+use Rattle.report.specs.Nodes.{word}
 use Rattle.report.specs.Canonical.{children}
 use Rattle.scope.specs.Numbers.{every}
-use Rattle.scope.specs.Nodes.{Kind, kComp, kCase, kPair, kDisconnect, kInjl, kInjr, kTake, kDrop, kIden, kUnit, kFail, kDisconnect1, kWitness, kHidden, kWord, kUnknown, kindOf, NodeRecord, nodeOf, nodesOf, nodeAt}
+use Rattle.scope.specs.Nodes.{Kind, kComp, kCase, kPair, kDisconnect, kInjl, kInjr, kTake, kDrop, kIden, kUnit, kFail, kDisconnect1, kWitness, kHidden, kWord, kUnknown, kindOf, NodeRecord, noNode, nodeOf, nodesOf, nodeAt}
 use Rattle.scope.specs.Stages.{numbersRule, noRecord, recordRule}
 use Rattle.common.specs.Checks.{clash, not-both, every-all}
 use Rattle.common.specs.Bits.{AllBelow}
@@ -97,5 +97,5 @@ module _ (bits : List Bit) (hashes : List ℕ) where
         go : Dec (i < length records) → length bs ≡ 2 ^ (n′ - 1)
         go (yes h) = numbers-word n i (kindOf ((getD records i noRecord) .kind)) _ _ _ (ok i h) n′ bs (sym (node-at bits hashes records i) ∙ q)
         go (no h) =
-            let e : nodeAt (nodesOf bits hashes records) i ≡ hidden [] = List·getD-eq-default (nodesOf bits hashes records) (hidden []) {n = i} (omega (arith, length-nodes bits hashes records)) in
+            let e : nodeAt (nodesOf bits hashes records) i ≡ noNode = List·getD-eq-default (nodesOf bits hashes records) noNode {n = i} (omega (arith, length-nodes bits hashes records)) in
             clash (cc)

@@ -24,7 +24,7 @@ use Rattle.scope.specs.Check.{Check, passed, refused, _>>=_, require, firstFail
 use Rattle.scope.specs.Numbers.{bytesFor, every, anyBelow, streamOf}
 use Rattle.scope.specs.Header.{checkHeader, headerRule, section, sTypes, sProgram}
 use Rattle.scope.specs.Types.{TypeRecord, tyAt, typeRule, typeRecords, checkTypes}
-use Rattle.scope.specs.Nodes.{NodeRecord, nodesOf, onWitness}
+use Rattle.scope.specs.Nodes.{NodeRecord, noNode, nodesOf, onWitness}
 use Rattle.scope.specs.Reading.{Fault, streamEnded, lengthTooLong, overBound, aJet, hashesShort, refusalAt, Got, got, fault, Item, naturalUpTo, nodeIn, Table, nodesFrom, readNodes}
 use Rattle.scope.specs.Walk.{hiddenAt, hides, noneHidden, allowed, Walk, walkEach, walkMake, walkFrom, checkWalk}
 use Rattle.scope.specs.Closing.{closes, decode}
@@ -206,7 +206,7 @@ module _ (nodes : List Node) where
 
       go : Dec (i < length nodes) → ((j : ℕ) → j < i → WalkRefuses (walkFrom nodes j)) → WalkRefuses (walkFrom nodes i)
       go (yes h) below =
-          subst WalkRefuses (sym (entries-at (walkMake nodes) nodes i (λ d. passed d) (hidden []) h)) (make-walk (takeL i E) children-refuse (getD nodes i (hidden [])))
+          subst WalkRefuses (sym (entries-at (walkMake nodes) nodes i (λ d. passed d) noNode h)) (make-walk (takeL i E) children-refuse (getD nodes i noNode))
         where
           children-refuse : (j : ℕ) → WalkRefuses (getD (takeL i E) j (λ d. passed d))
           children-refuse j = elim (decLt j i) [

@@ -17,7 +17,7 @@ use Rattle.report.specs.Nodes as Node
 use Rattle.scope.specs.Check.{passed, refused, _>>=_, require}
 use Rattle.scope.specs.Numbers.{streamOf, every}
 use Rattle.scope.specs.Types.{TypeRecord, tyAt}
-use Rattle.scope.specs.Nodes.{nodeAt, onWitness}
+use Rattle.scope.specs.Nodes.{noNode, nodeAt, onWitness}
 use Rattle.scope.specs.Closing.{closes}
 use Rattle.scope.specs.Arrows.{Arrow, target}
 use Rattle.scope.specs.Witness.{Values, valuesFrom, checkWitness}
@@ -63,7 +63,7 @@ module _ (types : List TypeRecord) (arrows : List Arrow) where
   -- what is read from the bits of the nodes from node i on, after the values of those before: those values, and a value of its target for each witness
   abbrev TypedFrom : (i : ℕ) → List Node → (before after : List Val) → Type 0
   TypedFrom i ns vs ws =
-      ((k : ℕ) → k < i → getD ws k ⟨⟩ ≡ getD vs k ⟨⟩) × ((k : ℕ) → getD ns k (hidden []) ≡ witness → HasTy (getD ws (i + k) ⟨⟩) (to (i + k)))
+      ((k : ℕ) → k < i → getD ws k ⟨⟩ ≡ getD vs k ⟨⟩) × ((k : ℕ) → getD ns k noNode ≡ witness → HasTy (getD ws (i + k) ⟨⟩) (to (i + k)))
 
   -- one node, and then the others
   typed-from-step : (i : ℕ) (n : Node) (ns : List Node) (vs ws : List Val) (v : Val) → i ≡ length vs → (n ≡ witness → HasTy v (to i))
@@ -73,7 +73,7 @@ module _ (types : List TypeRecord) (arrows : List Arrow) where
       here : getD ws (i + 0) ⟨⟩ ≡ v
       here = rw (add-zero i) (t .0 i (omega arith) ∙ ap (λ (m : ℕ). getD (vs ++ v ∷ []) m ⟨⟩) e ∙ getD-append-seam vs v [] ⟨⟩)
 
-      after : (k : ℕ) → getD (n ∷ ns) k (hidden []) ≡ witness → HasTy (getD ws (i + k) ⟨⟩) (to (i + k))
+      after : (k : ℕ) → getD (n ∷ ns) k noNode ≡ witness → HasTy (getD ws (i + k) ⟨⟩) (to (i + k))
       after zero q = rw here (rw (add-zero i) (h q))
       after (suc k) q = let f : suc i + k ≡ i + suc k = omega arith in subst (λ (m : ℕ). HasTy (getD ws m ⟨⟩) (to m)) f (t .1 k q)
 

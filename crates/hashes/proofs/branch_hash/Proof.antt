@@ -1,4 +1,4 @@
--- `hashes::branch_hash` meets its contract: of no kind, in the hash store, or among the supplied hashes.
+-- `hashes::branch_hash` meets its contract: in the hash store, or among the supplied hashes.
 use mathlib.Core.Path.{ap, _∙_}
 use Prim.Native.Nat.{ℕ}
 use lib.ListN.{take, drop}
@@ -7,20 +7,12 @@ use Rattle.limits.specs.Limits.{hashBytes}
 use Rattle.promise.specs.Parts.{partOf}
 use Rattle.table.specs.Answers.{recordOf}
 use Rattle.hashes.specs.Branch.{wholePart}
-use Rattle.hashes.proofs.Branch.{part-none, part-stored, part-supplied}
+use Rattle.hashes.proofs.Branch.{part-stored, part-supplied}
 use Rattle.hashes.proofs.branch_hash.Statement.{statement}
 use Rattle.hashes.proofs.branch_hash.Tie as tie
 
 record-in-requires : tie.Need-record-in-requires
 record-in-requires c κs = search needs
-
-part-requires : tie.Need-part-requires
-part-requires c κs = search needs
-
-returns : tie.Need-returns
-returns c =
-    let own = c .before .before .before .record-in in
-    c .part .ensures ∙ part-none _ _ _ _ (recordOf (own .result)) (own .ensures) (c .before .if1 .taken)
 
 place-requires : tie.Need-place-requires
 place-requires c κs = search needs
@@ -28,31 +20,29 @@ place-requires c κs = search needs
 hash-at-requires : tie.Need-hash-at-requires
 hash-at-requires c κs = search needs
 
-returns-2 : tie.Need-returns-2
-returns-2 c =
-    let a = c .before .before .before .before .before .before .before .before .before .before .args in
-    let own = c .before .before .before .before .before .before .record-in in
+returns : tie.Need-returns
+returns c =
+    let a = c .before .before .before .before .before .before .before .before .args in
+    let own = c .before .before .before .before .record-in in
     c .hash-at .ensures
     ∙ ap (λ (at : ℕ). wholePart (partOf (a .hashes)) at (take hashBytes (drop at (a .hashes .now)))) (c .before .place .ensures .0)
-    ∙ part-stored _ _ _ _ (recordOf (own .result)) (own .ensures) (c .before .before .if2 .taken)
+    ∙ part-stored _ _ _ _ (recordOf (own .result)) (own .ensures) (c .before .before .if1 .taken)
 
 supplied-requires : tie.Need-supplied-requires
 supplied-requires c κs = search needs
 
-returns-3 : tie.Need-returns-3
-returns-3 c =
-    let own = c .before .before .before .before .before .record-in in
-    c .supplied .ensures ∙ part-supplied _ _ _ _ (recordOf (own .result)) (own .ensures) (c .before .before .before .if1 .left) (c .before .if2 .left)
+returns-2 : tie.Need-returns-2
+returns-2 c =
+    let own = c .before .before .before .record-in in
+    c .supplied .ensures ∙ part-supplied _ _ _ _ (recordOf (own .result)) (own .ensures) (c .before .if1 .left)
 
 pub branch-hash-spec : {M : Type 1} → statement M
 branch-hash-spec =
     tie.close
     (tie.spec
     record-in-requires
-    part-requires
-    returns
     place-requires
     hash-at-requires
-    returns-2
+    returns
     supplied-requires
-    returns-3)
+    returns-2)
