@@ -5,9 +5,10 @@ use mathlib.Core.List.{List, [], _∷_, _++_}
 use Prim.Native.Nat.{ℕ, zero, suc, _+_, _*_, _/_, _%_, _≤_, _<_}
 use native.Mathlib.Omega.{arith}
 use lib.ListN.{length, getD, drop}
+use lib.Seq.{take-all}
 use borrow.Author.Tests.{lt-ltb, le-ltb}
 use Rattle.limits.specs.Limits.{dossierBytes}
-use Rattle.scope.specs.Numbers.{streamOf}
+use Rattle.scope.specs.Numbers.{streamOf, heldBits}
 use Rattle.report.specs.Bits.{Bit, byteBits, bitsOf, numberFrom, bytesOf}
 
 -- every number of the list is below the bound
@@ -60,6 +61,10 @@ stream-within bytes h = rw (le-ltb dossierBytes (length bytes) h, streamOf)
 pub stream-over : (bytes : List ℕ) → dossierBytes < length bytes → streamOf bytes ≡ []
 unfolding streamOf
 stream-over bytes h = rw (lt-ltb dossierBytes (length bytes) h, streamOf)
+
+-- a slice within the limit is held whole
+pub held-within : (bytes : List ℕ) → length bytes ≤ dossierBytes → heldBits bytes ≡ streamOf bytes
+held-within bytes h = ap streamOf (take-all dossierBytes bytes h)
 
 pub length-within : (bytes : List ℕ) → length bytes ≤ dossierBytes → length (streamOf bytes) ≡ 8 * length bytes
 length-within bytes h = ap length (stream-within bytes h) ∙ length-bits bytes

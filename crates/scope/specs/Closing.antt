@@ -3,7 +3,7 @@
 use mathlib.Core.Bool.{Bool, true, false}
 use mathlib.Core.List.{List, [], _∷_}
 use Prim.Native.Nat.{ℕ, _+_, _-_}
-use lib.Dec.{leb, ltb}
+use lib.Dec.{eqb, leb, ltb}
 use lib.ListN.{length, drop}
 use Rattle.limits.specs.Limits.{dossierBytes}
 use Rattle.refusal.specs.declared.Refusal.the-variants.{Header, Closing}
@@ -18,6 +18,10 @@ use Rattle.scope.specs.Walk.{checkWalk}
 unfoldable pub closes : List Bit → (at : ℕ) → Bool
 unfolding every allZero
 closes bits at = every (leb at (length bits) ∷ ltb (length bits - at) 8 ∷ allZero (drop at bits) ∷ [])
+
+-- nothing of the bytes is left over: no bit of the first `count` after the values, no byte above the limit, and the count closes the bytes
+abbrev pub usedUp : (bytes : List ℕ) → (count : ℕ) → (rest : List Bit) → Bool
+usedUp bytes count rest = every (eqb (length rest) 0 ∷ leb (length bytes) dossierBytes ∷ closes (streamOf bytes) count ∷ [])
 
 -- a program's bytes into stores for `records` records and `bytes` bytes
 unfoldable pub decode : (program : List ℕ) → (records bytes : ℕ) → Check Table

@@ -3,7 +3,7 @@ use mathlib.Core.Bool.{Bool, true, false}
 use mathlib.Core.List.{List, [], _∷_, _++_}
 use Prim.Native.Nat.{ℕ, zero, suc, _+_, _*_, _-_, _/_}
 use lib.Dec.{eqb, ltb}
-use lib.ListN.{length, getD, replicate}
+use lib.ListN.{length, getD, take, replicate}
 use Rattle.limits.specs.Limits.{dossierBytes}
 use Rattle.report.specs.Bits.{Bit, bitsOf}
 
@@ -29,6 +29,10 @@ filled numbers store = numbers ++ zeros (length store - length numbers)
 unfoldable pub streamOf : List ℕ → List Bit
 unfolding bitsOf
 streamOf s = elim (ltb dossierBytes (length s)) [ true ↦ [] | false ↦ bitsOf s ]
+
+-- the bits of a slice's first bytes, as many as a dossier may have
+abbrev pub heldBits : List ℕ → List Bit
+heldBits s = streamOf (take dossierBytes s)
 
 -- f i, f (i + 1), .., n of them
 unfoldable pub tabulateFrom : {X : Type 0} → (i n : ℕ) → (ℕ → X) → List X

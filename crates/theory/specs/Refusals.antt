@@ -21,13 +21,13 @@ use Rattle.report.specs.Values.{Val, ⟨⟩, Read, value, short, readValue}
 use Rattle.report.specs.Nodes.{Node, comp, case, pair, disconnect, injl, injr, take, drop, disconnect1, iden, unit, witness, fail, hidden, word}
 use Rattle.report.specs.Canonical.{children, isDone}
 use Rattle.scope.specs.Check.{Check, passed, refused, _>>=_, require, firstFailing, each}
-use Rattle.scope.specs.Numbers.{bytesFor, every, anyBelow, streamOf}
+use Rattle.scope.specs.Numbers.{bytesFor, every, anyBelow, streamOf, heldBits}
 use Rattle.scope.specs.Header.{checkHeader, headerRule, section, sTypes, sProgram}
 use Rattle.scope.specs.Types.{TypeRecord, tyAt, typeRule, typeRecords, checkTypes}
 use Rattle.scope.specs.Nodes.{NodeRecord, noNode, nodesOf, onWitness}
 use Rattle.scope.specs.Reading.{Fault, streamEnded, lengthTooLong, overBound, aJet, hashesShort, refusalAt, Got, got, fault, Item, naturalUpTo, nodeIn, Table, nodesFrom, readNodes}
 use Rattle.scope.specs.Walk.{hiddenAt, hides, noneHidden, allowed, Walk, walkEach, walkMake, walkFrom, checkWalk}
-use Rattle.scope.specs.Closing.{closes, decode}
+use Rattle.scope.specs.Closing.{closes, usedUp, decode}
 use Rattle.scope.specs.Arrows.{Arrow, target, noOneChild, arrowRule, checkArrows}
 use Rattle.scope.specs.Hashes.{countPlace, rights, clash, checkHashes}
 use Rattle.scope.specs.Program.{Program, wholeSource, wholeTarget}
@@ -281,23 +281,23 @@ values-refuse types arrows i (n ∷ ns) values rest =
 witness-refuses : (types : List TypeRecord) (nodes : List Node) (arrows : List Arrow) (bytes : List ℕ) (count : ℕ) → Refuses 14 17 (checkWitness types nodes arrows bytes count)
 unfolding checkWitness
 witness-refuses types nodes arrows bytes count =
-    then-refuses 14 17 (valuesFrom types arrows 0 nodes [] (takeL count (streamOf bytes))) _ (values-refuse types arrows 0 nodes [] (takeL count (streamOf bytes)))
-    (λ read. then-refuses 14 17 (require (every (eqb (length (read .rest)) 0 ∷ closes (streamOf bytes) count ∷ [])) (Witness (length nodes))) _
-    (require-refuses 14 17 (every (eqb (length (read .rest)) 0 ∷ closes (streamOf bytes) count ∷ [])) (Witness (length nodes)) (omega arith))
+    then-refuses 14 17 (valuesFrom types arrows 0 nodes [] (takeL count (heldBits bytes))) _ (values-refuse types arrows 0 nodes [] (takeL count (heldBits bytes)))
+    (λ read. then-refuses 14 17 (require (usedUp bytes count (read .rest)) (Witness (length nodes))) _
+    (require-refuses 14 17 (usedUp bytes count (read .rest)) (Witness (length nodes)) (omega arith))
     (λ used. passed-refuses 14 17 (read .values)))
 
 -- 16
 input-refuses : (A : Ty) (bytes : List ℕ) (count : ℕ) → Refuses 14 17 (checkInput A bytes count)
 unfolding checkInput
-input-refuses A bytes count = go (readValue A (takeL count (streamOf bytes)))
+input-refuses A bytes count = go (readValue A (takeL count (heldBits bytes)))
   where
     go : (x : Read) → Refuses {X = Val} 14 17 (elim x [
-      | value v rest ↦ (require (every (eqb (length rest) 0 ∷ closes (streamOf bytes) count ∷ [])) (Input 0) >>= λ used. passed v)
+      | value v rest ↦ (require (usedUp bytes count rest) (Input 0) >>= λ used. passed v)
       | short ↦ refused (Input 0)
     ])
     go (value v rest) =
-        then-refuses 14 17 (require (every (eqb (length rest) 0 ∷ closes (streamOf bytes) count ∷ [])) (Input 0)) (λ used. passed v)
-        (require-refuses 14 17 (every (eqb (length rest) 0 ∷ closes (streamOf bytes) count ∷ [])) (Input 0) (omega arith)) (λ used. passed-refuses 14 17 v)
+        then-refuses 14 17 (require (usedUp bytes count rest) (Input 0)) (λ used. passed v)
+        (require-refuses 14 17 (usedUp bytes count rest) (Input 0) (omega arith)) (λ used. passed-refuses 14 17 v)
     go short = refused-refuses 14 17 (Input 0) (omega arith)
 
 -- 14 TO 17

@@ -5,7 +5,6 @@ use mathlib.Core.List.{List, [], _∷_, _++_}
 use Prim.Native.Nat.{ℕ, zero, suc, _+_, _<_}
 use native.Mathlib.Omega.{arith}
 use native.Mathlib.Nat.{add-zero, zero-add}
-use lib.Dec.{eqb}
 use lib.ListN.{length, getD, take, drop, List·getD-append}
 use lib.Seq.{getD-append-seam}
 use Rattle.refusal.specs.declared.Refusal.the-variants.{Witness, Input}
@@ -15,10 +14,10 @@ use Rattle.report.specs.Values.{Val, ⟨⟩, HasTy, Read, value, short, readVal
 use Rattle.report.specs.Nodes.{Node, comp, case, pair, disconnect, injl, injr, disconnect1, iden, unit, witness, fail, hidden, word}
 use Rattle.report.specs.Nodes as Node
 use Rattle.scope.specs.Check.{passed, refused, _>>=_, require}
-use Rattle.scope.specs.Numbers.{streamOf, every}
+use Rattle.scope.specs.Numbers.{heldBits}
 use Rattle.scope.specs.Types.{TypeRecord, tyAt}
 use Rattle.scope.specs.Nodes.{noNode, nodeAt, onWitness}
-use Rattle.scope.specs.Closing.{closes}
+use Rattle.scope.specs.Closing.{usedUp}
 use Rattle.scope.specs.Arrows.{Arrow, target}
 use Rattle.scope.specs.Witness.{Values, valuesFrom, checkWitness}
 use Rattle.scope.specs.Input.{checkInput}
@@ -96,25 +95,25 @@ module _ (types : List TypeRecord) (arrows : List Arrow) where
       → (i : ℕ) → nodeAt nodes i ≡ witness → HasTy (getD values i ⟨⟩) (to i)
   unfolding checkWitness nodeAt
   witness-typed nodes bytes count values e i w =
-      let p = both-passed (valuesFrom types arrows 0 nodes [] (take count (streamOf bytes)))
-      (λ read. require (every (eqb (length (read .rest)) 0 ∷ closes (streamOf bytes) count ∷ [])) (Witness (length nodes)) >>= λ used. passed (read .values)) values e in
-      let q = both-passed (require (every (eqb (length (p .0 .rest)) 0 ∷ closes (streamOf bytes) count ∷ [])) (Witness (length nodes))) (λ used. passed (p .0 .values)) values (p .2) in
+      let p = both-passed (valuesFrom types arrows 0 nodes [] (take count (heldBits bytes)))
+      (λ read. require (usedUp bytes count (read .rest)) (Witness (length nodes)) >>= λ used. passed (read .values)) values e in
+      let q = both-passed (require (usedUp bytes count (p .0 .rest)) (Witness (length nodes))) (λ used. passed (p .0 .values)) values (p .2) in
       let r : p .0 .values ≡ values = cc in
-      let t = values-typed nodes 0 [] (take count (streamOf bytes)) (p .0) refl (p .1) in
+      let t = values-typed nodes 0 [] (take count (heldBits bytes)) (p .0) refl (p .1) in
       subst (λ (vs : List Val). HasTy (getD vs i ⟨⟩) (to i)) r (rw (zero-add i) at (t .1 i w))
 
 -- THE INPUT IS A VALUE OF THE SOURCE
 pub input-typed : (A : Ty) (bytes : List ℕ) (count : ℕ) (v : Val) → checkInput A bytes count ≡ passed v → HasTy v A
 unfolding checkInput
-input-typed A bytes count v e = go (readValue A (take count (streamOf bytes))) (read-typed A (take count (streamOf bytes))) e
+input-typed A bytes count v e = go (readValue A (take count (heldBits bytes))) (read-typed A (take count (heldBits bytes))) e
   where
     go : (r : Read) → ReadTyped A r
         → (elim r [
-          | value v rest ↦ (require (every (eqb (length rest) 0 ∷ closes (streamOf bytes) count ∷ [])) (Input 0) >>= λ used. passed v)
+          | value v rest ↦ (require (usedUp bytes count rest) (Input 0) >>= λ used. passed v)
           | short ↦ refused (Input 0)
         ]) ≡ passed v → HasTy v A
     go r (aValue {v = w} {rest = rest} h) q =
-        let p = both-passed (require (every (eqb (length rest) 0 ∷ closes (streamOf bytes) count ∷ [])) (Input 0)) (λ used. passed w) v q in
+        let p = both-passed (require (usedUp bytes count rest) (Input 0)) (λ used. passed w) v q in
         let f : w ≡ v = cc in
         subst (λ (u : Val). HasTy u A) f h
     go r tooFew q = clash (cc)

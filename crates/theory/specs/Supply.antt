@@ -19,11 +19,11 @@ use Rattle.report.specs.Values.{Val, ⟨⟩, HasTy, compact, Read, value, short
 use Rattle.report.specs.Nodes.{Node}
 use Rattle.report.specs.Nodes as Node
 use Rattle.scope.specs.Check.{passed, refused, _>>=_, require, each}
-use Rattle.scope.specs.Numbers.{streamOf, bytesFor, every, same, allZero}
+use Rattle.scope.specs.Numbers.{streamOf, heldBits, bytesFor, every, same, allZero}
 use Rattle.scope.specs.Header.{headerRule, checkHeader}
 use Rattle.scope.specs.Types.{TypeRecord, tyAt}
 use Rattle.scope.specs.Nodes.{onWitness}
-use Rattle.scope.specs.Closing.{closes}
+use Rattle.scope.specs.Closing.{closes, usedUp}
 use Rattle.scope.specs.Arrows.{Arrow, target}
 use Rattle.scope.specs.Hashes.{countPlace, rights, entry, clash, checkHashes}
 use Rattle.scope.specs.Program.{Program, wholeTarget}
@@ -33,7 +33,7 @@ use Rattle.scope.specs.Input.{checkInput}
 use Rattle.scope.specs.Stores.{checkStores}
 use Rattle.common.specs.Checks as Checks
 use Rattle.common.specs.Checks.{every-all, all-every, none-below, below-none, same-equal, equal-same, require-holds, holds-require, both-passed, then-passes, each-holds, holds-each}
-use Rattle.common.specs.Bits.{AreBits, below-front}
+use Rattle.common.specs.Bits.{AreBits, below-front, held-within}
 use Rattle.exactness.specs.Values.{reads-compact, read-is-compact}
 use Rattle.exactness.specs.Stream.{Stands}
 use Rattle.exactness.specs.Programs.{Closed}
@@ -198,21 +198,25 @@ module _ (nodes : List Node) (given : List ℕ) where
       ∙ holds-each (length (rights nodes)) (λ e. not (clash nodes given e)) Hash
       (λ e l. ap not (below-none e (unlike e) (λ d m. clash-none e d (h .alike d e (omega arith) l))))
 
--- BITS THAT ARE SUPPLIED: as many as the count says, and behind them fewer than eight zeros
+-- BITS THAT ARE SUPPLIED: as many as the count says, and behind them fewer than eight zeros, in no more bytes than a dossier may have
 pub record BitsAre (bytes : List ℕ) (count : ℕ) (bits : List Bit) : Type 0 where
   pub many : count ≡ length bits
+  pub within : length bytes ≤ dossierBytes
   pub closed : Closed (streamOf bytes) bits
 
 module _ (bytes : List ℕ) (count : ℕ) (bits : List Bit) where
   -- the bits within the count, and the test of what is left
-  bits-are : take count (streamOf bytes) ≡ bits → closes (streamOf bytes) count ≡ true → BitsAre bytes count bits
+  bits-are : take count (heldBits bytes) ≡ bits → leb (length bytes) dossierBytes ≡ true → closes (streamOf bytes) count ≡ true → BitsAre bytes count bits
   unfolding closes
-  bits-are e c =
+  bits-are f w c =
+      let limit : length bytes ≤ dossierBytes = leb-true _ _ w in
+      let e : take count (streamOf bytes) ≡ bits = ap (take count) (sym (held-within bytes limit)) ∙ f in
       let within = every-all (leb count (length (streamOf bytes)) ∷ ltb (length (streamOf bytes) - count) 8 ∷ allZero (drop count (streamOf bytes)) ∷ []) c in
       let room : count ≤ length (streamOf bytes) = leb-true _ _ (within .0) in
       let l : count ≡ length bits = omega (arith, ap length e, length-take count (streamOf bytes)) in
       record {
         many = l;
+        within = limit;
         closed = closed-stands (streamOf bytes) bits (record {
           bits-there = sym (take-append-drop count (streamOf bytes)) ∙ ap₂ (λ (x : List Bit) (k : ℕ). x ++ drop k (streamOf bytes)) e l;
           ends-at = omega arith;
@@ -221,9 +225,10 @@ module _ (bytes : List ℕ) (count : ℕ) (bits : List Bit) where
       }
 
   -- and the other way round
-  are-bits : BitsAre bytes count bits → (take count (streamOf bytes) ≡ bits) × (closes (streamOf bytes) count ≡ true)
+  are-bits : BitsAre bytes count bits → (take count (heldBits bytes) ≡ bits) × (leb (length bytes) dossierBytes ≡ true) × (closes (streamOf bytes) count ≡ true)
   are-bits h = (
-    ap (take count) (h .closed .whole) ∙ take-at bits _ count (sym (h .many)),
+    ap (take count) (held-within bytes (h .within) ∙ h .closed .whole) ∙ take-at bits _ count (sym (h .many)),
+    le-leb _ _ (h .within),
     subst (λ (k : ℕ). closes (streamOf bytes) k ≡ true) (sym (h .many)) (closed-closes (streamOf bytes) bits (h .closed)),
   )
 
@@ -249,23 +254,23 @@ pub record InputFits (A : Ty) (bytes : List ℕ) (count : ℕ) (v : Val) : Type 
 module _ (A : Ty) (bytes : List ℕ) (count : ℕ) (v : Val) where
   -- the test of what is left, of the value and the bits after it
   abbrev used : List Bit → Bool
-  used rest = every (eqb (length rest) 0 ∷ closes (streamOf bytes) count ∷ [])
+  used rest = usedUp bytes count rest
 
   -- an input that passed
   pub input-fits : checkInput A bytes count ≡ passed v → InputFits A bytes count v
   unfolding checkInput
-  input-fits e = go (readValue A (take count (streamOf bytes))) refl e
+  input-fits e = go (readValue A (take count (heldBits bytes))) refl e
     where
-      go : (r : Read) → readValue A (take count (streamOf bytes)) ≡ r
+      go : (r : Read) → readValue A (take count (heldBits bytes)) ≡ r
           → (elim r [ value v rest ↦ (require (used rest) (Input 0) >>= λ fine. passed v) | short ↦ refused (Input 0) ]) ≡ passed v → InputFits A bytes count v
       go (value w rest) p q =
           let a = both-passed (require (used rest) (Input 0)) (λ fine. passed w) v q in
           let same : w ≡ v = (let z = a .2 in cc) in
-          let t = every-all (eqb (length rest) 0 ∷ closes (streamOf bytes) count ∷ []) (require-holds (used rest) (Input 0) (a .0) (a .1)) in
-          let r = read-is-compact A (take count (streamOf bytes)) w rest (first-bits count (streamOf bytes) (stream-bits bytes)) p in
-          let bits : take count (streamOf bytes) ≡ compact v =
+          let t = every-all (eqb (length rest) 0 ∷ leb (length bytes) dossierBytes ∷ closes (streamOf bytes) count ∷ []) (require-holds (used rest) (Input 0) (a .0) (a .1)) in
+          let r = read-is-compact A (take count (heldBits bytes)) w rest (first-bits count (heldBits bytes) (stream-bits (take dossierBytes bytes))) p in
+          let bits : take count (heldBits bytes) ≡ compact v =
           r .1 ∙ ap₂ (λ (u : Val) (l : List Bit). compact u ++ l) same (no-bits rest (eqb-true _ _ (t .0))) ∙ append-nil (compact v) in
-          record { typed = subst (λ (u : Val). HasTy u A) same (r .0); bits = bits-are bytes count (compact v) bits (t .1 .0) }
+          record { typed = subst (λ (u : Val). HasTy u A) same (r .0); bits = bits-are bytes count (compact v) bits (t .1 .0) (t .1 .1 .0) }
       go short p q = Checks.clash (cc)
 
   -- and an input that fits passes
@@ -273,10 +278,10 @@ module _ (A : Ty) (bytes : List ℕ) (count : ℕ) (v : Val) where
   unfolding checkInput
   fits-input h =
       let b = are-bits bytes count (compact v) (h .bits) in
-      let r : readValue A (take count (streamOf bytes)) ≡ value v [] = ap (readValue A) (b .0 ∙ sym (append-nil (compact v))) ∙ reads-compact (h .typed) [] in
+      let r : readValue A (take count (heldBits bytes)) ≡ value v [] = ap (readValue A) (b .0 ∙ sym (append-nil (compact v))) ∙ reads-compact (h .typed) [] in
       rw (r, checkInput)
       (then-passes (require (used []) (Input 0)) (λ fine. passed v) tt
-      (holds-require (used []) (Input 0) (all-every (eqb 0 0 ∷ closes (streamOf bytes) count ∷ []) (refl, (b .1, tt)))))
+      (holds-require (used []) (Input 0) (all-every (eqb 0 0 ∷ leb (length bytes) dossierBytes ∷ closes (streamOf bytes) count ∷ []) (refl, (b .1, (b .2, tt))))))
 
 -- the compact bits of values one after the other
 unfoldable pub allBits : List Val → List Bit
@@ -399,29 +404,29 @@ module _ (types : List TypeRecord) (arrows : List Arrow) where
   module _ (nodes : List Node) (bytes : List ℕ) (count : ℕ) (values : List Val) where
     -- the test of what is left
     abbrev left : List Bit → Bool
-    left rest = every (eqb (length rest) 0 ∷ closes (streamOf bytes) count ∷ [])
+    left rest = usedUp bytes count rest
 
     -- witness bits that passed
     pub witness-fits : checkWitness types nodes arrows bytes count ≡ passed values → WitnessFits types nodes arrows bytes count values
     unfolding checkWitness
     witness-fits e =
-        let a = both-passed (valuesFrom types arrows 0 nodes [] (take count (streamOf bytes))) (λ read. require (left (read .rest)) (Witness (length nodes)) >>= λ fine. passed (read .values)) values e in
+        let a = both-passed (valuesFrom types arrows 0 nodes [] (take count (heldBits bytes))) (λ read. require (left (read .rest)) (Witness (length nodes)) >>= λ fine. passed (read .values)) values e in
         let b = both-passed (require (left (a .0 .rest)) (Witness (length nodes))) (λ fine. passed (a .0 .values)) values (a .2) in
-        let t = every-all (eqb (length (a .0 .rest)) 0 ∷ closes (streamOf bytes) count ∷ []) (require-holds (left (a .0 .rest)) (Witness (length nodes)) (b .0) (b .1)) in
-        let r = read-values nodes 0 [] (take count (streamOf bytes)) (a .0) (first-bits count (streamOf bytes) (stream-bits bytes)) (a .1) in
+        let t = every-all (eqb (length (a .0 .rest)) 0 ∷ leb (length bytes) dossierBytes ∷ closes (streamOf bytes) count ∷ []) (require-holds (left (a .0 .rest)) (Witness (length nodes)) (b .0) (b .1)) in
+        let r = read-values nodes 0 [] (take count (heldBits bytes)) (a .0) (first-bits count (heldBits bytes) (stream-bits (take dossierBytes bytes))) (a .1) in
         let same : r .0 ≡ values = (let z = b .2 in let y = r .2 in cc) in
-        let bits : take count (streamOf bytes) ≡ allBits values =
+        let bits : take count (heldBits bytes) ≡ allBits values =
         r .3 ∙ ap₂ (λ (vs : List Val) (l : List Bit). allBits vs ++ l) same (no-bits (a .0 .rest) (eqb-true _ _ (t .0))) ∙ append-nil (allBits values) in
-        record { each = subst (ValuesFor types arrows 0 nodes) same (r .1); bits = bits-are bytes count (allBits values) bits (t .1 .0) }
+        record { each = subst (ValuesFor types arrows 0 nodes) same (r .1); bits = bits-are bytes count (allBits values) bits (t .1 .0) (t .1 .1 .0) }
 
     -- and witness bits that fit pass
     pub fits-witness : WitnessFits types nodes arrows bytes count values → checkWitness types nodes arrows bytes count ≡ passed values
     unfolding checkWitness
     fits-witness h =
         let b = are-bits bytes count (allBits values) (h .bits) in
-        let r : valuesFrom types arrows 0 nodes [] (take count (streamOf bytes)) ≡ passed (record { values = values; rest = [] }) =
+        let r : valuesFrom types arrows 0 nodes [] (take count (heldBits bytes)) ≡ passed (record { values = values; rest = [] }) =
         ap (valuesFrom types arrows 0 nodes []) (b .0 ∙ sym (append-nil (allBits values))) ∙ values-read nodes values 0 [] [] (h .each) in
-        then-passes (valuesFrom types arrows 0 nodes [] (take count (streamOf bytes))) (λ read. require (left (read .rest)) (Witness (length nodes)) >>= λ fine. passed (read .values))
+        then-passes (valuesFrom types arrows 0 nodes [] (take count (heldBits bytes))) (λ read. require (left (read .rest)) (Witness (length nodes)) >>= λ fine. passed (read .values))
         (record { values = values; rest = [] }) r
         ∙ then-passes (require (left []) (Witness (length nodes))) (λ fine. passed values) tt
-        (holds-require (left []) (Witness (length nodes)) (all-every (eqb 0 0 ∷ closes (streamOf bytes) count ∷ []) (refl, (b .1, tt))))
+        (holds-require (left []) (Witness (length nodes)) (all-every (eqb 0 0 ∷ leb (length bytes) dossierBytes ∷ closes (streamOf bytes) count ∷ []) (refl, (b .1, (b .2, tt)))))
