@@ -93,6 +93,23 @@ fn a_run_on_tables() {
 }
 
 #[test]
+fn bytes_above_the_limit_are_left_over() {
+    let long = [0xff; DOSSIER_BYTES + 1];
+    let unit = Tables { types: &[0; 5], nodes: &[9, 0, 0, 0], arrows: &[0; 4], program: &[0x24], hashes: &[] };
+    let (mut frames, mut answer) = ([7; 6], [0xff; 1]);
+    let mut run_on = |witness: Bits, input: Bits| {
+        let stores = Stores { cells: &mut [], frames: &mut frames, answer: &mut answer };
+        run_tables(unit, &[], witness, input, stores)
+    };
+    assert_eq!(run_on(NO_BITS, NO_BITS), Answer::Value(0));
+    for bytes in [&long[..], &long[1..]] {
+        let spare = Bits { bytes, count: 0 };
+        assert_eq!(run_on(spare, NO_BITS), Answer::Refused(Refusal::Witness(1)));
+        assert_eq!(run_on(NO_BITS, spare), Answer::Refused(Refusal::Input(0)));
+    }
+}
+
+#[test]
 fn naturals() {
     assert_eq!(natural(&[0b1000_0000], 0, 9), Natural::Value { value: 2, next: 3 });
     assert_eq!(natural(&[0b0110_1000], 1, 8), Natural::Value { value: 8, next: 8 });

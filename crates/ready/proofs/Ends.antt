@@ -8,17 +8,19 @@ use native.Mathlib.Decide.{decLt}
 use lib.Dec.{eqb}
 use lib.ListN.{length, getD, take, drop, length-take, length-drop}
 use lib.Seq.{length-take-le}
-use borrow.Author.Tests.{eq-eqb, ne-eqb}
+use borrow.Author.Tests.{eq-eqb, ne-eqb, le-leb, lt-leb}
+use Rattle.limits.specs.Limits.{dossierBytes}
 use Rattle.report.specs.Bits.{Bit}
 use Rattle.report.specs.Types.{width}
 use Rattle.report.specs.Values.{⟨⟩, compact, Read, value, short, readValue}
 use Rattle.report.specs.Nodes.{Node}
-use Rattle.scope.specs.Numbers.{every}
+use Rattle.scope.specs.Numbers.{streamOf, heldBits, every}
 use Rattle.scope.specs.Types.{TypeRecord, typeRecords, tyAt}
 use Rattle.scope.specs.Nodes.{Kind, kindOf, nodeOf, NodeRecord, nodesOf, nodeAt, onWitness}
 use Rattle.scope.specs.Arrows.{Arrow, noArrow, target}
 use Rattle.scope.specs.Stages.{noRecord}
-use Rattle.scope.specs.Closing.{closes}
+use Rattle.scope.specs.Closing.{closes, usedUp}
+use Rattle.common.specs.Bits.{held-within}
 use Rattle.common.specs.Checks.{not-both}
 use Rattle.bititer.proofs.Closing.{closes-past}
 use Rattle.common.specs.Nodes.{node-at}
@@ -48,22 +50,22 @@ skip-ends types widths next ok i p bits =
 
 module _ (bits : List Bit) (end count : ℕ) where
   -- all of the first bits are used, and what is after them closes the last byte
-  abbrev pub allUsed : Bool
-  allUsed = every (eqb (length (drop end (take count bits))) 0 ∷ closes bits count ∷ [])
+  abbrev firstUsed : Bool
+  firstUsed = every (eqb (length (drop end (take count bits))) 0 ∷ closes bits count ∷ [])
 
   left : length (drop end (take count bits)) ≡ length (take count bits) - end
   left = length-drop end (take count bits)
 
   -- bits are left over, or the count passes the bits
-  pub used-short : end < count → false ≡ allUsed
+  first-short : end < count → false ≡ firstUsed
   unfolding every
-  used-short h = go (decLt (length bits) count)
+  first-short h = go (decLt (length bits) count)
     where
       not-closed : (b : Bool) → false ≡ every (b ∷ false ∷ [])
       not-closed true = refl
       not-closed false = refl
 
-      go : Dec (length bits < count) → false ≡ allUsed
+      go : Dec (length bits < count) → false ≡ firstUsed
       go (yes k) = not-closed (eqb (length (drop end (take count bits))) 0) ∙ ap (λ (b : Bool). every (eqb (length (drop end (take count bits))) 0 ∷ b ∷ [])) (sym (closes-past bits count k))
       go (no k) =
           let n = length-take-le count bits (omega arith) in
@@ -71,9 +73,9 @@ module _ (bits : List Bit) (end count : ℕ) where
           ap (λ (b : Bool). every (b ∷ closes bits count ∷ [])) (sym (ne-eqb (length (drop end (take count bits))) 0 (omega arith)))
 
   -- none is left over
-  pub used-all : count ≤ end → closes bits count ≡ allUsed
+  first-all : count ≤ end → closes bits count ≡ firstUsed
   unfolding every
-  used-all h =
+  first-all h =
       let n = length-take count bits in
       let l = left in
       last (closes bits count)
@@ -82,6 +84,45 @@ module _ (bits : List Bit) (end count : ℕ) where
       last : (b : Bool) → b ≡ every (true ∷ b ∷ [])
       last true = refl
       last false = refl
+
+module _ (bytes : List ℕ) (end count : ℕ) where
+  -- all of the bytes is used
+  abbrev pub allUsed : Bool
+  allUsed = usedUp bytes count (drop end (take count (heldBits bytes)))
+
+  -- bytes stand above the limit
+  pub used-over : dossierBytes < length bytes → false ≡ allUsed
+  unfolding every
+  used-over h =
+      not-within (eqb (length (drop end (take count (heldBits bytes)))) 0)
+      ∙ ap (λ (b : Bool). every (eqb (length (drop end (take count (heldBits bytes)))) 0 ∷ b ∷ closes (streamOf bytes) count ∷ []))
+      (sym (lt-leb (length bytes) dossierBytes h))
+    where
+      not-within : (b : Bool) → false ≡ every (b ∷ false ∷ closes (streamOf bytes) count ∷ [])
+      not-within true = refl
+      not-within false = refl
+
+  module _ (within : length bytes ≤ dossierBytes) where
+    -- none does: the bits are judged alone
+    first-is : firstUsed (streamOf bytes) end count ≡ allUsed
+    unfolding every
+    first-is =
+        ap (λ (l : List Bit). every (eqb (length (drop end (take count l))) 0 ∷ closes (streamOf bytes) count ∷ [])) (sym (held-within bytes within))
+        ∙ ends-within (eqb (length (drop end (take count (heldBits bytes)))) 0)
+        ∙ ap (λ (b : Bool). every (eqb (length (drop end (take count (heldBits bytes)))) 0 ∷ b ∷ closes (streamOf bytes) count ∷ []))
+        (sym (le-leb (length bytes) dossierBytes within))
+      where
+        ends-within : (b : Bool) → every (b ∷ closes (streamOf bytes) count ∷ []) ≡ every (b ∷ true ∷ closes (streamOf bytes) count ∷ [])
+        ends-within true = refl
+        ends-within false = refl
+
+    -- bits are left over, or the count passes the bits
+    pub used-short : end < count → false ≡ allUsed
+    used-short h = first-short (streamOf bytes) end count h ∙ first-is
+
+    -- none is left over
+    pub used-all : count ≤ end → closes (streamOf bytes) count ≡ allUsed
+    used-all h = first-all (streamOf bytes) end count h ∙ first-is
 
 -- a node is a witness where its kind has the witness's number
 kind-is : (bits hashes : List ℕ) (a b kind : ℕ) → eqb kind 12 ≡ onWitness (nodeOf bits hashes (kindOf kind) a b) true false

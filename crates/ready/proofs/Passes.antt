@@ -1,9 +1,9 @@
 -- What the checks 14, 16 and 17 tell once they have passed: the bounds keep the limits, the input's value stands at the front of its bits,
 -- and the stores have room for the bounds.
-use mathlib.Core.Path.{_≡_, refl, ap, _∙_}
-use mathlib.Core.List.{List, [], _∷_}
+use mathlib.Core.Path.{_≡_, refl, sym, ap, _∙_}
+use mathlib.Core.List.{List}
 use Prim.Native.Nat.{ℕ, _/_, _≤_}
-use lib.Dec.{leb, eqb}
+use lib.Dec.{leb}
 use lib.ListN.{length, take}
 use borrow.Author.Tests.{leb-true}
 use Rattle.limits.specs.Limits.{cellCount, frameCount, costLimit, frameNumbers}
@@ -12,13 +12,15 @@ use Rattle.report.specs.Bits.{Bit}
 use Rattle.report.specs.Types.{Ty, width}
 use Rattle.report.specs.Values.{Val, Read, value, short, readValue}
 use Rattle.scope.specs.Check.{Check, passed, refused, _>>=_, require}
-use Rattle.scope.specs.Numbers.{streamOf, every, bytesFor}
-use Rattle.scope.specs.Closing.{closes}
+use Rattle.scope.specs.Numbers.{streamOf, heldBits, bytesFor}
+use Rattle.scope.specs.Closing.{usedUp}
 use Rattle.scope.specs.Program.{Program, wholeTarget}
 use Rattle.scope.specs.Bounds.{wholeCells, wholeFrames, checkLimits}
 use Rattle.scope.specs.Input.{checkInput}
 use Rattle.scope.specs.Stores.{checkStores}
+use Rattle.common.specs.Bits.{held-within}
 use Rattle.common.specs.Checks.{clash, both-passed, require-holds}
+use Rattle.theory.specs.Supply.{input-fits}
 use Rattle.ready.proofs.FirstBits.{in-all}
 
 pub limits-kept : (cells frames cost : ℕ) → checkLimits cells frames cost ≡ passed tt → (cells ≤ cellCount) × (frames ≤ frameCount) × (cost ≤ costLimit)
@@ -49,15 +51,18 @@ stores-fit P cells frames answer e =
 pub input-read : (A : Ty) (bytes : List ℕ) (count : ℕ) (v : Val) → checkInput A bytes count ≡ passed v
     → (rest : List Bit) × (readValue A (streamOf bytes) ≡ value v rest)
 unfolding checkInput
-input-read A bytes count v e = go (readValue A (take count (streamOf bytes))) (in-all A 0 count (streamOf bytes)) e
+input-read A bytes count v e =
+    let within = input-fits A bytes count v e .bits .within in
+    let r = go (readValue A (take count (heldBits bytes))) (in-all A 0 count (heldBits bytes)) e in
+    (r .0, ap (readValue A) (sym (held-within bytes within)) ∙ r .1)
   where
-    go : (r : Read) → ((v : Val) (rest : List Bit) → r ≡ value v rest → (more : List Bit) × (readValue A (streamOf bytes) ≡ value v more))
+    go : (r : Read) → ((v : Val) (rest : List Bit) → r ≡ value v rest → (more : List Bit) × (readValue A (heldBits bytes) ≡ value v more))
         → (elim r [
-          | value v rest ↦ (require (every (eqb (length rest) 0 ∷ closes (streamOf bytes) count ∷ [])) (Input 0) >>= λ used. passed v)
+          | value v rest ↦ (require (usedUp bytes count rest) (Input 0) >>= λ used. passed v)
           | short ↦ refused (Input 0)
-        ]) ≡ passed v → (rest : List Bit) × (readValue A (streamOf bytes) ≡ value v rest)
+        ]) ≡ passed v → (rest : List Bit) × (readValue A (heldBits bytes) ≡ value v rest)
     go (value w rest) all q =
-        let p = both-passed (require (every (eqb (length rest) 0 ∷ closes (streamOf bytes) count ∷ [])) (Input 0)) (λ used. passed w) v q in
+        let p = both-passed (require (usedUp bytes count rest) (Input 0)) (λ used. passed w) v q in
         let f : w ≡ v = cc in
         let m = all w rest refl in
         (m .0, m .1 ∙ ap (λ (u : Val). value u (m .0)) f)

@@ -5,7 +5,6 @@ use mathlib.Core.List.{List, [], _∷_, _++_}
 use Prim.Native.Nat.{ℕ, zero, suc, _+_, _-_, _/_, _≤_, _<_}
 use native.Mathlib.Omega.{arith}
 use native.Mathlib.Decide.{decLt}
-use lib.Dec.{eqb}
 use lib.ListN.{length, getD, take, drop, List·getD-append, List·getD-eq-default}
 use Rattle.limits.specs.Limits.{nodeCount, typeCount, cellCount, frameCount, frameNumbers}
 use Rattle.refusal.specs.declared.Refusal.the-variants.{Witness}
@@ -16,10 +15,10 @@ use Rattle.report.specs.Nodes.{Node, witness, word}
 use Rattle.report.specs.Canonical.{children}
 use Rattle.report.specs.Meaning.{stuck}
 use Rattle.scope.specs.Check.{passed, _>>=_, require}
-use Rattle.scope.specs.Numbers.{streamOf, tabulate, every, bytesFor, zeros}
+use Rattle.scope.specs.Numbers.{streamOf, heldBits, tabulate, bytesFor, zeros}
 use Rattle.scope.specs.Types.{TypeRecord, typeRecords, tyAt, checkTypes}
 use Rattle.scope.specs.Nodes.{nodeRecords, noNode, nodeAt, onWitness}
-use Rattle.scope.specs.Closing.{closes}
+use Rattle.scope.specs.Closing.{usedUp}
 use Rattle.scope.specs.Arrows.{Arrow, arrowRecords, target}
 use Rattle.scope.specs.Program.{Program, valueFrom, whole, wholeSource, wholeTarget}
 use Rattle.scope.specs.Bounds.{wholeCells, wholeFrames, wholeCost, checkBounds}
@@ -30,7 +29,7 @@ use Rattle.scope.specs.Run.{Tables, programOf, Ready, checkReady, cellsOf}
 use Rattle.scope.specs.Stages.{counted, lent, arrowStage, hashStage}
 use Rattle.scope.specs.Machine.{machine}
 use Rattle.common.specs.Checks.{clash, both-passed, then-passes, counted-passed}
-use Rattle.common.specs.Bits.{AllBelow}
+use Rattle.common.specs.Bits.{AllBelow, held-within}
 use Rattle.exactness.specs.NodeTyping.{NodeTyped, Word, fromTy, toTy}
 use Rattle.exactness.specs.Types.{types-pass}
 use Rattle.exactness.specs.Arrows.{arrow-typed}
@@ -39,6 +38,7 @@ use Rattle.layout.specs.Safe.{WholeOk}
 use Rattle.theory.specs.Accepted.{Checked, ready-sound, ready-input}
 use Rattle.theory.specs.LentTables.{lent-checked}
 use Rattle.theory.specs.NodeTerms.{cells-alike, frames-alike, target-alike, source-alike}
+use Rattle.theory.specs.Supply.{witness-fits}
 use Rattle.theory.specs.Theorems.{never-stuck, whole-safe}
 use Rattle.common.specs.Nodes.{length-nodes}
 use Rattle.stages.proofs.Passed.{LentPassed, lent-passed, stage-passed, stage-arrows, hashes-passed}
@@ -61,7 +61,7 @@ same-tabulate f g (suc n) h =
 module _ (types : List TypeRecord) (nodes : List Node) (arrows : List Arrow) (bytes : List ℕ) (count : ℕ) (values : List Val)
     (passes : checkWitness types nodes arrows bytes count ≡ passed values) where
   abbrev bits : List Bit
-  bits = take count (streamOf bytes)
+  bits = take count (heldBits bytes)
 
   abbrev held : (i : ℕ) → Ty
   held i = tyAt types (target arrows i)
@@ -70,9 +70,13 @@ module _ (types : List TypeRecord) (nodes : List Node) (arrows : List Arrow) (by
   unfolding checkWitness
   walk =
       let p = both-passed (valuesFrom types arrows 0 nodes [] bits)
-      (λ read. require (every (eqb (length (read .rest)) 0 ∷ closes (streamOf bytes) count ∷ [])) (Witness (length nodes)) >>= λ used. passed (read .values)) values passes in
-      let q = both-passed (require (every (eqb (length (p .0 .rest)) 0 ∷ closes (streamOf bytes) count ∷ [])) (Witness (length nodes))) (λ used. passed (p .0 .values)) values (p .2) in
+      (λ read. require (usedUp bytes count (read .rest)) (Witness (length nodes)) >>= λ used. passed (read .values)) values passes in
+      let q = both-passed (require (usedUp bytes count (p .0 .rest)) (Witness (length nodes))) (λ used. passed (p .0 .values)) values (p .2) in
       (p .0, p .1, cc)
+
+  -- they are within the limit, so all their bytes are held
+  all-held : streamOf bytes ≡ heldBits bytes
+  all-held = sym (held-within bytes (witness-fits types arrows nodes bytes count values passes .bits .within))
 
   -- a node's entry in the array of positions
   pub position-in : (i : ℕ) → i < length nodes → getD (positionsOf types nodes arrows bytes count) i 0 ≡ positionAt types nodes arrows bits i
@@ -90,8 +94,11 @@ module _ (types : List TypeRecord) (nodes : List Node) (arrows : List Arrow) (by
       let f : readValue (held i) (drop (positionAt types nodes arrows bits i) bits) ≡ value (r .0) (r .1) =
       ap (λ (n : Node). onWitness n (readValue (held i) (drop (positionAt types nodes arrows bits i) bits)) (value ⟨⟩ (drop (positionAt types nodes arrows bits i) bits))) (sym w) ∙ r .2 in
       let g : r .0 ≡ v = ap valueRead (sym (r .2)) ∙ e in
-      let m = in-all (held i) (positionAt types nodes arrows bits i) count (streamOf bytes) (r .0) (r .1) f in
-      (m .0, ap (λ (p : ℕ). readValue (held i) (drop p (streamOf bytes))) (position-in i h) ∙ m .1 ∙ ap (λ (u : Val). value u (m .0)) g)
+      let m = in-all (held i) (positionAt types nodes arrows bits i) count (heldBits bytes) (r .0) (r .1) f in (
+        m .0,
+        ap (λ (p : ℕ). readValue (held i) (drop p (streamOf bytes))) (position-in i h)
+            ∙ ap (λ (l : List Bit). readValue (held i) (drop (positionAt types nodes arrows bits i) l)) all-held ∙ m .1 ∙ ap (λ (u : Val). value u (m .0)) g,
+      )
 
   -- the value at the position of node i, where it is a witness
   abbrev pub valueIn : (i : ℕ) → Val

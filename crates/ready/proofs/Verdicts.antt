@@ -4,21 +4,22 @@ use mathlib.Core.Bool.{Bool, true, false}
 use mathlib.Core.List.{List, [], _∷_}
 use Prim.Native.Nat.{ℕ, _+_, _/_, _≤_, _<_}
 use native.Mathlib.Omega.{arith}
-use lib.Dec.{eqb, leb}
+use lib.Dec.{leb}
 use lib.ListN.{length, take, drop}
 use borrow.Author.Tests.{le-leb, lt-leb}
-use Rattle.limits.specs.Limits.{frameNumbers}
+use Rattle.limits.specs.Limits.{dossierBytes, frameNumbers}
 use Rattle.refusal.specs.declared.Refusal.the-variants.{Input, StoreShort}
 use Rattle.report.specs.Bits.{Bit}
 use Rattle.report.specs.Types.{Ty}
 use Rattle.report.specs.Values.{Val, compact, Read, value, short, readValue}
 use Rattle.scope.specs.Check.{passed, refused, _>>=_, require}
-use Rattle.scope.specs.Numbers.{streamOf, every, bytesFor}
-use Rattle.scope.specs.Closing.{closes}
+use Rattle.scope.specs.Numbers.{streamOf, heldBits, bytesFor}
+use Rattle.scope.specs.Closing.{usedUp}
 use Rattle.scope.specs.Input.{checkInput}
 use Rattle.common.specs.Checks.{clash}
 use Rattle.common.specs.declared.Checked.{Checked}
 use Rattle.common.specs.declared.Checked.the-variants.{Passed, Refused}
+use Rattle.value.specs.declared.ValueRead.{ValueRead}
 use Rattle.value.specs.declared.ValueRead.the-variants.{Next, Short}
 use Rattle.value.proofs.Types.{read-fit}
 use Rattle.ready.specs.Answers.{verdict, endOf, storesRule}
@@ -26,12 +27,16 @@ use Rattle.ready.proofs.Ends.{allUsed}
 
 module _ (A : Ty) (bytes : List ℕ) (count : ℕ) where
   abbrev bits : List Bit
-  bits = take count (streamOf bytes)
+  bits = take count (heldBits bytes)
+
+  -- the value's end in a slice that is the bytes up to the limit
+  pub input-held : (own : List ℕ) → own ≡ take dossierBytes bytes → (r : ValueRead) → r ≡ endOf 0 (readValue A (drop 0 (take count (streamOf own)))) → r ≡ endOf 0 (readValue A bits)
+  input-held own e r f = f ∙ ap (λ (l : List ℕ). endOf 0 (readValue A (take count (streamOf l)))) e
 
   -- what is said of what was read
   abbrev said : Read → Checked
   said r = verdict {X = Val} (elim r [
-    | value v rest ↦ (require (every (eqb (length rest) 0 ∷ closes (streamOf bytes) count ∷ [])) (Input 0) >>= λ used. passed v)
+    | value v rest ↦ (require (usedUp bytes count rest) (Input 0) >>= λ used. passed v)
     | short ↦ refused (Input 0)
   ])
 
@@ -48,7 +53,7 @@ module _ (A : Ty) (bytes : List ℕ) (count : ℕ) where
       go short e = refl
 
   -- a value was read that ends at q: it is judged by whether that is all
-  read-to : (q : ℕ) (used : Bool) → Next q ≡ endOf 0 (readValue A bits) → allUsed (streamOf bytes) q count ≡ used
+  read-to : (q : ℕ) (used : Bool) → Next q ≡ endOf 0 (readValue A bits) → allUsed bytes q count ≡ used
       → (v : Val) × (verdict (require used (Input 0) >>= λ used. passed v) ≡ verdict (checkInput A bytes count))
   unfolding endOf
   read-to q used e f = go (readValue A bits) refl e
@@ -59,15 +64,15 @@ module _ (A : Ty) (bytes : List ℕ) (count : ℕ) where
           let l : drop q bits ≡ rest = ap (λ (k : ℕ). drop k bits) n ∙ sym (read-fit A bits v rest g .after) in (
             v,
             ap (λ (b : Bool). verdict (require b (Input 0) >>= λ used. passed v))
-                (sym f ∙ ap (λ (m : List Bit). every (eqb (length m) 0 ∷ closes (streamOf bytes) count ∷ [])) l) ∙ ap said (sym g) ∙ said-is,
+                (sym f ∙ ap (λ (m : List Bit). usedUp bytes count m) l) ∙ ap said (sym g) ∙ said-is,
           )
       go short g e = clash (cc)
 
-  pub input-left : (q : ℕ) → Next q ≡ endOf 0 (readValue A bits) → allUsed (streamOf bytes) q count ≡ false → Refused (Input 0) ≡ verdict (checkInput A bytes count)
+  pub input-left : (q : ℕ) → Next q ≡ endOf 0 (readValue A bits) → allUsed bytes q count ≡ false → Refused (Input 0) ≡ verdict (checkInput A bytes count)
   unfolding verdict require _>>=_
   input-left q e f = read-to q false e f .1
 
-  pub input-whole : (q : ℕ) → Next q ≡ endOf 0 (readValue A bits) → allUsed (streamOf bytes) q count ≡ true → Passed ≡ verdict (checkInput A bytes count)
+  pub input-whole : (q : ℕ) → Next q ≡ endOf 0 (readValue A bits) → allUsed bytes q count ≡ true → Passed ≡ verdict (checkInput A bytes count)
   unfolding verdict require _>>=_
   input-whole q e f = read-to q true e f .1
 

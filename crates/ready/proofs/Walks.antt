@@ -5,24 +5,24 @@ use mathlib.Core.Bool.{Bool, true, false}
 use mathlib.Core.List.{List, [], _∷_, _++_, append-assoc}
 use Prim.Native.Nat.{ℕ, suc, _+_, _-_, _≤_, _<_}
 use native.Mathlib.Omega.{arith}
-use lib.Dec.{eqb}
 use lib.ListN.{length, set, take, drop}
 use lib.Seq.{set-at}
-use Rattle.limits.specs.Limits.{nodeCount}
+use Rattle.limits.specs.Limits.{dossierBytes, nodeCount}
 use Rattle.refusal.specs.declared.Refusal.the-variants.{Witness}
 use Rattle.report.specs.Bits.{Bit}
 use Rattle.report.specs.Values.{Val, ⟨⟩, compact, Read, value, short, readValue}
 use Rattle.report.specs.Nodes.{Node}
 use Rattle.scope.specs.Check.{Check, passed, refused, _>>=_, require}
-use Rattle.scope.specs.Numbers.{zeros, tabulate, streamOf, every}
+use Rattle.scope.specs.Numbers.{zeros, tabulate, streamOf, heldBits}
 use Rattle.scope.specs.Types.{TypeRecord, tyAt}
 use Rattle.scope.specs.Nodes.{nodeAt}
 use Rattle.scope.specs.Arrows.{Arrow, target}
-use Rattle.scope.specs.Closing.{closes}
+use Rattle.scope.specs.Closing.{usedUp}
 use Rattle.scope.specs.Witness.{Values, checkWitness}
 use Rattle.common.specs.Checks.{clash}
 use Rattle.common.specs.declared.Checked.the-variants.{Passed}
 use Rattle.common.specs.Tables.{length-tabulate, tabulate-more}
+use Rattle.value.specs.declared.ValueRead.{ValueRead}
 use Rattle.value.specs.declared.ValueRead.the-variants.{Next, Short}
 use Rattle.ready.specs.Positions.{bitsTaken, readFor, positionAt, positionsOf}
 use Rattle.ready.specs.Answers.{endOf, unreadOf, witnessTable}
@@ -57,10 +57,15 @@ not-read p short e = refl
 
 module _ (types : List TypeRecord) (nodes : List Node) (arrows : List Arrow) (bytes : List ℕ) (count : ℕ) where
   abbrev bits : List Bit
-  bits = take count (streamOf bytes)
+  bits = take count (heldBits bytes)
 
   abbrev at : (i : ℕ) → ℕ
   at i = positionAt types nodes arrows bits i
+
+  -- a node's end in a slice that is the bytes up to the limit
+  pub end-held : (own : List ℕ) → own ≡ take dossierBytes bytes → (i p : ℕ) (r : ValueRead)
+      → r ≡ endOf p (readFor types nodes arrows (take count (streamOf own)) i p) → r ≡ endOf p (readFor types nodes arrows bits i p)
+  end-held own e i p r f = f ∙ ap (λ (l : List ℕ). endOf p (readFor types nodes arrows (take count (streamOf l)) i p)) e
 
   -- the walk has come to node i, with p bits passed and the positions of the nodes before put down
   pub record Come (i p : ℕ) (positions : List ℕ) : Type 0 where
@@ -106,26 +111,26 @@ module _ (types : List TypeRecord) (nodes : List Node) (arrows : List Arrow) (by
     come-short h e =
         let f = come .walked ∙ walk-short types nodes arrows bits i (tabulate i (valueHere types nodes arrows bits)) h (sym read-here ∙ not-read p (readFor types nodes arrows bits i p) e) in
         answered (refused (Witness i)) (ap (λ (c : Check Values). c >>= λ read.
-        require (every (eqb (length (read .rest)) 0 ∷ closes (streamOf bytes) count ∷ [])) (Witness (length nodes)) >>= λ used. passed (read .values)) f)
+        require (usedUp bytes count (read .rest)) (Witness (length nodes)) >>= λ used. passed (read .values)) f)
 
     -- the end of the table
-    all-checked : i ≡ length nodes → (used : Bool) → allUsed (streamOf bytes) p count ≡ used
+    all-checked : i ≡ length nodes → (used : Bool) → allUsed bytes p count ≡ used
         → checkWitness types nodes arrows bytes count
         ≡ (require used (Witness (length nodes)) >>= λ used. passed (tabulate i (valueHere types nodes arrows bits)))
     unfolding checkWitness
     all-checked e used f =
         let vs : List Val = tabulate i (valueHere types nodes arrows bits) in
         ap (λ (c : Check Values). c >>= λ read.
-        require (every (eqb (length (read .rest)) 0 ∷ closes (streamOf bytes) count ∷ [])) (Witness (length nodes)) >>= λ used. passed (read .values))
+        require (usedUp bytes count (read .rest)) (Witness (length nodes)) >>= λ used. passed (read .values))
         (come .walked ∙ walk-ends types nodes arrows bits i vs (drop (at i) bits) (omega arith))
-        ∙ ap (λ (q : ℕ). require (allUsed (streamOf bytes) q count) (Witness (length nodes)) >>= λ used. passed vs) (sym (come .passes))
+        ∙ ap (λ (q : ℕ). require (allUsed bytes q count) (Witness (length nodes)) >>= λ used. passed vs) (sym (come .passes))
         ∙ ap (λ (b : Bool). require b (Witness (length nodes)) >>= λ used. passed vs) f
 
-    pub come-unused : (n : ℕ) → i ≡ length nodes → n ≡ length nodes → allUsed (streamOf bytes) p count ≡ false → unreadOf (Witness n) ≡ witnessTable types nodes arrows bytes count
+    pub come-unused : (n : ℕ) → i ≡ length nodes → n ≡ length nodes → allUsed bytes p count ≡ false → unreadOf (Witness n) ≡ witnessTable types nodes arrows bytes count
     unfolding require _>>=_
     come-unused n e g f = ap (λ (k : ℕ). unreadOf (Witness k)) g ∙ answered (refused (Witness (length nodes))) (all-checked e false f)
 
-    pub come-used : i ≡ length nodes → allUsed (streamOf bytes) p count ≡ true
+    pub come-used : i ≡ length nodes → allUsed bytes p count ≡ true
         → record { answer = Passed; positions = positions } ≡ witnessTable types nodes arrows bytes count
     unfolding require _>>=_ positionsOf filledTo
     come-used e f =
@@ -137,5 +142,5 @@ module _ (types : List TypeRecord) (nodes : List Node) (arrows : List Arrow) (by
     unfolding readFor endOf compact
     come-inside q h e =
         witness-or {Y = Unit {0}} (λ r u. Next q ≡ endOf p r → q ≤ count) (nodeAt nodes i) (readValue (tyAt types (target arrows i)) (drop p bits)) (value ⟨⟩ (drop p bits)) tt tt
-        (λ w f. ends-inside (tyAt types (target arrows i)) p count (streamOf bytes) q f h)
+        (λ w f. ends-inside (tyAt types (target arrows i)) p count (heldBits bytes) q f h)
         (λ f. (let z : q ≡ p + 0 = cc in omega arith)) e

@@ -7,7 +7,7 @@ use Rattle.limits.specs.Limits.{nodeCount}
 use Rattle.report.specs.Bits.{Bit}
 use Rattle.report.specs.Values.{⟨⟩, compact, Read, value, short, readValue}
 use Rattle.report.specs.Nodes.{Node}
-use Rattle.scope.specs.Numbers.{zeros, streamOf, tabulate}
+use Rattle.scope.specs.Numbers.{zeros, streamOf, heldBits, tabulate}
 use Rattle.scope.specs.Types.{TypeRecord, tyAt}
 use Rattle.scope.specs.Nodes.{nodeAt, onWitness}
 use Rattle.scope.specs.Arrows.{Arrow, target}
@@ -30,8 +30,8 @@ module _ (types : List TypeRecord) (nodes : List Node) (arrows : List Arrow) (bi
   positionAt zero = 0
   positionAt (suc i) = positionAt i + bitsTaken (readFor i (positionAt i))
 
--- the positions of all nodes in the first `count` bits of the bytes, as an array with a number for every node that a table may have
+-- the positions of all nodes in the first `count` bits of the bytes up to the limit, as an array with a number for every node that a table may have
 unfoldable pub positionsOf : (types : List TypeRecord) → List Node → List Arrow → (bytes : List ℕ) → (count : ℕ) → List ℕ
 unfolding tabulate positionAt streamOf
 positionsOf types nodes arrows bytes count =
-    tabulate (length nodes) (positionAt types nodes arrows (take count (streamOf bytes))) ++ zeros (nodeCount - length nodes)
+    tabulate (length nodes) (positionAt types nodes arrows (take count (heldBits bytes))) ++ zeros (nodeCount - length nodes)

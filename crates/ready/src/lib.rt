@@ -7,18 +7,17 @@ use refusal::Refusal;
 use value::ValueRead;
 ghost use mathlib.Core.Path.{_≡_};
 ghost use mathlib.Core.Bool.{true, false};
-ghost use mathlib.Core.List.{List, [], _∷_};
+ghost use mathlib.Core.List.{List};
 ghost use Prim.Native.Nat.{ℕ, _-_, _≤_, _<_};
-ghost use lib.Dec.{eqb};
 ghost use lib.ListN.{length, take, drop};
-ghost use Rattle.limits.specs.Limits.{nodeCount};
+ghost use Rattle.limits.specs.Limits.{dossierBytes, nodeCount};
 ghost use Rattle.report.specs.Values.{readValue};
 ghost use Rattle.scope.specs.Check.{passed};
-ghost use Rattle.scope.specs.Numbers.{zeros, every, streamOf, bytesFor};
+ghost use Rattle.scope.specs.Numbers.{zeros, streamOf, heldBits, bytesFor};
 ghost use Rattle.scope.specs.Types.{typeRecords, tyAt};
 ghost use Rattle.scope.specs.Nodes.{nodeRecords, nodesOf, nodeAt, onWitness};
 ghost use Rattle.scope.specs.Arrows.{arrowRecords};
-ghost use Rattle.scope.specs.Closing.{closes};
+ghost use Rattle.scope.specs.Closing.{usedUp};
 ghost use Rattle.scope.specs.Input.{checkInput};
 ghost use Rattle.scope.specs.Stages.{hashStage};
 ghost use Rattle.types.specs.Table.{typeWidths, typeNext, typeTable};
@@ -76,10 +75,21 @@ fn value_end<'a>(
     ValueRead::Next(end)
 }
 
-// Whether values that end at a position use up all of the first `count` bits, and the bits after these are but zeros in the last byte.
-fn all_used(s: &[u8], end: usize, count: u32) -> bool
-    ensures { λ r. ⌜ r ≡ every (eqb (length (drop end (take count (streamOf (now (s .entry)))))) 0 ∷ closes (streamOf (now (s .entry))) count ∷ []) ⌝ }
+// The first bytes of a slice, as many as a dossier may have: values are read from these.
+fn held(s: &[u8]) -> &[u8]
+    ensures { λ r. ⌜ now r ≡ take dossierBytes (now (s .entry)) ⌝ }
 {
+    common::part(s, 0, limits::DOSSIER_BYTES)
+}
+
+// Whether values that end at a position use up all of the first `count` bits, no byte stands above the limit, and the bits after
+// these are but zeros in the last byte.
+fn all_used(s: &[u8], end: usize, count: u32) -> bool
+    ensures { λ r. ⌜ r ≡ usedUp (now (s .entry)) count (drop end (take count (heldBits (now (s .entry))))) ⌝ }
+{
+    if limits::DOSSIER_BYTES < s.len() {
+        return false;
+    }
     let all = wide(count);
     if end < all {
         return false;
@@ -142,22 +152,14 @@ fn check_witness<'a>(
     ensures { λ r. ⌜ ((bits hashes : List ℕ) → r ≡ witnessTable (typeRecords (now (types .entry))) (nodesOf bits hashes (nodeRecords (now (nodes .entry))))
         (arrowRecords (now (arrows .entry))) (now (witness .entry)) count) ⌝ }
 {
+    let bits = held(witness);
     let mut positions = [0u32; limits::NODE_COUNT];
     let n = (nodes.len() / limits::NODE_NUMBERS) as u32;
     let mut p: usize = 0;
     let mut i: u32 = 0;
     while i < n {
-        let ValueRead::Next(end) = node_end(
-            types,
-            widths,
-            next,
-            nodes,
-            arrows,
-            i,
-            witness,
-            p,
-            count,
-        ) else {
+        let ValueRead::Next(end) = node_end(types, widths, next, nodes, arrows, i, bits, p, count)
+        else {
             return unread(Checked::Refused(Refusal::Witness(i)));
         };
         positions[wide(i)] = p as u32;
@@ -185,7 +187,8 @@ fn check_input<'a>(
     requires { ⌜ TypesShown (now types) (now widths) (now next) ⌝ }
     ensures { λ r. ⌜ r ≡ verdict (checkInput (tyAt (typeRecords (now (types .entry))) source) (now (input .entry)) count) ⌝ }
 {
-    let ValueRead::Next(end) = value_end(types, widths, next, source, input, 0, count) else {
+    let bits = held(input);
+    let ValueRead::Next(end) = value_end(types, widths, next, source, bits, 0, count) else {
         return Checked::Refused(Refusal::Input(0));
     };
     if !all_used(input, end, count) {
