@@ -4,7 +4,7 @@ use mathlib.Core.Path.{_≡_, refl, ap, ap₂, _∙_}
 use mathlib.Core.List.{List, [], _∷_, _++_}
 use Prim.Native.Nat.{ℕ, zero, suc, _+_, _*_, _/_, _%_, _≤_, _<_}
 use native.Mathlib.Omega.{arith}
-use lib.ListN.{length, getD, drop}
+use lib.ListN.{length, getD, take, drop}
 use lib.Seq.{take-all}
 use borrow.Author.Tests.{lt-ltb, le-ltb}
 use Rattle.limits.specs.Limits.{dossierBytes}
@@ -30,6 +30,11 @@ below-append m (x ∷ xs) ys h k = (h .0, below-append m xs ys (h .1) k)
 pub below-front : (m : ℕ) (xs ys : List ℕ) → AllBelow m (xs ++ ys) → AllBelow m xs
 below-front m [] ys h = tt
 below-front m (x ∷ xs) ys h = (h .0, below-front m xs ys (h .1))
+
+pub below-take : (m k : ℕ) (xs : List ℕ) → AllBelow m xs → AllBelow m (take k xs)
+below-take m zero xs h = tt
+below-take m (suc k) [] h = tt
+below-take m (suc k) (x ∷ xs) h = (h .0, below-take m k xs (h .1))
 
 pub below-drop : (m k : ℕ) (xs : List ℕ) → AllBelow m xs → AllBelow m (drop k xs)
 below-drop m zero xs h = h

@@ -4,6 +4,7 @@ use mathlib.Core.Bool.{true}
 use mathlib.Core.List.{List, [], _∷_}
 use Prim.Native.Nat.{ℕ, zero, suc, _≤_, _<_}
 use native.Mathlib.Omega.{arith}
+use native.Mathlib.Decide.{decLt}
 use lib.Dec.{ltb}
 use lib.ListN.{length, getD, take}
 use lib.Seq.{getD-take}
@@ -51,3 +52,15 @@ module _ (T : List TypeRecord) where
       go (suc t) a b e =
           let l = parts-below T i (suc t) a b (λ z. omega arith) e in
           ap₂ (typeFrom (suc t)) (part a (l .0)) (part b (l .1))
+
+  -- record 0 is unit
+  pub first-unit : ((k : ℕ) → k < length T → PartsKept k) → tyAt T 0 ≡ one
+  unfolding typeFrom
+  first-unit kept = elim (decLt 0 (length T)) [
+    | yes h ↦ type-step 0 h (kept 0 h) ∙ go ((typeAt T 0) .tag) ((typeAt T 0) .left) ((typeAt T 0) .right) (kept 0 h)
+    | no n ↦ type-past 0 (omega arith)
+  ]
+    where
+      go : (t a b : ℕ) → partsRule T 0 t a b ≡ true → typeFrom t (tyAt T a) (tyAt T b) ≡ one
+      go zero a b e = refl
+      go (suc t) a b e = let h = parts-below T 0 (suc t) a b (λ z. omega arith) e in absurd (omega arith)

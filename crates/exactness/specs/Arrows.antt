@@ -19,10 +19,11 @@ use Rattle.scope.specs.Nodes.{nodeAt, onOneChild}
 use Rattle.scope.specs.Walk.{hiddenAt}
 use Rattle.scope.specs.Arrows.{Arrow, source, target}
 use Rattle.scope.specs.Arrows.{goes, branchRule, kindRule, arrowRule, noOneChild, checkArrows}
+use Rattle.common.specs.Types.{first-unit}
 use Rattle.common.specs.Checks.{clash, every-all, all-every, require-holds, holds-require, both-passed, then-passes, each-holds, holds-each}
 use Rattle.common.specs.Bits.{AllBelow}
-use Rattle.exactness.specs.Types.{TypesPass}
-use Rattle.exactness.specs.TypeTests.{Joined, same-test, unit-type, type-unit, joins-type, type-joins, joined-test, word-type, type-word, first-unit}
+use Rattle.exactness.specs.Types.{TypesPass, parts-kept}
+use Rattle.exactness.specs.TypeTests.{Joined, same-test, unit-type, type-unit, joins-type, type-joins, joined-test, word-type, type-word}
 use Rattle.exactness.specs.NodeTyping.{Goes, Branch, Shown, Pruned, fromTy, toTy, InRange, ArrowsTyped}
 use Rattle.exactness.specs.NodeTyping.{NodeTyped, Iden, Comp, Unit·, Injl, Injr, Case, Pair, Take, Drop, Fail, Witness, Word, Disconnect, Hidden}
 
@@ -131,7 +132,7 @@ module _ (types : List TypeRecord) (pass : TypesPass types) (nodes : List Node) 
     kind-typed (fail bytes) e = Fail
     kind-typed (hidden hash) e =
         let p = every-all (eqb A 0 ∷ eqb B 0 ∷ []) e in
-        let zero-is = first-unit types pass in
+        let zero-is = first-unit types (parts-kept types pass) in
         subst₂ (λ (X Y : Ty). Typed (hidden hash) X Y) (sym (same A 0 (p .0) ∙ zero-is)) (sym (same B 0 (p .1 .0) ∙ zero-is)) Hidden
     kind-typed (word n bits) e =
         let p = every-all (isUnit types A ∷ isWord types (n - 1) B ∷ []) e in
@@ -258,7 +259,7 @@ module _ (types : List TypeRecord) (pass : TypesPass types) (nodes : List Node) 
           ),
         )
     typed-kind _ b _ _ x y Hidden =
-        let zero-is = first-unit types pass in
+        let zero-is = first-unit types (parts-kept types pass) in
         let A-is = same-test types pass A 0 A-in (omega arith) (x ∙ sym zero-is) in
         let B-is = same-test types pass B 0 B-in (omega arith) (y ∙ sym zero-is) in
         all-every (eqb A 0 ∷ eqb B 0 ∷ []) (A-is, (B-is, tt))

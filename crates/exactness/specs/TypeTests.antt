@@ -4,7 +4,6 @@ use mathlib.Core.Path.{_≡_, refl, sym, ap, ap₂, _∙_}
 use mathlib.Core.Bool.{Bool, true}
 use mathlib.Core.List.{List, [], _∷_}
 use Prim.Native.Nat.{ℕ, zero, suc, _<_}
-use native.Mathlib.Nat.{not-suc-le-zero}
 use native.Mathlib.Omega.{arith}
 use native.Mathlib.Decide.{decLt}
 use lib.Dec.{eqb}
@@ -12,8 +11,7 @@ use lib.ListN.{length, List·getD-eq-default}
 use borrow.Author.Tests.{eqb-true, eq-eqb}
 use Rattle.report.specs.Types.{Ty, one, sum, prod, wordTy}
 use Rattle.scope.specs.Numbers.{every}
-use Rattle.scope.specs.Types.{TypeRecord, typeFrom, typeMake, noType, tyAt, typeAt, isUnit, isSum, isProduct, leftAt, rightAt, isWord}
-use Rattle.common.specs.Tables.{entries-past}
+use Rattle.scope.specs.Types.{TypeRecord, typeFrom, noType, tyAt, typeAt, isUnit, isSum, isProduct, leftAt, rightAt, isWord}
 use Rattle.common.specs.Checks.{clash, every-all, all-every}
 use Rattle.exactness.specs.Types.{TypesPass, Parts, OfUnit, OfSum, OfProduct, tagAt, parts-at, type-step, same-index}
 
@@ -126,16 +124,3 @@ module _ (types : List TypeRecord) where
           joined-test 2 j (leftAt types j) (leftAt types j) (wordTy k) (wordTy k) p (p .left-in) (p .left-in) (p .left-is) (p .left-is),
           (type-word k (leftAt types j) (p .left-in) (p .left-is), tt),
         )
-
-    -- record 0 is unit
-    pub first-unit : tyAt types 0 ≡ one
-    unfolding typeFrom tyAt
-    first-unit = elim (decLt 0 (length types)) [
-      | yes h ↦ type-step types pass 0 h ∙ go (tagAt types 0) (leftAt types 0) (rightAt types 0) (parts-at types pass 0 h)
-      | no m ↦ entries-past typeMake types 0 one (omega arith)
-    ]
-      where
-        go : (t l r : ℕ) → Parts 0 t l r → typeFrom t (tyAt types l) (tyAt types r) ≡ one
-        go _ _ _ OfUnit = refl
-        go _ _ _ (OfSum l r p q) = absurd (not-suc-le-zero p)
-        go _ _ _ (OfProduct l r p q) = absurd (not-suc-le-zero p)

@@ -16,7 +16,7 @@ use Rattle.report.specs.Types.{width}
 use Rattle.scope.specs.Check.{passed}
 use Rattle.scope.specs.Numbers.{anyBelow}
 use Rattle.scope.specs.Types.{TypeRecord, typeFrom, tyAt, typeAt, sameType, partsRule, typeRule, checkTypes, leftAt, rightAt}
-use Rattle.common.specs.Types.{type-step as type-made}
+use Rattle.common.specs.Types.{PartsKept, type-step as type-made}
 use Rattle.common.specs.Checks.{clash, AllTrue, every-all, all-every, none-below, each-holds, holds-each}
 
 -- every record keeps the rules
@@ -65,6 +65,10 @@ module _ (types : List TypeRecord) where
         every-all (partsRule types i (tagAt i) (leftAt types i) (rightAt types i) ∷ not (anyBelow i (sameType types i))
         ∷ leb (width (tyAt types i)) typeWidth ∷ []) (pass i h)
 
+    pub parts-kept : (i : ℕ) → i < length types → PartsKept types i
+    unfolding leftAt rightAt
+    parts-kept i h = rules-at i h .0
+
     -- the numbers of record i are those of a unit, a sum or a product
     pub parts-at : (i : ℕ) → i < length types → Parts i (tagAt i) (leftAt types i) (rightAt types i)
     parts-at i h = rule-parts i (tagAt i) (leftAt types i) (rightAt types i) (rules-at i h .0)
@@ -76,7 +80,7 @@ module _ (types : List TypeRecord) where
     -- a record stands for the type that its tag makes of its parts' types
     pub type-step : (i : ℕ) → i < length types → tyAt types i ≡ typeFrom (tagAt i) (tyAt types (leftAt types i)) (tyAt types (rightAt types i))
     unfolding leftAt rightAt
-    type-step i h = type-made types i h (rules-at i h .0)
+    type-step i h = type-made types i h (parts-kept i h)
 
     -- no two records are equal
     earlier-apart : (i j : ℕ) → i < length types → j < i → tagAt i ≡ tagAt j → leftAt types i ≡ leftAt types j → rightAt types i ≡ rightAt types j → ⊥

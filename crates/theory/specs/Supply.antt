@@ -33,9 +33,8 @@ use Rattle.scope.specs.Input.{checkInput}
 use Rattle.scope.specs.Stores.{checkStores}
 use Rattle.common.specs.Checks as Checks
 use Rattle.common.specs.Checks.{every-all, all-every, none-below, below-none, same-equal, equal-same, require-holds, holds-require, both-passed, then-passes, each-holds, holds-each}
-use Rattle.common.specs.Bits.{AreBits, below-front, held-within}
+use Rattle.common.specs.Bits.{AreBits, below-take, held-within}
 use Rattle.exactness.specs.Values.{reads-compact, read-is-compact}
-use Rattle.exactness.specs.Stream.{Stands}
 use Rattle.exactness.specs.Programs.{Closed}
 use Rattle.exactness.specs.Decoding.{closed-stands, closed-closes, stream-bits}
 
@@ -237,10 +236,6 @@ no-bits : (l : List Bit) → length l ≡ 0 → l ≡ []
 no-bits [] e = refl
 no-bits (b ∷ l) e = absurd (omega arith)
 
--- the first ones
-first-bits : (n : ℕ) (l : List Bit) → AreBits l → AreBits (take n l)
-first-bits n l h = below-front 2 (take n l) (drop n l) (subst AreBits (sym (take-append-drop n l)) h)
-
 -- the later ones
 below-back : (x rest : List Bit) → AreBits (x ++ rest) → AreBits rest
 below-back [] rest h = h
@@ -267,7 +262,7 @@ module _ (A : Ty) (bytes : List ℕ) (count : ℕ) (v : Val) where
           let a = both-passed (require (used rest) (Input 0)) (λ fine. passed w) v q in
           let same : w ≡ v = (let z = a .2 in cc) in
           let t = every-all (eqb (length rest) 0 ∷ leb (length bytes) dossierBytes ∷ closes (streamOf bytes) count ∷ []) (require-holds (used rest) (Input 0) (a .0) (a .1)) in
-          let r = read-is-compact A (take count (heldBits bytes)) w rest (first-bits count (heldBits bytes) (stream-bits (take dossierBytes bytes))) p in
+          let r = read-is-compact A (take count (heldBits bytes)) w rest (below-take 2 count (heldBits bytes) (stream-bits (take dossierBytes bytes))) p in
           let bits : take count (heldBits bytes) ≡ compact v =
           r .1 ∙ ap₂ (λ (u : Val) (l : List Bit). compact u ++ l) same (no-bits rest (eqb-true _ _ (t .0))) ∙ append-nil (compact v) in
           record { typed = subst (λ (u : Val). HasTy u A) same (r .0); bits = bits-are bytes count (compact v) bits (t .1 .0) (t .1 .1 .0) }
@@ -413,7 +408,7 @@ module _ (types : List TypeRecord) (arrows : List Arrow) where
         let a = both-passed (valuesFrom types arrows 0 nodes [] (take count (heldBits bytes))) (λ read. require (left (read .rest)) (Witness (length nodes)) >>= λ fine. passed (read .values)) values e in
         let b = both-passed (require (left (a .0 .rest)) (Witness (length nodes))) (λ fine. passed (a .0 .values)) values (a .2) in
         let t = every-all (eqb (length (a .0 .rest)) 0 ∷ leb (length bytes) dossierBytes ∷ closes (streamOf bytes) count ∷ []) (require-holds (left (a .0 .rest)) (Witness (length nodes)) (b .0) (b .1)) in
-        let r = read-values nodes 0 [] (take count (heldBits bytes)) (a .0) (first-bits count (heldBits bytes) (stream-bits (take dossierBytes bytes))) (a .1) in
+        let r = read-values nodes 0 [] (take count (heldBits bytes)) (a .0) (below-take 2 count (heldBits bytes) (stream-bits (take dossierBytes bytes))) (a .1) in
         let same : r .0 ≡ values = (let z = b .2 in let y = r .2 in cc) in
         let bits : take count (heldBits bytes) ≡ allBits values =
         r .3 ∙ ap₂ (λ (vs : List Val) (l : List Bit). allBits vs ++ l) same (no-bits (a .0 .rest) (eqb-true _ _ (t .0))) ∙ append-nil (allBits values) in
