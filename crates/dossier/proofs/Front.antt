@@ -13,7 +13,7 @@ use Rattle.common.specs.Checks.{then-passes}
 use Rattle.common.specs.Answers.{checkOf}
 use Rattle.common.specs.declared.Checked.{Checked}
 use Rattle.common.specs.declared.Checked.the-variants as Checked
-use Rattle.stages.specs.Stage.{countedTypes}
+use Rattle.types.specs.Table.{countedTypes}
 use Rattle.dossier.specs.Ends.{front}
 use Rattle.dossier.proofs.Decoded.{types-counted}
 

@@ -34,7 +34,7 @@ fn check_front(dossier: &[u8]) -> Checked
     let Checked::Passed = header else {
         return header;
     };
-    stages::types_hold(header::section(dossier, TYPES))
+    types::types_hold(header::section(dossier, TYPES))
 }
 
 // Whether an answer leaves the decoded table in its stores.

@@ -19,31 +19,15 @@ use Rattle.scope.specs.Hashes.{checkHashes}
 use Rattle.scope.specs.Run.{checkTables}
 use Rattle.scope.specs.Stages.{counted, checkRecords, lentTables, lent, arrowStage, hashStage}
 use Rattle.common.specs.Checks.{both-passed, then-then, stops, passes}
-use Rattle.types.specs.Table.{checkTable, typeAnswer, typeTable}
-use Rattle.types.specs.declared.TypeTable.{TypeTable}
+use Rattle.types.specs.Table.{countedTypes}
 use Rattle.table.specs.Lent.{lentNodes}
 use Rattle.table.specs.Stage.{countedRecords, countedWalk}
 use Rattle.table.proofs.AnyBits.{walk-any-bits}
-use Rattle.stages.specs.Answers.{withoutCount}
 use Rattle.arrow.specs.Stage.{countedArrows}
 use Rattle.arrow.proofs.Alike.{arrows-alike}
 use Rattle.hashes.specs.Hashes.{countedHashes}
 use Rattle.hashes.proofs.Entries.{hashes-alike}
-use Rattle.stages.specs.Stage.{countedTypes, toldTables, toldArrows, toldHashes}
-
-types-answer : (bytes : List ℕ) → withoutCount (typeAnswer (checkTable bytes)) ≡ countedTypes bytes
-unfolding checkTable countedTypes _>>=_
-types-answer bytes = go (counted (length (typeRecords bytes)) typeCount) (checkTypes (typeRecords bytes))
-  where
-    go : (c d : Check (Unit {0})) → withoutCount (typeAnswer (c >>= λ some. (d >>= λ sound. passed (length (typeRecords bytes))))) ≡ (c >>= λ some. d)
-    go (passed x) (passed tt) = refl
-    go (passed x) (refused r) = refl
-    go (refused r) d = refl
-
--- so the answer of a checked table is what the check of the types says
-pub answer-says : (bytes : List ℕ) (table : TypeTable) → table ≡ typeTable bytes → withoutCount (table .answer) ≡ countedTypes bytes
-unfolding typeTable
-answer-says bytes table e = ap (λ (t : TypeTable). withoutCount (t .answer)) e ∙ types-answer bytes
+use Rattle.stages.specs.Stage.{toldTables, toldArrows, toldHashes}
 
 -- the tables, told what the check of the types said
 module _ (said : Check (Unit {0})) (types nodes program hashes : List ℕ) where

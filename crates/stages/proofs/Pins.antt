@@ -4,8 +4,6 @@ use Rattle.common.specs.Answers.{check-tells}
 use Rattle.promise.specs.Outcomes.{OneResult}
 use Rattle.stages.specs.Answers.{stagedOf}
 use Rattle.stages.specs.declared.Staged.{Staged}
-use Rattle.stages.proofs.types_hold.Kinds as types-hold-kinds
-use Rattle.stages.proofs.types_hold.Reads as types-hold-reads
 use Rattle.stages.proofs.arrow_tables.Kinds as arrow-tables-kinds
 use Rattle.stages.proofs.arrow_tables.Reads as arrow-tables-reads
 use Rattle.stages.proofs.hash_tables.Kinds as hash-tables-kinds
@@ -21,9 +19,6 @@ staged-tells s t e =
     let says = check-tells (s .answer) (t .answer) (ap (λ p. p .0) e) in
     let made = ap (λ p. p .1) e in
     λ k. record { answer = says k; table = made k }
-
-pub types-hold : OneResult 1 types-hold-kinds.ps types-hold-kinds.r types-hold-reads.Post
-types-hold κs a s t x y p q = check-tells s t (p ∙ sym q)
 
 pub arrow-tables : OneResult 5 arrow-tables-kinds.ps arrow-tables-kinds.r arrow-tables-reads.Post
 arrow-tables κs a s t x y p q = staged-tells s t (p ∙ sym q)

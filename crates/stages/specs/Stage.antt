@@ -7,19 +7,12 @@ use Rattle.limits.specs.Limits.{typeCount, nodeCount, dossierBytes}
 use Rattle.refusal.specs.declared.Refusal.the-variants.{Header}
 use Rattle.scope.specs.Check.{Check, _>>=_, require}
 use Rattle.scope.specs.Numbers.{streamOf}
-use Rattle.scope.specs.Types.{typeRecords, checkTypes}
+use Rattle.scope.specs.Types.{typeRecords}
 use Rattle.scope.specs.Nodes.{nodeRecords, nodesOf}
 use Rattle.scope.specs.Walk.{checkWalk}
 use Rattle.scope.specs.Arrows.{arrowRecords, checkArrows}
 use Rattle.scope.specs.Stages.{counted, checkRecords}
 use Rattle.scope.specs.Hashes.{checkHashes}
-
--- 4 of the types, then 2
-unfoldable pub countedTypes : (types : List ℕ) → Check (Unit {0})
-unfolding _>>=_ counted checkTypes
-countedTypes types = do
-  some ← counted (length (typeRecords types)) typeCount
-  checkTypes (typeRecords types)
 
 -- lent tables, told what the check of the types said: 4 of nodes and types, 26, 1, what was said, 6 to 9
 unfoldable pub toldTables : (said : Check (Unit {0})) → (types nodes program hashes : List ℕ) → Check (Unit {0})

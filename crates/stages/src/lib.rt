@@ -4,46 +4,16 @@
 use common::Checked;
 use refusal::Refusal;
 ghost use mathlib.Core.Path.{_≡_};
-ghost use mathlib.Core.List.{List};
-ghost use lib.ListN.{length};
-ghost use Rattle.limits.specs.Limits.{typeCount};
-ghost use Rattle.scope.specs.Types.{typeRecords};
-ghost use Rattle.scope.specs.Stages.{counted, arrowStage, hashStage};
+ghost use Rattle.scope.specs.Stages.{arrowStage, hashStage};
 ghost use Rattle.types.specs.Table.{typeTable};
 ghost use Rattle.common.specs.Answers.{checkOf};
-ghost use Rattle.stages.specs.Answers.{withoutCount, stagedOf};
-ghost use Rattle.stages.specs.Stage.{countedTypes, toldTables, toldArrows, toldHashes};
+ghost use Rattle.stages.specs.Answers.{stagedOf};
+ghost use Rattle.stages.specs.Stage.{toldTables, toldArrows, toldHashes};
 
 // A stage's verdict, and what the check of the types made.
 pub struct Staged {
     pub answer: Checked,
     pub table: types::TypeTable,
-}
-
-// The type table has a record, and not too many (4).
-fn type_count(types: &[u8]) -> Checked
-    ensures { λ r. ⌜ checkOf r ≡ counted (length (typeRecords (now (types .entry)))) typeCount ⌝ }
-{
-    common::check_count(types.len() / limits::TYPE_BYTES, limits::TYPE_COUNT)
-}
-
-// What the check of a type table said, without the count of its records.
-fn without_count(answer: types::TypeAnswer) -> Checked
-    ensures { λ r. ⌜ checkOf r ≡ withoutCount answer ⌝ }
-{
-    match answer {
-        types::TypeAnswer::Records(_) => Checked::Passed,
-        types::TypeAnswer::Refused(why) => Checked::Refused(why),
-    }
-}
-
-// The type table keeps its rules (2), after its count (4).
-pub fn types_hold(types: &[u8]) -> Checked
-    ensures { λ r. ⌜ checkOf r ≡ countedTypes (now (types .entry)) ⌝ }
-{
-    let table = types::check_types(types);
-    let answer = table.answer;
-    without_count(answer)
 }
 
 // Lent tables tested again, where the check of the types said this: 4 of the nodes, then of the types, 26, 1 for a program over the limit, 2, then 6 to 9.
@@ -54,7 +24,7 @@ fn told_tables(held: Checked, types: &[u8], nodes: &[u32], program: &[u8], hashe
     let Checked::Passed = some else {
         return some;
     };
-    let typed = type_count(types);
+    let typed = types::type_count(types);
     let Checked::Passed = typed else {
         return typed;
     };
@@ -124,7 +94,7 @@ pub fn arrow_tables(
 {
     let table = types::check_types(types);
     let said = table.answer;
-    let held = without_count(said);
+    let held = types::without_count(said);
     let answer = told_arrows(held, types, nodes, arrows, program, hashes);
     Staged { answer, table }
 }
@@ -146,7 +116,7 @@ pub fn hash_tables(
 {
     let table = types::check_types(types);
     let said = table.answer;
-    let held = without_count(said);
+    let held = types::without_count(said);
     let answer = told_hashes(held, types, nodes, arrows, program, hashes, given);
     Staged { answer, table }
 }

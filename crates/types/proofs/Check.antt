@@ -10,14 +10,14 @@ use borrow.Author.Tests.{eq-eqb, ne-eqb}
 use Rattle.limits.specs.Limits.{typeCount, typeWidth}
 use Rattle.refusal.specs.declared.Refusal.the-variants.{Natural, TypeRecord as BadTypeRecord}
 use Rattle.report.specs.Types.{width}
-use Rattle.scope.specs.Check.{passed, refused, _>>=_, require, firstFailing, each}
+use Rattle.scope.specs.Check.{Check, passed, refused, _>>=_, require, firstFailing, each}
 use Rattle.scope.specs.Numbers.{zeros, every, anyBelow}
 use Rattle.scope.specs.Stages.{counted}
 use Rattle.scope.specs.Types.{TypeRecord, typeRecords, tyAt, typeAt, sameType, partsRule, typeRule, checkTypes}
 use Rattle.common.specs.Filling.{fill-start, fill-at, fill-past, fill-more}
 use Rattle.common.specs.Types.{parts-below, PartsKept}
 use Rattle.types.specs.Records.{partsWidth, verdict, recordJudged, nextFrom, recordNext, nextAt}
-use Rattle.types.specs.Table.{checkTable, typeAnswer, goodRecords, arrayOf, typeWidths, typeNext, typeTable}
+use Rattle.types.specs.Table.{checkTable, typeAnswer, withoutCount, countedTypes, goodRecords, arrayOf, typeWidths, typeNext, typeTable}
 use Rattle.types.specs.declared.Judged.the-variants.{Width, Broken}
 use Rattle.types.specs.declared.TypeAnswer.{TypeAnswer}
 use Rattle.types.specs.declared.TypeAnswer.the-variants.{Records, Refused}
@@ -140,3 +140,14 @@ module _ (bytes : List ℕ) where
     unfolding checkTable _>>=_ checkTypes each require
     table-good n l e =
         table-is (Records n) n (rw (some, e, eq-eqb n (length (typeRecords bytes)) l) (ap Records (sym l))) (good-are n e)
+
+-- what a checked table says, without its count, is what the checks say
+pub answer-says : (bytes : List ℕ) (table : TypeTable) → table ≡ typeTable bytes → withoutCount (table .answer) ≡ countedTypes bytes
+unfolding typeTable checkTable countedTypes _>>=_
+answer-says bytes table e =
+    ap (λ (t : TypeTable). withoutCount (t .answer)) e ∙ go (counted (length (typeRecords bytes)) typeCount) (checkTypes (typeRecords bytes))
+  where
+    go : (c d : Check (Unit {0})) → withoutCount (typeAnswer (c >>= λ some. (d >>= λ sound. passed (length (typeRecords bytes))))) ≡ (c >>= λ some. d)
+    go (passed x) (passed tt) = refl
+    go (passed x) (refused r) = refl
+    go (refused r) d = refl

@@ -1,6 +1,7 @@
 -- What each public call promises has one outcome: over the call's own promise, `Post`, two results are the same.
 use mathlib.Core.Path.{sym, _∙_}
 use Rattle.promise.specs.Outcomes.{OneResult}
+use Rattle.common.specs.Answers.{check-tells}
 use Rattle.types.proofs.check_types.Kinds as check-types-kinds
 use Rattle.types.proofs.check_types.Reads as check-types-reads
 use Rattle.types.proofs.next_at.Kinds as next-at-kinds
@@ -23,6 +24,12 @@ use Rattle.types.proofs.is_word.Kinds as is-word-kinds
 use Rattle.types.proofs.is_word.Reads as is-word-reads
 use Rattle.types.proofs.left_width.Kinds as left-width-kinds
 use Rattle.types.proofs.left_width.Reads as left-width-reads
+use Rattle.types.proofs.type_count.Kinds as type-count-kinds
+use Rattle.types.proofs.type_count.Reads as type-count-reads
+use Rattle.types.proofs.without_count.Kinds as without-count-kinds
+use Rattle.types.proofs.without_count.Reads as without-count-reads
+use Rattle.types.proofs.types_hold.Kinds as types-hold-kinds
+use Rattle.types.proofs.types_hold.Reads as types-hold-reads
 
 pub record-at : OneResult 1 record-at-kinds.ps record-at-kinds.r record-at-reads.Post
 record-at κs a s t x y p q = p ∙ sym q
@@ -56,3 +63,12 @@ left-width κs a s t x y p q = p ∙ sym q
 
 pub check-types : OneResult 1 check-types-kinds.ps check-types-kinds.r check-types-reads.Post
 check-types κs a s t x y p q = p ∙ sym q
+
+pub type-count : OneResult 1 type-count-kinds.ps type-count-kinds.r type-count-reads.Post
+type-count κs a s t x y p q = check-tells s t (p ∙ sym q)
+
+pub without-count : OneResult 0 without-count-kinds.ps without-count-kinds.r without-count-reads.Post
+without-count κs a s t x y p q = check-tells s t (p ∙ sym q)
+
+pub types-hold : OneResult 1 types-hold-kinds.ps types-hold-kinds.r types-hold-reads.Post
+types-hold κs a s t x y p q = check-tells s t (p ∙ sym q)

@@ -41,6 +41,18 @@ abbrev pub typeAnswer : Check ℕ → TypeAnswer
 typeAnswer (passed n) = Records n
 typeAnswer (refused r) = Refused r
 
+-- the same without its count
+abbrev pub withoutCount : TypeAnswer → Check (Unit {0})
+withoutCount (Records n) = passed tt
+withoutCount (Refused why) = refused why
+
+-- 4, then 2
+unfoldable pub countedTypes : (bytes : List ℕ) → Check (Unit {0})
+unfolding _>>=_ counted typeRecords checkTypes
+countedTypes bytes = do
+  some ← counted (length (typeRecords bytes)) typeCount
+  checkTypes (typeRecords bytes)
+
 -- how many records stand before the first bad one; none of a table of no record or too many
 unfoldable pub goodRecords : (bytes : List ℕ) → ℕ
 unfolding counted typeRecords typeRule firstFailing

@@ -5,13 +5,16 @@
 // the next record that matters is that part's, and readers of values step over such products by it.
 ghost use mathlib.Core.Path.{_≡_};
 ghost use mathlib.Core.List.{[]};
-ghost use Prim.Native.Nat.{ℕ, _+_, _*_, _/_, _≤_, _<_};
+ghost use Prim.Native.Nat.{_<_};
 ghost use lib.ListN.{length, getD};
-ghost use Rattle.limits.specs.Limits.{typeCount, typeBytes, typeWidth};
-ghost use Rattle.scope.specs.Numbers.{be16, anyBelow};
+ghost use Rattle.limits.specs.Limits.{typeCount};
+ghost use Rattle.scope.specs.Numbers.{anyBelow};
 ghost use Rattle.scope.specs.Types.{typeRecords, typeAt, sameType, partsRule, isUnit, isSum, isProduct, leftAt, rightAt, isWord};
-ghost use Rattle.types.specs.Table.{recordOf, sameRecord, typeTable};
+ghost use Rattle.scope.specs.Stages.{counted};
+ghost use Rattle.common.specs.Answers.{checkOf};
+ghost use Rattle.types.specs.Table.{recordOf, sameRecord, withoutCount, countedTypes, typeTable};
 ghost use Rattle.types.specs.Records.{isRecord, recordJudged, partsWidth, unpaddedFrom, nextFrom, recordNext};
+use common::Checked;
 use refusal::Refusal;
 
 // What stands for a type without padding in place of a next record: the index of no record.
@@ -328,4 +331,30 @@ pub fn check_types(types: &[u8]) -> TypeTable
         widths,
         next,
     }
+}
+
+// The table has a record, and not too many (4).
+pub fn type_count(types: &[u8]) -> Checked
+    ensures { λ r. ⌜ checkOf r ≡ counted (length (typeRecords (now (types .entry)))) typeCount ⌝ }
+{
+    common::check_count(types.len() / limits::TYPE_BYTES, limits::TYPE_COUNT)
+}
+
+// What the check of a table said, without the count of its records.
+pub fn without_count(answer: TypeAnswer) -> Checked
+    ensures { λ r. ⌜ checkOf r ≡ withoutCount answer ⌝ }
+{
+    match answer {
+        TypeAnswer::Records(_) => Checked::Passed,
+        TypeAnswer::Refused(why) => Checked::Refused(why),
+    }
+}
+
+// The table keeps its rules (2), after its count (4).
+pub fn types_hold(types: &[u8]) -> Checked
+    ensures { λ r. ⌜ checkOf r ≡ countedTypes (now (types .entry)) ⌝ }
+{
+    let table = check_types(types);
+    let answer = table.answer;
+    without_count(answer)
 }

@@ -1,5 +1,5 @@
 -- `dossier::check_front` meets its contract.
-use Rattle.stages.specs.Stage.{countedTypes}
+use Rattle.types.specs.Table.{countedTypes}
 use Rattle.dossier.proofs.Front.{front-refused, front-types}
 use mathlib.Core.Path.{_≡_, refl, sym, ap, _∙_}
 use borrow.Author.Needs.{needs}
@@ -7,7 +7,7 @@ use Rattle.dossier.proofs.check_front.Statement.{statement}
 use Rattle.dossier.proofs.check_front.Tie as tie
 use Rattle.dossier.proofs.check_front.Reads as reads
 use Rattle.dossier.proofs.check_front.Lts as lts
-use Rattle.stages.proofs.types_hold.Reads as types-hold-reads
+use Rattle.types.proofs.types_hold.Reads as types-hold-reads
 use Rattle.header.specs.Sections.{section-holds}
 use Rattle.header.proofs.section.Reads as section-reads
 

@@ -1,7 +1,8 @@
 -- `stages::arrow_tables` meets its contract.
 use mathlib.Core.Path.{_≡_, _∙_}
 use borrow.Author.Needs.{needs}
-use Rattle.stages.proofs.Lent.{answer-says, arrows-told}
+use Rattle.types.proofs.Check.{answer-says}
+use Rattle.stages.proofs.Lent.{arrows-told}
 use Rattle.stages.proofs.arrow_tables.Statement.{statement}
 use Rattle.stages.proofs.arrow_tables.Tie as tie
 

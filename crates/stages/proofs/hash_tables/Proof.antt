@@ -1,7 +1,8 @@
 -- `stages::hash_tables` meets its contract.
 use mathlib.Core.Path.{_≡_, _∙_}
 use borrow.Author.Needs.{needs}
-use Rattle.stages.proofs.Lent.{answer-says, hashes-told}
+use Rattle.types.proofs.Check.{answer-says}
+use Rattle.stages.proofs.Lent.{hashes-told}
 use Rattle.stages.proofs.hash_tables.Statement.{statement}
 use Rattle.stages.proofs.hash_tables.Tie as tie
 

@@ -1,9 +1,9 @@
--- `stages::without_count` meets its contract.
+-- `types::without_count` meets its contract.
 use mathlib.Core.Path.{sym, ap}
 use borrow.Author.Needs.{needs}
-use Rattle.stages.specs.Answers.{withoutCount}
-use Rattle.stages.proofs.without_count.Statement.{statement}
-use Rattle.stages.proofs.without_count.Tie as tie
+use Rattle.types.specs.Table.{withoutCount}
+use Rattle.types.proofs.without_count.Statement.{statement}
+use Rattle.types.proofs.without_count.Tie as tie
 
 enum-told : tie.Need-enum-told
 enum-told c = search needs

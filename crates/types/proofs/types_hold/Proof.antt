@@ -1,9 +1,9 @@
--- `stages::types_hold` meets its contract.
+-- `types::types_hold` meets its contract.
 use mathlib.Core.Path.{_∙_}
 use borrow.Author.Needs.{needs}
-use Rattle.stages.proofs.Lent.{answer-says}
-use Rattle.stages.proofs.types_hold.Statement.{statement}
-use Rattle.stages.proofs.types_hold.Tie as tie
+use Rattle.types.proofs.Check.{answer-says}
+use Rattle.types.proofs.types_hold.Statement.{statement}
+use Rattle.types.proofs.types_hold.Tie as tie
 
 check-types-requires : tie.Need-check-types-requires
 check-types-requires c κs = search needs
