@@ -68,7 +68,7 @@ module _ (types nodes arrows program hashes : List ℕ) where
 
   passed-parts : LentPassed types nodes program hashes → (j : ℕ) → leftOf (tyAt (typeRecords types) j)
       ≡ tyAt (typeRecords types) (leftAt (typeRecords types) j)
-  passed-parts p = left-type (typeRecords types) (passed-types p .some) (passed-types p .sound)
+  passed-parts p = left-type (typeRecords types) (passed-types p .sound)
 
   module _ (e : arrowStage types nodes arrows program hashes ≡ passed tt)
       (given witness : List ℕ) (witnessBits : ℕ) (input : List ℕ) (inputBits : ℕ) (values : List Val) where

@@ -1,39 +1,40 @@
 -- The program of the lent tables: its nodes, widths, paddings, words, witnesses and hashes, as the code finds them in the tables.
-use mathlib.Core.Path.{_≡_, refl, sym, ap, ap₂, _∙_, subst}
+use mathlib.Core.Path.{_≡_, refl, sym, ap, _∙_, subst}
 use mathlib.Core.Bool.{Bool, true, false}
 use mathlib.Core.List.{List, [], _∷_}
 use mathlib.Core.Logic.{_⊎_, inl, inr}
-use Prim.Native.Nat.{ℕ, zero, suc, _+_, _*_, _-_, _^_, _≤_, _<_, max}
+use Prim.Native.Nat.{ℕ, suc, _+_, _-_, _^_, _≤_}
 use native.Mathlib.Omega.{arith}
 use native.Mathlib.Decide.{decLt}
-use borrow.Author.Tests.{le-ltb, eqb-true}
-use lib.Dec.{eqb, ltb}
-use lib.ListN.{length, getD, take, drop, length-take, length-drop, take-append-drop, List·getD-eq-default}
+use borrow.Author.Tests.{eqb-true}
+use lib.Dec.{eqb}
+use lib.ListN.{length, getD, take, drop, length-take, length-drop, List·getD-eq-default}
 use lib.Pow.{pow-pos}
-use Rattle.limits.specs.Limits.{dossierBytes, hashBytes}
+use Rattle.limits.specs.Limits.{hashBytes}
 use Rattle.report.specs.Bits.{Bit, bitsOf}
 use Rattle.report.specs.Types.{Ty, width, padL, padR, leftOf, rightOf, wordTy}
-use Rattle.report.specs.Values.{Val, ⟨⟩, padded}
+use Rattle.report.specs.Values.{⟨⟩, padded}
 use Rattle.report.specs.Nodes.{Node}
 use Rattle.report.specs.Nodes as Node
 use Rattle.report.specs.Canonical.{children}
-use Rattle.scope.specs.Numbers.{streamOf, tabulate}
+use Rattle.scope.specs.Numbers.{streamOf}
 use Rattle.scope.specs.Types.{typeRecords, tyAt, leftAt, rightAt}
-use Rattle.scope.specs.Nodes.{Kind, kComp, kCase, kPair, kDisconnect, kInjl, kInjr, kTake, kDrop, kIden, kUnit, kFail, kDisconnect1, kWitness, kHidden, kWord, kUnknown, kindOf, NodeRecord, nodeRecords, noNode, nodeOf, nodesOf, nodeAt, onHidden, onDisconnect, onWitness}
+use Rattle.scope.specs.Nodes.{kindOf, NodeRecord, nodeRecords, noNode, nodeOf, nodesOf, nodeAt, onHidden, onWitness}
 use Rattle.scope.specs.Arrows.{arrowRecords, source, target}
 use Rattle.scope.specs.Hashes.{rights, whole, entry, entryFor, branchHash}
 use Rattle.scope.specs.Program.{Program, valueFrom, sourceTy, targetTy}
 use Rattle.scope.specs.Run.{programOf}
 use Rattle.scope.specs.Stages.{lent}
-use Rattle.common.specs.Bits.{AllBelow, AreBits, below-front, below-drop, are-bits, length-bits}
+use Rattle.common.specs.Bits.{AllBelow, AreBits, below-take, below-drop, are-bits, length-bits, stream-within}
 use Rattle.exactness.specs.Values.{width-word}
 use Rattle.value.proofs.Types.{read-fit}
 use Rattle.common.specs.Tables.{tabulate-at}
 use Rattle.hashes.proofs.Branch.{branch-bits}
 use Rattle.lookup.specs.Lookup.{paddingIn, recordAt}
-use Rattle.ready.specs.Lent.{programNodes, valueOf, programAt, Reads, TypesShown, Shown}
+use Rattle.ready.specs.Lent.{programNodes, valueOf, programAt, Reads, Shown}
 use Rattle.bit_machine.proofs.Words.{word-cells, no-word-cells}
-use Rattle.bit_machine.proofs.Types.{width-found, left-found, right-found}
+use Rattle.ready.proofs.Ends.{width-shown}
+use Rattle.bit_machine.proofs.Types.{left-found, right-found}
 use Rattle.common.specs.Nodes.{node-at}
 
 -- all of a hash, or nothing
@@ -85,16 +86,6 @@ unfolding bitsOf
 hash-cells hash (inl e) = word-cells 8 (bitsOf hash) (are-bits hash) (omega (arith, length-bits hash))
 hash-cells hash (inr e) = rw e (no-word-cells 8)
 
--- the stream of a slice within the limit is its bits
-pub stream-bits : (bytes : List ℕ) → length bytes ≤ dossierBytes → streamOf bytes ≡ bitsOf bytes
-unfolding streamOf
-stream-bits bytes h = rw (le-ltb dossierBytes (length bytes) h, streamOf)
-
--- a part of bits
-part-bits : (k b : ℕ) (bits : List Bit) → AreBits bits → AreBits (take k (drop b bits))
-part-bits k b bits h =
-    below-front 2 (take k (drop b bits)) (drop k (drop b bits)) (subst AreBits (sym (take-append-drop k (drop b bits))) (below-drop 2 b bits h))
-
 module _ {types widths next nodes arrows program hashes given witnesses positions : List ℕ}
     (shown : Shown types widths next nodes arrows program hashes given witnesses positions) (i : ℕ) where
   abbrev pub P : Program
@@ -114,15 +105,15 @@ module _ {types widths next nodes arrows program hashes given witnesses position
   -- widths of the source and of the target
   pub source-wide : getD widths (source (arrowRecords arrows) i) 0 ≡ width (sourceTy P i)
   unfolding sourceTy programAt programOf lent
-  source-wide = width-found types widths next (shown .typed) (source (arrowRecords arrows) i)
+  source-wide = width-shown types widths next (shown .typed) (source (arrowRecords arrows) i)
 
   pub target-wide : getD widths (target (arrowRecords arrows) i) 0 ≡ width (targetTy P i)
   unfolding targetTy programAt programOf lent
-  target-wide = width-found types widths next (shown .typed) (target (arrowRecords arrows) i)
+  target-wide = width-shown types widths next (shown .typed) (target (arrowRecords arrows) i)
 
   -- widths of their left parts
   part-wide : (k : ℕ) → getD widths (leftAt (typeRecords types) k) 0 ≡ width (leftOf (tyAt (typeRecords types) k))
-  part-wide k = width-found types widths next (shown .typed) (leftAt (typeRecords types) k) ∙ ap width (sym (left-found types widths next (shown .typed) k))
+  part-wide k = width-shown types widths next (shown .typed) (leftAt (typeRecords types) k) ∙ ap width (sym (left-found types widths next (shown .typed) k))
 
   pub source-left-wide : getD widths (leftAt (typeRecords types) (source (arrowRecords arrows) i)) 0 ≡ width (leftOf (sourceTy P i))
   unfolding sourceTy programAt programOf lent
@@ -134,7 +125,7 @@ module _ {types widths next nodes arrows program hashes given witnesses position
 
   -- paddings of a type
   other-wide : (k : ℕ) → getD widths (rightAt (typeRecords types) k) 0 ≡ width (rightOf (tyAt (typeRecords types) k))
-  other-wide k = width-found types widths next (shown .typed) (rightAt (typeRecords types) k) ∙ ap width (sym (right-found types widths next (shown .typed) k))
+  other-wide k = width-shown types widths next (shown .typed) (rightAt (typeRecords types) k) ∙ ap width (sym (right-found types widths next (shown .typed) k))
 
   left-padded : (k : ℕ) → paddingIn types widths k .left ≡ padL (leftOf (tyAt (typeRecords types) k)) (rightOf (tyAt (typeRecords types) k))
   unfolding padL
@@ -179,7 +170,7 @@ module _ {types widths next nodes arrows program hashes given witnesses position
   unfolding valueFrom
   value-wide k bits h =
       let A : Ty = tyAt (typeRecords types) k in
-      width-found types widths next (shown .typed) k ∙ sym (rw (h .2, valueFrom) (read-fit A bits (h .0) (h .1) (h .2) .wide))
+      width-shown types widths next (shown .typed) k ∙ sym (rw (h .2, valueFrom) (read-fit A bits (h .0) (h .1) (h .2) .wide))
 
   -- a witness's value stands at its position
   pub witness-is : nodeAt (P .nodes) i ≡ Node.witness → getD (P .witnesses) i ⟨⟩ ≡ valueFrom (targetTy P i) (drop (getD positions i 0) (streamOf witnesses))
@@ -213,7 +204,7 @@ module _ {types widths next nodes arrows program hashes given witnesses position
     word-whole = shown .wordWhole i n (take (2 ^ (n - 1)) (drop b (streamOf program))) e
 
     in-bits : streamOf program ≡ bitsOf program
-    in-bits = stream-bits program (shown .programFits)
+    in-bits = stream-within program (shown .programFits)
 
     pub word-inside : b + size ≤ length (bitsOf program)
     word-inside =
@@ -225,6 +216,6 @@ module _ {types widths next nodes arrows program hashes given witnesses position
     word-is =
         let k : ℕ = 2 ^ (n - 1) in
         let bits : List ℕ = take k (drop b (streamOf program)) in
-        let small : AreBits bits = subst (λ (s : List ℕ). AreBits (take k (drop b s))) (sym in-bits) (part-bits k b (bitsOf program) (are-bits program)) in
+        let small : AreBits bits = subst (λ (s : List ℕ). AreBits (take k (drop b s))) (sym in-bits) (below-take 2 k (drop b (bitsOf program)) (below-drop 2 b (bitsOf program) (are-bits program))) in
         sym (ap (λ (A : Ty). padded A (valueFrom A bits)) word-typed ∙ word-cells (n - 1) bits small word-whole
         ∙ ap (λ (s : List ℕ). take k (drop b s)) in-bits ∙ ap (λ (j : ℕ). take j (drop b (bitsOf program))) (sym word-wide))

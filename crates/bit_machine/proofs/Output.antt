@@ -2,16 +2,16 @@
 use mathlib.Core.Path.{_≡_, refl, sym, ap, ap₂, _∙_}
 use mathlib.Core.Bool.{true}
 use mathlib.Core.List.{List, [], _∷_, _++_}
-use Prim.Native.Nat.{ℕ, zero, suc, _+_, _*_, _-_, _/_, _≤_}
+use Prim.Native.Nat.{ℕ, zero, suc, _+_, _*_, _-_, _≤_}
 use native.Mathlib.Omega.{arith}
 use native.Mathlib.Nat.{zero-add, suc-add}
 use borrow.Author.Tests.{le-leb}
-use lib.ListN.{length, getD, take, drop, replicate, length-append, length-drop, length-replicate}
+use lib.ListN.{length, getD, take, drop, length-append, length-drop, length-replicate}
 use lib.Seq.{sets, sets-eq, getD-drop, take-append-le, drop-append-le, take-append-add, drop-nil}
 use Rattle.limits.specs.Limits.{cellCount}
 use Rattle.report.specs.Bits.{Bit, numberFrom, bitsOf, bytesOf}
 use Rattle.report.specs.Types.{Ty, width}
-use Rattle.report.specs.Values.{Val, Cells, compact, valueAt}
+use Rattle.report.specs.Values.{compact, valueAt}
 use Rattle.scope.specs.Numbers.{zeros, bytesFor, every}
 use Rattle.scope.specs.Types.{typeRecords, tyAt}
 use Rattle.scope.specs.Run.{cellsOf, written}
@@ -28,7 +28,7 @@ use Rattle.value.specs.declared.ValueWritten.the-variants.{Bits, Short}
 use Rattle.value.proofs.Ways.{room-inside, sets-append}
 use Rattle.value.proofs.Sound.{unpaddedTo, unpad-is}
 use Rattle.ready.specs.Lent.{TypesShown}
-use Rattle.bit_machine.proofs.Types.{width-found}
+use Rattle.ready.proofs.Ends.{width-shown}
 
 -- bits that fill m bytes, and the bits behind them, packed in bytes
 bytes-append : (m j : ℕ) (x y : List ℕ) → length x ≡ 8 * m → bytesOf (m + j) (x ++ y) ≡ bytesOf m x ++ bytesOf j y
@@ -93,7 +93,7 @@ module _ {types widths next : List ℕ} (shown : TypesShown types widths next) (
   output = compact (valueAt A (cellsOf cells) at)
 
   wide : getD widths k 0 ≡ width A
-  wide = width-found types widths next shown k
+  wide = width-shown types widths next shown k
 
   pub output-short : length output ≤ getD widths k 0
   output-short = omega (arith, compact-fits (value-typed A (cellsOf cells) at), wide)

@@ -1,13 +1,11 @@
--- A type table that passed, and the tables made of it: widths and parts.
-use mathlib.Core.Path.{_≡_, ap, _∙_}
+-- The parts of a record of a type table that passed.
+use mathlib.Core.Path.{_≡_}
 use mathlib.Core.List.{List}
-use Prim.Native.Nat.{ℕ, _≤_}
-use native.Mathlib.Omega.{arith}
-use lib.ListN.{length, getD}
-use Rattle.report.specs.Types.{width, leftOf, rightOf}
+use Prim.Native.Nat.{ℕ}
+use Rattle.report.specs.Types.{leftOf, rightOf}
 use Rattle.scope.specs.Types.{TypeRecord, typeRecords, tyAt, leftAt, rightAt}
 use Rattle.types.proofs.Parts.{left-type, right-type}
-use Rattle.types.proofs.Sound.{Passed, passed-table, widths-are}
+use Rattle.types.proofs.Sound.{Passed, passed-table}
 use Rattle.ready.specs.Lent.{TypesShown}
 
 module _ (types widths next : List ℕ) (shown : TypesShown types widths next) where
@@ -17,16 +15,9 @@ module _ (types widths next : List ℕ) (shown : TypesShown types widths next) w
   passes : Passed types (shown .count)
   passes = passed-table types (shown .count) (shown .passes)
 
-  -- the widths are those of the types
-  pub width-found : (k : ℕ) → getD widths k 0 ≡ width (tyAt T k)
-  width-found k = ap (λ (w : List ℕ). getD w k 0) (shown .widthsAre) ∙ widths-are types (shown .count) passes k
-
-  some : 1 ≤ length T
-  some = omega (arith, passes .some, passes .count)
-
   -- the parts of a record stand for the parts of its type
   pub left-found : (k : ℕ) → leftOf (tyAt T k) ≡ tyAt T (leftAt T k)
-  left-found = left-type T some (passes .sound)
+  left-found = left-type T (passes .sound)
 
   pub right-found : (k : ℕ) → rightOf (tyAt T k) ≡ tyAt T (rightAt T k)
-  right-found = right-type T some (passes .sound)
+  right-found = right-type T (passes .sound)

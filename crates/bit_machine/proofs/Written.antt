@@ -1,29 +1,27 @@
 -- Values and hashes at the write cursor: what the calls that put them into the cells have shown, as the machine's rule.
-use mathlib.Core.Path.{_≡_, refl, sym, ap, ap₂, _∙_, subst}
-use mathlib.Core.Bool.{Bool, true, false}
+use mathlib.Core.Path.{_≡_, refl, sym, ap, _∙_}
+use mathlib.Core.Bool.{true}
 use mathlib.Core.List.{List, [], _∷_}
 use mathlib.Core.Logic.{_⊎_, inl, inr}
-use Prim.Native.Nat.{ℕ, zero, _+_, _*_, _-_, _^_, _≤_, _<_}
+use Prim.Native.Nat.{ℕ, _+_, _*_, _≤_}
 use native.Mathlib.Omega.{arith}
 use borrow.Author.Tests.{le-leb}
-use lib.Dec.{leb}
 use lib.ListN.{length, getD, take, drop}
 use lib.Seq.{sets, take-all}
 use Rattle.limits.specs.Limits.{cellCount, hashBytes}
 use Rattle.report.specs.Bits.{Bit, bitsOf}
 use Rattle.report.specs.Types.{Ty, width}
-use Rattle.report.specs.Values.{Val, compact, padded, Read, value, short, readValue}
+use Rattle.report.specs.Values.{Val, compact, padded, readValue}
 use Rattle.report.specs.Nodes.{Node}
 use Rattle.scope.specs.Machine.{Frame, forward}
 use Rattle.scope.specs.Types.{typeRecords, tyAt}
 use Rattle.scope.specs.Hashes.{branchHash}
 use Rattle.scope.specs.Program.{valueFrom}
-use Rattle.types.specs.Table.{typeWidths, typeNext}
-use Rattle.types.proofs.Sound.{Passed, passed-table}
+use Rattle.types.proofs.Sound.{passed-table}
 use Rattle.value.specs.Shapes.{shapeAt}
 use Rattle.value.specs.Bits.{room, Padded, padding, padStage}
 use Rattle.value.specs.declared.ValueRead.{ValueRead}
-use Rattle.value.specs.declared.ValueRead.the-variants.{Next, Short}
+use Rattle.value.specs.declared.ValueRead.the-variants.{Next}
 use Rattle.value.proofs.Ways.{room-inside}
 use Rattle.value.proofs.Types.{read-fit}
 use Rattle.value.proofs.Sound.{paddedTo, pad-is}
@@ -32,7 +30,7 @@ use Rattle.layout.specs.Mach.{Mach, mach, activeWrite}
 use Rattle.layout.specs.Rules.{bitsWritten, skipped, writeMoved, bitsWritten-some, skipped-some}
 use Rattle.layout.specs.Safe.{WriteOk}
 use Rattle.ready.specs.Lent.{Reads, TypesShown}
-use Rattle.bit_machine.proofs.Types.{width-found}
+use Rattle.ready.proofs.Ends.{width-shown}
 use Rattle.bit_machine.proofs.Lent.{hash-whole}
 
 -- a hash has at most 32 bytes
@@ -83,7 +81,7 @@ module _ {types widths next : List ℕ} (shown : TypesShown types widths next) (
   value-is = rw (reads .2, valueFrom)
 
   wide : n ≡ width A
-  wide = en ∙ width-found types widths next shown k
+  wide = en ∙ width-shown types widths next shown k
 
   pub value-long : length cells ≡ n
   value-long = ap (λ (v : Val). length (padded A v)) value-is ∙ read-fit A (drop p stream) (reads .0) (reads .1) (reads .2) .wide ∙ sym wide

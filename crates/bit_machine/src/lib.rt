@@ -9,7 +9,6 @@ mod values;
 use ready::RunAnswer;
 use refusal::Answer;
 ghost use mathlib.Core.Path.{_≡_};
-ghost use Prim.Native.Nat.{_^_, _<_};
 ghost use Rattle.scope.specs.Run.{leftWith};
 ghost use Rattle.scope.specs.Stages.{runStage};
 
@@ -38,13 +37,6 @@ pub(crate) enum Plan {
     Stop(Reason),
     One(u32, u32),
     Two,
-}
-
-// A number of a table or of a bound as a place.
-pub(crate) fn wide(x: u32) -> usize
-    ensures { λ r. ⌜ (r ≡ x) × (r < 2 ^ 32) ⌝ }
-{
-    x as usize
 }
 
 // A run over lent tables: every check that can be made of them and of what the run is supplied with, then the run.

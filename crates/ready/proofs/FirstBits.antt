@@ -2,27 +2,20 @@
 -- and any other is short.
 use mathlib.Core.Path.{_≡_, refl, ap, sym, _∙_}
 use mathlib.Core.Bool.{Bool, true, false}
-use mathlib.Core.List.{List, [], _∷_}
-use Prim.Native.Nat.{ℕ, zero, suc, _+_, _-_, _≤_, _<_}
+use mathlib.Core.List.{List}
+use Prim.Native.Nat.{ℕ, _+_, _-_, _≤_, _<_}
 use native.Mathlib.Omega.{arith}
 use lib.Dec.{leb}
 use lib.ListN.{length, take, drop}
-use lib.Seq.{take-nil}
 use borrow.Author.Tests.{le-leb, lt-leb, leb-true}
 use Rattle.report.specs.Bits.{Bit}
 use Rattle.report.specs.Types.{Ty}
 use Rattle.report.specs.Values.{Val, compact, Read, value, short, readValue}
+use Rattle.common.specs.Lists.{drop-take}
 use Rattle.common.specs.Checks.{clash}
 use Rattle.value.specs.declared.ValueRead.the-variants.{Next, Short}
 use Rattle.value.proofs.Prefix.{within, read-first}
 use Rattle.ready.specs.Answers.{endOf}
-
--- the first bits from a position on
-pub drop-take : {X : Type 0} (p n : ℕ) (l : List X) → drop p (take n l) ≡ take (n - p) (drop p l)
-drop-take zero n l = ap (λ (k : ℕ). take k l) (let z : n ≡ n - 0 = omega arith in z)
-drop-take (suc p) zero l = sym (ap (λ (k : ℕ). take k (drop (suc p) l)) (let z : 0 - suc p ≡ 0 = omega arith in z))
-drop-take (suc p) (suc n) [] = sym (take-nil (suc n - suc p))
-drop-take (suc p) (suc n) (x ∷ l) = drop-take p n l ∙ ap (λ (k : ℕ). take k (drop p l)) (let z : n - p ≡ suc n - suc p = omega arith in z)
 
 module _ (A : Ty) (p n : ℕ) (bits : List Bit) where
   -- reading at p from the first n bits, and from all of them

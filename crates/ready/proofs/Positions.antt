@@ -4,7 +4,7 @@ use mathlib.Core.Path.{_≡_, refl, ap, sym, _∙_}
 use mathlib.Core.List.{List, [], _∷_, _++_}
 use Prim.Native.Nat.{ℕ, zero, suc, _+_, _≤_, _<_}
 use native.Mathlib.Omega.{arith}
-use lib.ListN.{length, take, drop}
+use lib.ListN.{length, take, drop, drop-of-length-le}
 use lib.Seq.{drop-drop, drop-cons}
 use Rattle.refusal.specs.declared.Refusal.the-variants.{Witness}
 use Rattle.report.specs.Bits.{Bit}
@@ -57,13 +57,6 @@ from-read A bits = go (readValue A bits)
     go (value v rest) = refl
     go short = refl
 
--- nothing stands past the end
-pub drop-whole : {X : Type 0} (l : List X) (i : ℕ) → length l ≤ i → drop i l ≡ []
-drop-whole [] zero h = refl
-drop-whole [] (suc i) h = refl
-drop-whole (x ∷ l) zero h = absurd (omega arith)
-drop-whole (x ∷ l) (suc i) h = drop-whole l i (omega arith)
-
 module _ (types : List TypeRecord) (nodes : List Node) (arrows : List Arrow) (bits : List Bit) where
   -- the target of node i
   abbrev pub to : (i : ℕ) → Ty
@@ -114,7 +107,7 @@ module _ (types : List TypeRecord) (nodes : List Node) (arrows : List Arrow) (bi
   -- the end of the table
   pub walk-ends : (i : ℕ) (vs : List Val) (rest : List Bit) → length nodes ≤ i → valuesFrom types arrows i (drop i nodes) vs rest ≡ passed (record { values = vs; rest = rest })
   unfolding valuesFrom
-  walk-ends i vs rest h = ap (λ (ns : List Node). valuesFrom types arrows i ns vs rest) (drop-whole nodes i h)
+  walk-ends i vs rest h = ap (λ (ns : List Node). valuesFrom types arrows i ns vs rest) (drop-of-length-le nodes h)
 
   -- the value of node i
   abbrev pub valueHere : (i : ℕ) → Val

@@ -1,8 +1,8 @@
 -- What a run may rest on once its checks have passed: the tables are as `Shown` says, their program is the one that was made ready,
 -- its input stands at the front of the input bits, the stores have room for the bounds, and the machine is never stuck.
-use mathlib.Core.Path.{_≡_, refl, ap, ap₂, sym, subst, _∙_}
-use mathlib.Core.List.{List, [], _∷_, _++_}
-use Prim.Native.Nat.{ℕ, zero, suc, _+_, _-_, _/_, _≤_, _<_}
+use mathlib.Core.Path.{_≡_, refl, ap, sym, subst, _∙_}
+use mathlib.Core.List.{List, [], _∷_}
+use Prim.Native.Nat.{ℕ, _-_, _/_, _≤_, _<_}
 use native.Mathlib.Omega.{arith}
 use native.Mathlib.Decide.{decLt}
 use lib.ListN.{length, getD, take, drop, List·getD-append, List·getD-eq-default}
@@ -43,19 +43,12 @@ use Rattle.theory.specs.Theorems.{never-stuck, whole-safe}
 use Rattle.common.specs.Nodes.{length-nodes}
 use Rattle.stages.proofs.Passed.{LentPassed, lent-passed, stage-passed, stage-arrows, hashes-passed}
 use Rattle.types.specs.Table.{checkTable, typeWidths, typeNext}
-use Rattle.common.specs.Tables.{length-tabulate, tabulate-at, tabulate-more}
+use Rattle.common.specs.Tables.{length-tabulate, tabulate-at, tabulate-same}
 use Rattle.ready.specs.Lent.{programNodes, valueOf, programAt, Reads, TypesShown, Shown}
 use Rattle.ready.specs.Positions.{readFor, positionAt, positionsOf}
 use Rattle.ready.proofs.FirstBits.{in-all}
 use Rattle.ready.proofs.Passes.{limits-kept, stores-fit, input-read}
 use Rattle.ready.proofs.Positions.{witness-or, valueRead, from-read, valueHere, all-read, values-here}
-
--- two lists made by rules that agree
-pub same-tabulate : {X : Type 0} (f g : ℕ → X) (n : ℕ) → ((i : ℕ) → i < n → f i ≡ g i) → tabulate n f ≡ tabulate n g
-unfolding tabulate
-same-tabulate f g zero h = refl
-same-tabulate f g (suc n) h =
-    tabulate-more f n ∙ ap₂ (λ xs x. xs ++ x ∷ []) (same-tabulate f g n (λ i k. h i (omega arith))) (h n (omega arith)) ∙ sym (tabulate-more g n)
 
 -- witness bits that passed
 module _ (types : List TypeRecord) (nodes : List Node) (arrows : List Arrow) (bytes : List ℕ) (count : ℕ) (values : List Val)
@@ -123,7 +116,7 @@ module _ (types : List TypeRecord) (nodes : List Node) (arrows : List Arrow) (by
   -- the values that the check answers
   pub values-in : tabulate (length nodes) valueIn ≡ values
   values-in =
-      sym (same-tabulate (valueHere types nodes arrows bits) valueIn (length nodes) value-in)
+      sym (tabulate-same ⟨⟩ (valueHere types nodes arrows bits) valueIn (length nodes) value-in)
       ∙ sym (values-here types nodes arrows bits (walk .0) (walk .1))
       ∙ walk .2
 

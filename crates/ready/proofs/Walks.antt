@@ -2,11 +2,11 @@
 -- and what is then said of the witness bits.
 use mathlib.Core.Path.{_≡_, refl, ap, ap₂, sym, subst, _∙_}
 use mathlib.Core.Bool.{Bool, true, false}
-use mathlib.Core.List.{List, [], _∷_, _++_, append-assoc}
-use Prim.Native.Nat.{ℕ, suc, _+_, _-_, _≤_, _<_}
+use mathlib.Core.List.{List, [], _∷_}
+use Prim.Native.Nat.{ℕ, _+_, _≤_, _<_}
+use native.Mathlib.Numerals.{add-one}
 use native.Mathlib.Omega.{arith}
 use lib.ListN.{length, set, take, drop}
-use lib.Seq.{set-at}
 use Rattle.limits.specs.Limits.{dossierBytes, nodeCount}
 use Rattle.refusal.specs.declared.Refusal.the-variants.{Witness}
 use Rattle.report.specs.Bits.{Bit}
@@ -21,7 +21,7 @@ use Rattle.scope.specs.Closing.{usedUp}
 use Rattle.scope.specs.Witness.{Values, checkWitness}
 use Rattle.common.specs.Checks.{clash}
 use Rattle.common.specs.declared.Checked.the-variants.{Passed}
-use Rattle.common.specs.Tables.{length-tabulate, tabulate-more}
+use Rattle.common.specs.Filling.{filledTo, fill-start, fill-more}
 use Rattle.value.specs.declared.ValueRead.{ValueRead}
 use Rattle.value.specs.declared.ValueRead.the-variants.{Next, Short}
 use Rattle.ready.specs.Positions.{bitsTaken, readFor, positionAt, positionsOf}
@@ -30,19 +30,6 @@ use Rattle.ready.specs.declared.WitnessTable.{WitnessTable}
 use Rattle.ready.proofs.FirstBits.{ends-inside}
 use Rattle.ready.proofs.Positions.{witness-or, walk-short, walk-ends, valueHere, Walked, walked-start, walked-on}
 use Rattle.ready.proofs.Ends.{allUsed}
-
--- an array of which the first entries are made by a rule, and one more of them
-unfoldable pub filledTo : (n : ℕ) → (ℕ → ℕ) → List ℕ
-filledTo n f = tabulate n f ++ zeros (nodeCount - n)
-
-pub filled-more : (f : ℕ → ℕ) (n v : ℕ) → n < nodeCount → v ≡ f n → set (filledTo n f) n v ≡ filledTo (suc n) f
-unfolding filledTo
-filled-more f n v h e =
-    ap (λ (k : ℕ). set (tabulate n f ++ zeros k) n v) (let q : nodeCount - n ≡ suc (nodeCount - suc n) = omega arith in q)
-    ∙ set-at (tabulate n f) 0 (zeros (nodeCount - suc n)) v n (length-tabulate f n)
-    ∙ ap (λ (k : ℕ). tabulate n f ++ (k ∷ zeros (nodeCount - suc n))) e
-    ∙ sym (append-assoc (tabulate n f) (f n ∷ []) (zeros (nodeCount - suc n)))
-    ∙ ap (λ (l : List ℕ). l ++ zeros (nodeCount - suc n)) (sym (tabulate-more f n))
 
 -- where a value that was read ends
 read-to : (p q : ℕ) (r : Read) → Next q ≡ endOf p r → (v : Val) × (rest : List Bit) × (r ≡ value v rest) × (q ≡ p + bitsTaken r)
@@ -71,11 +58,11 @@ module _ (types : List TypeRecord) (nodes : List Node) (arrows : List Arrow) (by
   pub record Come (i p : ℕ) (positions : List ℕ) : Type 0 where
     pub walked : Walked types nodes arrows bits i
     pub passes : p ≡ at i
-    pub puts : positions ≡ filledTo i at
+    pub puts : positions ≡ filledTo at 0 nodeCount i
 
   pub come-start : Come 0 0 (zeros nodeCount)
-  unfolding filledTo tabulate positionAt
-  come-start = record { walked = walked-start types nodes arrows bits; passes = refl; puts = refl }
+  unfolding positionAt
+  come-start = record { walked = walked-start types nodes arrows bits; passes = refl; puts = fill-start at 0 nodeCount }
 
   module _ (i p : ℕ) (positions : List ℕ) (come : Come i p positions) where
     -- what is read at p is read at node i's position
@@ -86,10 +73,10 @@ module _ (types : List TypeRecord) (nodes : List Node) (arrows : List Arrow) (by
     unfolding positionAt
     come-on q h k e =
         let r = read-to p q (readFor types nodes arrows bits i p) e in
-        subst (λ (j : ℕ). Come j q (set positions i p)) (let z : suc i ≡ i + 1 = omega arith in z) (record {
+        subst (λ (j : ℕ). Come j q (set positions i p)) (sym (add-one i)) (record {
           walked = walked-on types nodes arrows bits i (r .0) (r .1) h (sym read-here ∙ r .2) (come .walked);
           passes = r .3 ∙ ap₂ (λ (x y : ℕ). x + y) (come .passes) (ap bitsTaken read-here);
-          puts = ap (λ (l : List ℕ). set l i p) (come .puts) ∙ filled-more at i p k (come .passes);
+          puts = ap (λ (l : List ℕ). set l i p) (come .puts) ∙ fill-more at 0 nodeCount i p k (come .passes) ∙ ap (filledTo at 0 nodeCount) (add-one i);
         })
 
     -- what is answered of what the check says
@@ -132,9 +119,9 @@ module _ (types : List TypeRecord) (nodes : List Node) (arrows : List Arrow) (by
 
     pub come-used : i ≡ length nodes → allUsed bytes p count ≡ true
         → record { answer = Passed; positions = positions } ≡ witnessTable types nodes arrows bytes count
-    unfolding require _>>=_ positionsOf filledTo
+    unfolding require _>>=_ positionsOf
     come-used e f =
-        ap (λ (l : List ℕ). record { answer = Passed; positions = l }) (come .puts ∙ ap (λ (k : ℕ). filledTo k at) e)
+        ap (λ (l : List ℕ). record { answer = Passed; positions = l }) (come .puts ∙ ap (filledTo at 0 nodeCount) e)
         ∙ answered (passed (tabulate i (valueHere types nodes arrows bits))) (all-checked e true f)
 
     -- what a node takes is within the first bits

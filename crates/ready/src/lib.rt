@@ -13,7 +13,7 @@ ghost use lib.ListN.{length, take, drop};
 ghost use Rattle.limits.specs.Limits.{dossierBytes, nodeCount};
 ghost use Rattle.report.specs.Values.{readValue};
 ghost use Rattle.scope.specs.Check.{passed};
-ghost use Rattle.scope.specs.Numbers.{zeros, streamOf, heldBits, bytesFor};
+ghost use Rattle.scope.specs.Numbers.{zeros, streamOf, heldBits};
 ghost use Rattle.scope.specs.Types.{typeRecords, tyAt};
 ghost use Rattle.scope.specs.Nodes.{nodeRecords, nodesOf, nodeAt, onWitness};
 ghost use Rattle.scope.specs.Arrows.{arrowRecords};
@@ -46,13 +46,6 @@ struct WitnessTable {
     positions: [u32; limits::NODE_COUNT],
 }
 
-// A count or an index, as a place.
-fn wide(n: u32) -> usize
-    ensures { λ r. ⌜ (r ≡ n) × (r < 4294967296) ⌝ }
-{
-    n as usize
-}
-
 // Where the compact value of type i at bit p ends, where only the first `count` bits are there.
 fn value_end<'a>(
     types: &[u8],
@@ -69,7 +62,7 @@ fn value_end<'a>(
     let ValueRead::Next(end) = value::skip(types, widths, next, i, s, p) else {
         return ValueRead::Short;
     };
-    if wide(count) < end {
+    if common::place(count) < end {
         return ValueRead::Short;
     }
     ValueRead::Next(end)
@@ -90,7 +83,7 @@ fn all_used(s: &[u8], end: usize, count: u32) -> bool
     if limits::DOSSIER_BYTES < s.len() {
         return false;
     }
-    let all = wide(count);
+    let all = common::place(count);
     if end < all {
         return false;
     }
@@ -162,7 +155,7 @@ fn check_witness<'a>(
         else {
             return unread(Checked::Refused(Refusal::Witness(i)));
         };
-        positions[wide(i)] = p as u32;
+        positions[common::place(i)] = p as u32;
         p = end;
         i += 1;
     }
@@ -197,13 +190,6 @@ fn check_input<'a>(
     Checked::Passed
 }
 
-// How many bytes hold so many bits.
-fn bytes_for(bits: u32) -> usize
-    ensures { λ r. ⌜ r ≡ bytesFor bits ⌝ }
-{
-    (wide(bits) + 7) / 8
-}
-
 // The stores: cells in bytes (17 at 0), frames in whole records (17 at 1), the answer in bytes (17 at 2).
 fn check_stores(
     cell_bound: u32,
@@ -215,13 +201,13 @@ fn check_stores(
 ) -> Checked
     ensures { λ r. ⌜ r ≡ verdict (storesRule «cell_bound» «frame_bound» width cells frames answer) ⌝ }
 {
-    if cells < bytes_for(cell_bound) {
+    if cells < common::bytes_for(cell_bound) {
         return Checked::Refused(Refusal::StoreShort(0));
     }
-    if frames / limits::FRAME_NUMBERS < wide(frame_bound) {
+    if frames / limits::FRAME_NUMBERS < common::place(frame_bound) {
         return Checked::Refused(Refusal::StoreShort(1));
     }
-    if answer < bytes_for(width) {
+    if answer < common::bytes_for(width) {
         return Checked::Refused(Refusal::StoreShort(2));
     }
     Checked::Passed

@@ -11,22 +11,15 @@ use borrow.Author.Tests.{eqb-true}
 use Rattle.report.specs.Types.{one, leftOf, rightOf}
 use Rattle.scope.specs.Types.{TypeRecord, typeFrom, noType, tyAt, typeAt, partsRule, leftAt, rightAt}
 use Rattle.common.specs.Checks.{every-all}
-use Rattle.common.specs.Types.{parts-below, type-past, type-step, PartsKept}
+use Rattle.common.specs.Types.{type-past, type-step, first-unit, PartsKept}
 use Rattle.types.proofs.Sound.{Sound, parts-of}
 
-module _ (T : List TypeRecord) (some : 1 ≤ length T) (sound : Sound T) where
+module _ (T : List TypeRecord) (sound : Sound T) where
   parts : (k : ℕ) → k < length T → PartsKept T k
   parts k h = parts-of T sound k h
 
-  -- record 0 is unit
-  first-unit : tyAt T 0 ≡ one
-  unfolding typeFrom
-  first-unit = type-step T 0 (omega arith) (parts 0 (omega arith))
-      ∙ go ((typeAt T 0) .tag) ((typeAt T 0) .left) ((typeAt T 0) .right) (parts 0 (omega arith))
-    where
-      go : (t a b : ℕ) → partsRule T 0 t a b ≡ true → typeFrom t (tyAt T a) (tyAt T b) ≡ one
-      go zero a b e = refl
-      go (suc t) a b e = let h = parts-below T 0 (suc t) a b (λ z. omega arith) e in absurd (omega arith)
+  first : tyAt T 0 ≡ one
+  first = first-unit T parts
 
   made : (t a b : ℕ) (i : ℕ) → partsRule T i t a b ≡ true
       → (leftOf (typeFrom t (tyAt T a) (tyAt T b)) ≡ tyAt T a) × (rightOf (typeFrom t (tyAt T a) (tyAt T b)) ≡ tyAt T b)
@@ -35,7 +28,7 @@ module _ (T : List TypeRecord) (some : 1 ≤ length T) (sound : Sound T) where
       let h = every-all (eqb a 0 ∷ eqb b 0 ∷ []) e in
       let ea : a ≡ 0 = eqb-true a 0 (h .0) in
       let eb : b ≡ 0 = eqb-true b 0 (h .1 .0) in
-      (sym (ap (λ (j : ℕ). tyAt T j) ea ∙ first-unit), sym (ap (λ (j : ℕ). tyAt T j) eb ∙ first-unit))
+      (sym (ap (λ (j : ℕ). tyAt T j) ea ∙ first), sym (ap (λ (j : ℕ). tyAt T j) eb ∙ first))
   made (suc zero) a b i e = (refl, refl)
   made (suc (suc t)) a b i e = (refl, refl)
 
@@ -47,12 +40,12 @@ module _ (T : List TypeRecord) (some : 1 ≤ length T) (sound : Sound T) where
   unfolding leftAt leftOf
   left-type k = elim (decLt k (length T)) [
     | yes h ↦ ap leftOf (type-step T k h (parts k h)) ∙ made ((typeAt T k) .tag) ((typeAt T k) .left) ((typeAt T k) .right) k (parts k h) .0
-    | no n ↦ ap leftOf (type-past T k (omega arith)) ∙ sym (ap (λ (r : TypeRecord). tyAt T (r .left)) (past k (omega arith)) ∙ first-unit)
+    | no n ↦ ap leftOf (type-past T k (omega arith)) ∙ sym (ap (λ (r : TypeRecord). tyAt T (r .left)) (past k (omega arith)) ∙ first)
   ]
 
   pub right-type : (k : ℕ) → rightOf (tyAt T k) ≡ tyAt T (rightAt T k)
   unfolding rightAt rightOf
   right-type k = elim (decLt k (length T)) [
     | yes h ↦ ap rightOf (type-step T k h (parts k h)) ∙ made ((typeAt T k) .tag) ((typeAt T k) .left) ((typeAt T k) .right) k (parts k h) .1
-    | no n ↦ ap rightOf (type-past T k (omega arith)) ∙ sym (ap (λ (r : TypeRecord). tyAt T (r .right)) (past k (omega arith)) ∙ first-unit)
+    | no n ↦ ap rightOf (type-past T k (omega arith)) ∙ sym (ap (λ (r : TypeRecord). tyAt T (r .right)) (past k (omega arith)) ∙ first)
   ]

@@ -12,8 +12,8 @@ returns : tie.Need-returns
 returns c = let a = c .before .before .args in
     used-over (a .s .now) (a .end) (a .count) (omega arith)
 
-wide-requires : tie.Need-wide-requires
-wide-requires c κs = search needs
+place-requires : tie.Need-place-requires
+place-requires c κs = search needs
 
 returns-2 : tie.Need-returns-2
 returns-2 c = let a = c .before .before .before .before .args in
@@ -24,7 +24,7 @@ closes-requires c κs = search needs
 
 returns-3 : tie.Need-returns-3
 returns-3 c = let a = c .before .before .before .before .before .args in
-    c .closes .ensures ∙ ap (closes (streamOf (a .s .now))) (c .before .before .wide .ensures .0) ∙ used-all (a .s .now) (a .end) (a .count) (omega arith) (omega arith)
+    c .closes .ensures ∙ ap (closes (streamOf (a .s .now))) (c .before .before .place .ensures .0) ∙ used-all (a .s .now) (a .end) (a .count) (omega arith) (omega arith)
 
 pub all-used-spec : {M : Type 1} → statement M
-all-used-spec = tie.close (tie.spec returns wide-requires returns-2 closes-requires returns-3)
+all-used-spec = tie.close (tie.spec returns place-requires returns-2 closes-requires returns-3)

@@ -11,8 +11,8 @@ bytes-for-requires c κs = search needs
 returns : tie.Need-returns
 returns c = cells-short (c .before .before .args .cell-bound) (c .before .before .args .frame-bound) (c .before .before .args .width) (c .before .before .args .cells) (c .before .before .args .frames) (c .before .before .args .answer) (omega arith)
 
-wide-requires : tie.Need-wide-requires
-wide-requires c κs = search needs
+place-requires : tie.Need-place-requires
+place-requires c κs = search needs
 
 returns-2 : tie.Need-returns-2
 returns-2 c = frames-short (c .before .before .before .before .args .cell-bound) (c .before .before .before .before .args .frame-bound) (c .before .before .before .before .args .width) (c .before .before .before .before .args .cells) (c .before .before .before .before .args .frames) (c .before .before .before .before .args .answer) (omega arith) (omega arith)
@@ -32,7 +32,7 @@ check-stores-spec =
     (tie.spec
     bytes-for-requires
     returns
-    wide-requires
+    place-requires
     returns-2
     bytes-for-requires-2
     returns-3

@@ -58,14 +58,14 @@ returns c = let a = c .before .before .before .before .before .before .before .b
 cast-positions : tie.Need-cast-positions Inv-loop μ-loop
 cast-positions c = let h : c .before .before .before .before .before .loop .p ≤ c .before .before .before .before .before .before .before .before .before .before .before .before .before .args .count = c .before .before .before .before .before .loop .inv .3 in search needs
 
-wide-requires : tie.Need-wide-requires Inv-loop μ-loop
-wide-requires c κs = search needs
+place-requires : tie.Need-place-requires Inv-loop μ-loop
+place-requires c κs = search needs
 
 mul-positions : tie.Need-mul-positions Inv-loop μ-loop
 mul-positions c = search needs
 
 array-write-positions : tie.Need-array-write-positions Inv-loop μ-loop
-array-write-positions c = let m = length-records (c .before .before .before .before .before .before .before .before .before .before .before .before .before .before .args .nodes .now) in omega (arith, c .wide .ensures .0)
+array-write-positions c = let m = length-records (c .before .before .before .before .before .before .before .before .before .before .before .before .before .before .args .nodes .now) in omega (arith, c .place .ensures .0)
 
 add-i : tie.Need-add-i Inv-loop μ-loop
 add-i c = let m = length-records (c .before .before .before .before .before .before .before .before .before .before .before .before .before .before .args .nodes .now) in search needs
@@ -79,13 +79,13 @@ loop-again c = let a = c .before .before .before .before .before .before .before
       (λ bits hashes. (let m = length-records (a .nodes .now) in
           let n = length-nodes bits hashes (nodeRecords (a .nodes .now)) in
           subst (λ (k : ℕ). Come (typeRecords (a .types .now)) (nodesOf bits hashes (nodeRecords (a .nodes .now))) (arrowRecords (a .arrows .now)) (a .witness .now) (a .count) (l .i + 1) (c .before .before .end .given .0 .0) (set (l .positions) k (l .p)))
-          (sym (c .wide .ensures .0)) (come-on (typeRecords (a .types .now)) (nodesOf bits hashes (nodeRecords (a .nodes .now))) (arrowRecords (a .arrows .now)) (a .witness .now) (a .count) (c .before .before .before .before .before .before .loop .i) (c .before .before .before .before .before .before .loop .p) (c .before .before .before .before .before .before .loop .positions) (c .before .before .before .before .before .before .loop .inv .0 bits hashes) (c .before .before .end .given .0 .0) (omega arith) (omega arith) (end-held (typeRecords (a .types .now)) (nodesOf bits hashes (nodeRecords (a .nodes .now))) (arrowRecords (a .arrows .now)) (a .witness .now) (a .count) (c .before .before .before .before .before .before .before .held .result .now) (c .before .before .before .before .before .before .before .held .ensures) (l .i) (l .p) _
+          (sym (c .place .ensures .0)) (come-on (typeRecords (a .types .now)) (nodesOf bits hashes (nodeRecords (a .nodes .now))) (arrowRecords (a .arrows .now)) (a .witness .now) (a .count) (c .before .before .before .before .before .before .loop .i) (c .before .before .before .before .before .before .loop .p) (c .before .before .before .before .before .before .loop .positions) (c .before .before .before .before .before .before .loop .inv .0 bits hashes) (c .before .before .end .given .0 .0) (omega arith) (omega arith) (end-held (typeRecords (a .types .now)) (nodesOf bits hashes (nodeRecords (a .nodes .now))) (arrowRecords (a .arrows .now)) (a .witness .now) (a .count) (c .before .before .before .before .before .before .before .held .result .now) (c .before .before .before .before .before .before .before .held .ensures) (l .i) (l .p) _
           (sym (c .before .before .end .given .1) ∙ c .before .before .before .before .node-end .ensures bits hashes))))),
       omega arith,
       l .inv .2,
       (let bits : List ℕ = [] in let hashes : List ℕ = [] in come-inside (typeRecords (a .types .now)) (nodesOf bits hashes (nodeRecords (a .nodes .now))) (arrowRecords (a .arrows .now)) (a .witness .now) (a .count) (c .before .before .before .before .before .before .loop .i) (c .before .before .before .before .before .before .loop .p) (c .before .before .before .before .before .before .loop .positions) (c .before .before .before .before .before .before .loop .inv .0 bits hashes) (c .before .before .end .given .0 .0) (l .inv .3) (end-held (typeRecords (a .types .now)) (nodesOf [] [] (nodeRecords (a .nodes .now))) (arrowRecords (a .arrows .now)) (a .witness .now) (a .count) (c .before .before .before .before .before .before .before .held .result .now) (c .before .before .before .before .before .before .before .held .ensures) (l .i) (l .p) _
           (sym (c .before .before .end .given .1) ∙ c .before .before .before .before .node-end .ensures [] []))),
-      length-set (l .positions) (c .wide .result) (l .p) ∙ l .inv .4,
+      length-set (l .positions) (c .place .result) (l .p) ∙ l .inv .4,
     )
 
 all-used-requires : tie.Need-all-used-requires Inv-loop μ-loop
@@ -121,7 +121,7 @@ check-witness-spec =
     unread-requires
     returns
     cast-positions
-    wide-requires
+    place-requires
     mul-positions
     array-write-positions
     add-i

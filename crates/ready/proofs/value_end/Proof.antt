@@ -24,8 +24,8 @@ returns c = let a = c .before .before .before .before .before .before .before .a
     ends-nowhere (tyAt (typeRecords (a .types .now)) (a .i)) (a .p) (a .count) (streamOf (a .s .now))
     (sym (c .enum-told .given .1) ∙ c .before .before .skip .ensures ∙ skip-ends (a .types .now) (a .widths .now) (a .next .now) (c .before .before .before .before .before .before .before .pre .0) (a .i) (a .p) (drop (a .p) (streamOf (a .s .now))))
 
-wide-requires : tie.Need-wide-requires
-wide-requires c κs = search needs
+place-requires : tie.Need-place-requires
+place-requires c κs = search needs
 
 returns-2 : tie.Need-returns-2
 returns-2 c = let a = c .before .before .before .before .before .before .before .before .before .before .args in
@@ -42,4 +42,4 @@ returns-3 c = let a = c .before .before .before .before .before .before .before 
 pub value-end-spec : {M : Type 1} → statement M
 value-end-spec =
     tie.close
-    (tie.spec skip-requires enum-known-end enum-told returns wide-requires returns-2 returns-3)
+    (tie.spec skip-requires enum-known-end enum-told returns place-requires returns-2 returns-3)

@@ -9,10 +9,10 @@ use Rattle.bit_machine.proofs.run.run_ready.Statement.{statement}
 use Rattle.bit_machine.proofs.run.run_ready.Tie as tie
 use Rattle.bit_machine.proofs.run.run_ready.Reads as reads
 use Rattle.bit_machine.proofs.run.run_ready.Lts as lts
-use Rattle.bit_machine.proofs.run.bytes_for.Reads as bytes-for-reads
+use Rattle.common.proofs.bytes_for.Reads as bytes-for-reads
 use Rattle.bit_machine.proofs.run.refusal_of.Reads as refusal-of-reads
 use Rattle.bit_machine.proofs.run.run_node.Reads as run-node-reads
-use Rattle.bit_machine.proofs.wide.Reads as wide-reads
+use Rattle.common.proofs.place.Reads as place-reads
 use Rattle.bit_machine.proofs.run.write_output.Reads as write-output-reads
 use Rattle.lookup.proofs.source_width.Reads as source-width-reads
 use Rattle.lookup.proofs.target_at.Reads as target-at-reads
@@ -34,8 +34,8 @@ cast-last c =
 bytes-for-requires : tie.Need-bytes-for-requires
 bytes-for-requires c κs = search needs
 
-wide-requires : tie.Need-wide-requires
-wide-requires c κs = search needs
+place-requires : tie.Need-place-requires
+place-requires c κs = search needs
 
 mul-numbers : tie.Need-mul-numbers
 mul-numbers c = search needs
@@ -44,19 +44,19 @@ slice-relend-prefix-run-node : tie.Need-slice-relend-prefix-run-node
 slice-relend-prefix-run-node c = search needs
 
 slice-aggregate-run-node : tie.Need-slice-aggregate-run-node
-slice-aggregate-run-node c = sym (length-take-le _ _ (cells-inside (c .before .before .before .before .before .before .before .before .before .before .before .before .before .before .before .before .before .pre .1) _ (c .before .before .bytes-for .ensures .0) _ (records-sized (c .before .wide .ensures .0))))
+slice-aggregate-run-node c = sym (length-take-le _ _ (cells-inside (c .before .before .before .before .before .before .before .before .before .before .before .before .before .before .before .before .before .pre .1) _ (c .before .before .bytes-for .ensures .0) _ (records-sized (c .before .place .ensures .0))))
 
 slice-relend-prefix-run-node-2 : tie.Need-slice-relend-prefix-run-node-2
 slice-relend-prefix-run-node-2 c = search needs
 
 slice-aggregate-run-node-2 : tie.Need-slice-aggregate-run-node-2
-slice-aggregate-run-node-2 c = sym (length-take-le _ _ (frames-inside (c .before .before .before .before .before .before .before .before .before .before .before .before .before .before .before .before .before .before .pre .1) _ (c .before .before .before .bytes-for .ensures .0) _ (records-sized (c .before .before .wide .ensures .0))))
+slice-aggregate-run-node-2 c = sym (length-take-le _ _ (frames-inside (c .before .before .before .before .before .before .before .before .before .before .before .before .before .before .before .before .before .before .pre .1) _ (c .before .before .before .bytes-for .ensures .0) _ (records-sized (c .before .before .place .ensures .0))))
 
 run-node-requires : tie.Need-run-node-requires
 run-node-requires c κs =
     let start = c .before .before .before .before .before .before .before .before .before .before .before .before .before .before .before .before .before .before in
     let bytes-for-there = c .before .before .before .bytes-for in
-    ((start .pre .0), (part-within (start .pre .1) _ (bytes-for-there .ensures .0) _ (records-sized (c .before .before .wide .ensures .0)), node-ok (start .pre .1) _ (bytes-for-there .ensures .0) _ (records-sized (c .before .before .wide .ensures .0)) _ (last-is (start .args .types .now) (start .args .nodes .now) (start .args .arrows .now) (start .args .program .now) (start .args .hashes .now) (start .args .given .now) (start .args .witness .now) (start .args .positions .now))))
+    ((start .pre .0), (part-within (start .pre .1) _ (bytes-for-there .ensures .0) _ (records-sized (c .before .before .place .ensures .0)), node-ok (start .pre .1) _ (bytes-for-there .ensures .0) _ (records-sized (c .before .before .place .ensures .0)) _ (last-is (start .args .types .now) (start .args .nodes .now) (start .args .arrows .now) (start .args .program .now) (start .args .hashes .now) (start .args .given .now) (start .args .witness .now) (start .args .positions .now))))
 
 enum-told : tie.Need-enum-told
 enum-told c = search needs
@@ -72,7 +72,7 @@ write-output-requires c κs =
     let start = c .before .before .before .before .before .before .before .before .before .before .before .before .before .before .before .before .before .before .before .before .before .before .before .before .before .before .before .before .before in
     let bytes-for-there = c .before .before .before .before .before .before .before .before .before .before .before .before .before .before .bytes-for in
     let run-node-call = c .before .before .before .before .before .before .before .before .before .before .run-node in
-    let f = output-fits (start .pre .1) _ (bytes-for-there .ensures .0) _ (records-sized (c .before .before .before .before .before .before .before .before .before .before .before .before .before .wide .ensures .0)) _ _ (source-size (start .pre .0) _ (last-is (start .args .types .now) (start .args .nodes .now) (start .args .arrows .now) (start .args .program .now) (start .args .hashes .now) (start .args .given .now) (start .args .witness .now) (start .args .positions .now)) _ (c .before .before .source-width .ensures)) (target-size (start .pre .0) _ (last-is (start .args .types .now) (start .args .nodes .now) (start .args .arrows .now) (start .args .program .now) (start .args .hashes .now) (start .args .given .now) (start .args .witness .now) (start .args .positions .now)) _ (c .before .before .before .target-at .ensures)) _ (length-front (start .args .cells .now) (run-node-call .last .1 .1 .1 .1 .1 .1 .1 .1 .1 .1 .1 .0) (bytes-for-there .result) (run-node-call .kept .1 .1 .1 .1 .1 .1 .1 .1 .1 .1 .1 .0)) in
+    let f = output-fits (start .pre .1) _ (bytes-for-there .ensures .0) _ (records-sized (c .before .before .before .before .before .before .before .before .before .before .before .before .before .place .ensures .0)) _ _ (source-size (start .pre .0) _ (last-is (start .args .types .now) (start .args .nodes .now) (start .args .arrows .now) (start .args .program .now) (start .args .hashes .now) (start .args .given .now) (start .args .witness .now) (start .args .positions .now)) _ (c .before .before .source-width .ensures)) (target-size (start .pre .0) _ (last-is (start .args .types .now) (start .args .nodes .now) (start .args .arrows .now) (start .args .program .now) (start .args .hashes .now) (start .args .given .now) (start .args .witness .now) (start .args .positions .now)) _ (c .before .before .before .target-at .ensures)) _ (length-front (start .args .cells .now) (run-node-call .last .1 .1 .1 .1 .1 .1 .1 .1 .1 .1 .1 .0) (bytes-for-there .result) (run-node-call .kept .1 .1 .1 .1 .1 .1 .1 .1 .1 .1 .1 .0)) in
     ((start .pre .0) .typed, (f .0, f .1))
 
 enum-known-ran : tie.Need-enum-known-ran
@@ -94,7 +94,7 @@ returns : tie.Need-returns
 returns c =
     let start = c .before .before .before .before .before .before .before .before .before .before .before .before .before .before .before .before .before .before .before .before .before .before .before .before .before .before .before .before .before .before .before .before in
     let run-node-call = c .before .before .before .before .before .before .before .before .before .before .before .before .before .run-node in
-    ends-done (start .pre .1) _ (c .before .before .before .before .before .before .before .before .before .before .before .before .before .before .before .before .before .bytes-for .ensures .0) _ (records-sized (c .before .before .before .before .before .before .before .before .before .before .before .before .before .before .before .before .wide .ensures .0)) _ (last-is (start .args .types .now) (start .args .nodes .now) (start .args .arrows .now) (start .args .program .now) (start .args .hashes .now) (start .args .given .now) (start .args .witness .now) (start .args .positions .now)) _ _ refl (λ j. omega (arith, c .before .before .before .before .before .before .before .before .before .before .before .slice-known4 .given j)) _ (run-node-call .ensures .1) (run-node-call .result) _ (c .before .before .before .before .before .before .before .enum-told .given .1) (run-node-call .ensures .0)
+    ends-done (start .pre .1) _ (c .before .before .before .before .before .before .before .before .before .before .before .before .before .before .before .before .before .bytes-for .ensures .0) _ (records-sized (c .before .before .before .before .before .before .before .before .before .before .before .before .before .before .before .before .place .ensures .0)) _ (last-is (start .args .types .now) (start .args .nodes .now) (start .args .arrows .now) (start .args .program .now) (start .args .hashes .now) (start .args .given .now) (start .args .witness .now) (start .args .positions .now)) _ _ refl (λ j. omega (arith, c .before .before .before .before .before .before .before .before .before .before .before .slice-known4 .given j)) _ (run-node-call .ensures .1) (run-node-call .result) _ (c .before .before .before .before .before .before .before .enum-told .given .1) (run-node-call .ensures .0)
     _ _ (target-is (start .pre .0) _ (last-is (start .args .types .now) (start .args .nodes .now) (start .args .arrows .now) (start .args .program .now) (start .args .hashes .now) (start .args .given .now) (start .args .witness .now) (start .args .positions .now)) _ (c .before .before .before .before .before .before .target-at .ensures)) (source-size (start .pre .0) _ (last-is (start .args .types .now) (start .args .nodes .now) (start .args .arrows .now) (start .args .program .now) (start .args .hashes .now) (start .args .given .now) (start .args .witness .now) (start .args .positions .now)) _ (c .before .before .before .before .before .source-width .ensures)) _ _ (c .before .before .write-output .ensures .0) (c .before .before .write-output .ensures .1)
 
 same-length-4 : tie.Need-same-length-4
@@ -107,7 +107,7 @@ returns-2 : tie.Need-returns-2
 returns-2 c =
     let start = c .before .before .before .before .before .before .before .before .before .before .before .before .before .before .before .before .before .before .before .before .before .before .before .before .before .before .before in
     let run-node-call = c .before .before .before .before .before .before .before .before .run-node in
-    ends-stopped (start .pre .1) _ (c .before .before .before .before .before .before .before .before .before .before .before .before .bytes-for .ensures .0) _ (records-sized (c .before .before .before .before .before .before .before .before .before .before .before .wide .ensures .0)) _ (last-is (start .args .types .now) (start .args .nodes .now) (start .args .arrows .now) (start .args .program .now) (start .args .hashes .now) (start .args .given .now) (start .args .witness .now) (start .args .positions .now)) _ _ refl (λ j. omega (arith, c .before .before .before .before .before .before .slice-known4 .given j)) _ (run-node-call .ensures .1) (run-node-call .result) _ _ (c .before .before .ran .given .1) (run-node-call .ensures .0) _ (c .refusal-of .ensures)
+    ends-stopped (start .pre .1) _ (c .before .before .before .before .before .before .before .before .before .before .before .before .bytes-for .ensures .0) _ (records-sized (c .before .before .before .before .before .before .before .before .before .before .before .place .ensures .0)) _ (last-is (start .args .types .now) (start .args .nodes .now) (start .args .arrows .now) (start .args .program .now) (start .args .hashes .now) (start .args .given .now) (start .args .witness .now) (start .args .positions .now)) _ _ refl (λ j. omega (arith, c .before .before .before .before .before .before .slice-known4 .given j)) _ (run-node-call .ensures .1) (run-node-call .result) _ _ (c .before .before .ran .given .1) (run-node-call .ensures .0) _ (c .refusal-of .ensures)
 
 pub run-ready-spec : {M : Type 1} → statement M
 run-ready-spec =
@@ -116,7 +116,7 @@ run-ready-spec =
     sub-last
     cast-last
     bytes-for-requires
-    wide-requires
+    place-requires
     mul-numbers
     slice-relend-prefix-run-node
     slice-aggregate-run-node

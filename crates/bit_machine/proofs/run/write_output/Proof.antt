@@ -8,7 +8,7 @@ use Rattle.bit_machine.proofs.run.write_output.Statement.{statement}
 use Rattle.bit_machine.proofs.run.write_output.Tie as tie
 use Rattle.bit_machine.proofs.run.write_output.Reads as reads
 use Rattle.bit_machine.proofs.run.write_output.Lts as lts
-use Rattle.bit_machine.proofs.run.bytes_for.Reads as bytes-for-reads
+use Rattle.common.proofs.bytes_for.Reads as bytes-for-reads
 use Rattle.cells.proofs.zero_cells.Reads as zero-cells-reads
 use Rattle.value.proofs.unpad.Reads as unpad-reads
 

@@ -4,7 +4,7 @@ use Rattle.bit_machine.proofs.values.write_hash.Tie as tie
 use Rattle.bit_machine.proofs.values.write_hash.Reads as reads
 use Rattle.bit_machine.proofs.values.write_hash.Lts as lts
 use Rattle.bit_machine.proofs.rules.write_bits.Reads as write-bits-reads
-use Rattle.bit_machine.proofs.wide.Reads as wide-reads
+use Rattle.common.proofs.place.Reads as place-reads
 use Rattle.hashes.proofs.Branch.{branch-holds}
 use Rattle.hashes.proofs.branch_hash.Reads as branch-hash-reads
 use native.Mathlib.Omega.{arith}
@@ -17,27 +17,27 @@ use Rattle.layout.specs.Rules.{bitsWritten}
 use Rattle.scope.specs.Hashes.{branchHash}
 use Rattle.bit_machine.proofs.Written.{hash-short, hash-count, hash-bits, written-as}
 
-wide-requires : tie.Need-wide-requires
-wide-requires c κs = search needs
+place-requires : tie.Need-place-requires
+place-requires c κs = search needs
 
 branch-hash-requires : tie.Need-branch-hash-requires
 branch-hash-requires c κs = search needs
 
 cast-n : tie.Need-cast-n
 cast-n c =
-    let short = hash-short (c .branch-hash .result .now) _ _ _ (branch-holds _ _ _ _ _ (c .branch-hash .ensures) ∙ ap (branchHash _ _) (c .before .wide .ensures .0)) in
+    let short = hash-short (c .branch-hash .result .now) _ _ _ (branch-holds _ _ _ _ _ (c .branch-hash .ensures) ∙ ap (branchHash _ _) (c .before .place .ensures .0)) in
     omega arith
 
 mul-n : tie.Need-mul-n
 mul-n c =
-    let short = hash-short (c .branch-hash .result .now) _ _ _ (branch-holds _ _ _ _ _ (c .branch-hash .ensures) ∙ ap (branchHash _ _) (c .before .wide .ensures .0)) in
+    let short = hash-short (c .branch-hash .result .now) _ _ _ (branch-holds _ _ _ _ _ (c .branch-hash .ensures) ∙ ap (branchHash _ _) (c .before .place .ensures .0)) in
     omega arith
 
 write-bits-requires : tie.Need-write-bits-requires
 write-bits-requires c κs =
     let start = c .before .before .before .before .before .before .before .before .before in
-    let wide-there = c .before .before .before .wide in
-    let e = hash-count (branch-holds _ _ _ _ _ (c .before .before .branch-hash .ensures) ∙ ap (branchHash _ _) (wide-there .ensures .0)) in (
+    let place-there = c .before .before .before .place in
+    let e = hash-count (branch-holds _ _ _ _ _ (c .before .before .branch-hash .ensures) ∙ ap (branchHash _ _) (place-there .ensures .0)) in (
       start .pre .0,
       (
         omega (arith, length-bits (c .before .before .branch-hash .result .now)),
@@ -54,7 +54,7 @@ same-length-2 c = search needs
 returns : tie.Need-returns
 returns c =
     let found = c .before .before .before .before .before .before .before .branch-hash in
-    let there = c .before .before .before .before .before .before .before .before .wide in
+    let there = c .before .before .before .before .before .before .before .before .place in
     c .before .before .before .before .write-bits .ensures
     ∙ written-as _ (hash-bits (branch-holds _ _ _ _ _ (found .ensures) ∙ ap (branchHash _ _) (there .ensures .0)))
 
@@ -62,7 +62,7 @@ pub write-hash-spec : {M : Type 1} → statement M
 write-hash-spec =
     tie.close
     (tie.spec
-    wide-requires
+    place-requires
     branch-hash-requires
     cast-n
     mul-n

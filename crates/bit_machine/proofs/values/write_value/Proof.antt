@@ -5,7 +5,7 @@ use Rattle.bit_machine.proofs.values.write_value.Reads as reads
 use Rattle.bit_machine.proofs.values.write_value.Lts as lts
 use Rattle.bit_machine.proofs.rules.skip.Reads as skip-reads
 use Rattle.bit_machine.proofs.rules.write_cursor.Reads as write-cursor-reads
-use Rattle.bit_machine.proofs.wide.Reads as wide-reads
+use Rattle.common.proofs.place.Reads as place-reads
 use Rattle.types.proofs.width_at.Reads as width-at-reads
 use Rattle.value.proofs.pad.Reads as pad-reads
 use native.Mathlib.Omega.{arith}
@@ -30,8 +30,8 @@ write-cursor-requires c κs =
     let h = (c .before .before .before .before .before .before .before .before .before .pre .1 .1 .1) (omega (arith, c .before .before .width-at .ensures, c .before .if1 .left)) in
     (h .some, h .held)
 
-wide-requires : tie.Need-wide-requires
-wide-requires c κs = search needs
+place-requires : tie.Need-place-requires
+place-requires c κs = search needs
 
 pad-requires : tie.Need-pad-requires
 pad-requires c κs = search needs
@@ -60,7 +60,7 @@ returns-2 c =
     c .before .before .skip .ensures _
     ∙ value-written (start .pre .0) (start .args .k) (streamOf (start .args .source .now)) (start .args .p) (start .pre .1 .1 .0) (width-at-call .result) (width-at-call .ensures) _ _ _ _ _ (if1-there .left) (rw e ((start .pre .1 .1 .1) (omega (arith, if1-there .left)))) (let z = start .pre .1 .0 .cells in omega (arith, length-bits (start .args .cells .now)))
     (write-cursor-call .result) (write-cursor-call .ensures) (pad-call .result) _
-    (rw (sym (c .before .before .before .before .before .before .before .before .wide .ensures .0)) (pad-call .ensures))
+    (rw (sym (c .before .before .before .before .before .before .before .before .place .ensures .0)) (pad-call .ensures))
 
 pub write-value-spec : {M : Type 1} → statement M
 write-value-spec =
@@ -69,7 +69,7 @@ write-value-spec =
     width-at-requires
     returns
     write-cursor-requires
-    wide-requires
+    place-requires
     pad-requires
     skip-requires
     same-length
