@@ -1,5 +1,7 @@
--- The number and the place of each refusal, as the requirements' table has them.
+-- The number and the place of each refusal, as the requirements' table has them, and whether it keeps the decoded table.
+use mathlib.Core.Bool.{Bool, true, false}
 use Prim.Native.Nat.{ℕ}
+use lib.Dec.{ltb}
 use Rattle.refusal.specs.declared.Refusal.{Refusal}
 use Rattle.refusal.specs.declared.Refusal.the-variants.{Header, TypeRecord, StreamEnded, Natural, Jet, CanonicalOrder, HiddenElsewhere, BothHidden, HiddenRepeated, Closing, OneChildDisconnect, Arrow, Hash, OverLimit, Witness, Input, StoreShort, FailReached, PrunedReached, NodeRecord}
 
@@ -46,3 +48,26 @@ placeOf (StoreShort at) = at
 placeOf (FailReached at) = at
 placeOf (PrunedReached at) = at
 placeOf (NodeRecord at) = at
+
+-- whether the node and hash stores keep the decoded table: they are zero after 1 to 13, and after 17 at 3 and 4
+abbrev pub keepsTable : Refusal → Bool
+keepsTable (Header at) = false
+keepsTable (TypeRecord at) = false
+keepsTable (StreamEnded at) = false
+keepsTable (Natural at) = false
+keepsTable (Jet at) = false
+keepsTable (CanonicalOrder at) = false
+keepsTable (HiddenElsewhere at) = false
+keepsTable (BothHidden at) = false
+keepsTable (HiddenRepeated at) = false
+keepsTable (Closing at) = false
+keepsTable (OneChildDisconnect at) = false
+keepsTable (Arrow at) = false
+keepsTable (Hash at) = false
+keepsTable (OverLimit at) = true
+keepsTable (Witness at) = true
+keepsTable (Input at) = true
+keepsTable (StoreShort at) = ltb at 3
+keepsTable (FailReached at) = true
+keepsTable (PrunedReached at) = true
+keepsTable (NodeRecord at) = true

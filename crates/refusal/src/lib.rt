@@ -1,8 +1,8 @@
 // Every way in which a run says no: one case for each number of the requirements' table, with its place.
-// `number` and `place` give what the table says, and `Answer` is what a whole run says.
+// `number` and `place` give what the table says, `keeps_table` which ends keep the decoded table, and `Answer` is what a whole run says.
 // Another refusal is one line more in each of the lists here and in specs/Numbers, and touches no other crate.
 ghost use mathlib.Core.Path.{_≡_};
-ghost use Rattle.refusal.specs.Numbers.{numberOf, placeOf};
+ghost use Rattle.refusal.specs.Numbers.{numberOf, placeOf, keepsTable};
 
 pub enum Refusal {
     // 1: dossier too short or too long, or a header number against the rules. Place: 0, or the byte position of the number.
@@ -106,5 +106,33 @@ pub fn place(refusal: Refusal) -> u32
         Refusal::FailReached(at) => at,
         Refusal::PrunedReached(at) => at,
         Refusal::NodeRecord(at) => at,
+    }
+}
+
+// Whether the node and hash stores keep the decoded table after the refusal. A store that is short at 3 or 4 has none yet.
+pub fn keeps_table(refusal: Refusal) -> bool
+    ensures { λ r. ⌜ r ≡ keepsTable refusal ⌝ }
+{
+    match refusal {
+        Refusal::Header(_) => false,
+        Refusal::TypeRecord(_) => false,
+        Refusal::StreamEnded(_) => false,
+        Refusal::Natural(_) => false,
+        Refusal::Jet(_) => false,
+        Refusal::CanonicalOrder(_) => false,
+        Refusal::HiddenElsewhere(_) => false,
+        Refusal::BothHidden(_) => false,
+        Refusal::HiddenRepeated(_) => false,
+        Refusal::Closing(_) => false,
+        Refusal::OneChildDisconnect(_) => false,
+        Refusal::Arrow(_) => false,
+        Refusal::Hash(_) => false,
+        Refusal::OverLimit(_) => true,
+        Refusal::Witness(_) => true,
+        Refusal::Input(_) => true,
+        Refusal::StoreShort(at) => at < 3,
+        Refusal::FailReached(_) => true,
+        Refusal::PrunedReached(_) => true,
+        Refusal::NodeRecord(_) => true,
     }
 }
