@@ -16,7 +16,7 @@ use Rattle.scope.specs.Arrows.{arrowRecords}
 use Rattle.scope.specs.Program.{Program, termAt}
 use Rattle.scope.specs.Bounds.{Bound, bounds, wholeCells, wholeFrames, wholeCost, checkBounds}
 use Rattle.scope.specs.Run.{programOf}
-use Rattle.scope.specs.Stages.{counted, lent, arrowStage, boundsStage}
+use Rattle.scope.specs.Stages.{counted, tablesLent, arrowStage, boundsStage}
 use Rattle.common.specs.Checks.{clash, then-passes, then-then, passes}
 use Rattle.types.specs.Table.{checkTable, typeWidths}
 use Rattle.types.proofs.Sound.{Passed, passed-table, widths-are}
@@ -74,7 +74,7 @@ module _ (types nodes arrows program hashes : List ℕ) where
       (given witness : List ℕ) (witnessBits : ℕ) (input : List ℕ) (inputBits : ℕ) (values : List Val) where
     -- the program of the tables
     abbrev pub lentProgram : Program
-    lentProgram = programOf (lent types nodes arrows program hashes given witness witnessBits input inputBits) values
+    lentProgram = programOf (tablesLent types nodes arrows program hashes given witness witnessBits input inputBits) values
 
     -- the tables passed
     tables : LentPassed types nodes program hashes
@@ -83,14 +83,14 @@ module _ (types nodes arrows program hashes : List ℕ) where
     -- THE BOUNDS OF EVERY NODE ARE THOSE OF ITS TERM
     pub node-bounds : (i : ℕ) → boundAt (typeRecords types) (typeWidths types) (nodeRecords nodes) (arrowRecords arrows) i
         ≡ bounds (termAt lentProgram i)
-    unfolding programOf lent
+    unfolding programOf tablesLent
     node-bounds =
         bounds-are (typeRecords types) (nodeRecords nodes) (arrowRecords arrows) (streamOf program) hashes values (lentProgram .hash)
         (typeWidths types) (passed-widths tables) (passed-parts tables) (lent-below types nodes program hashes tables)
 
     -- THE WHOLE PROGRAM'S BOUNDS ARE JUDGED AS THE REQUIREMENTS ASK
     pub whole-judged : countedBounds types (typeWidths types) nodes arrows ≡ judgedBounds lentProgram
-    unfolding countedBounds programOf lent
+    unfolding countedBounds programOf tablesLent
     whole-judged =
         then-passes (counted (length (nodeRecords nodes)) nodeCount)
         (λ some. limited (lentTotals (typeRecords types) (typeWidths types) (nodeRecords nodes) (arrowRecords arrows))) tt (tables .nodes-counted)
@@ -99,16 +99,16 @@ module _ (types nodes arrows program hashes : List ℕ) where
 
   -- the stage in its two parts
   pub stage-by : (arrowStage types nodes arrows program hashes >>= λ arrowed. judgedBounds
-      (programOf (lent types nodes arrows program hashes [] [] 0 [] 0) []))
+      (programOf (tablesLent types nodes arrows program hashes [] [] 0 [] 0) []))
       ≡ stageBounds types nodes arrows program hashes
   unfolding stageBounds boundsStage
   stage-by =
       sym (then-then (arrowStage types nodes arrows program hashes)
-      (λ arrowed. checkBounds (programOf (lent types nodes arrows program hashes [] [] 0 [] 0) []))
-      (λ within. passed (programTotals (programOf (lent types nodes arrows program hashes [] [] 0 [] 0) []))))
+      (λ arrowed. checkBounds (programOf (tablesLent types nodes arrows program hashes [] [] 0 [] 0) []))
+      (λ within. passed (programTotals (programOf (tablesLent types nodes arrows program hashes [] [] 0 [] 0) []))))
 
   -- what follows the arrows, where they passed
   pub stage-last : arrowStage types nodes arrows program hashes ≡ passed tt → countedBounds types (typeWidths types) nodes arrows
       ≡ stageBounds types nodes arrows program hashes
   stage-last e = whole-judged e [] [] 0 [] 0 []
-      ∙ passes e (λ arrowed. judgedBounds (programOf (lent types nodes arrows program hashes [] [] 0 [] 0) [])) ∙ stage-by
+      ∙ passes e (λ arrowed. judgedBounds (programOf (tablesLent types nodes arrows program hashes [] [] 0 [] 0) [])) ∙ stage-by

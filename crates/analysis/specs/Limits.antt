@@ -10,7 +10,7 @@ use Rattle.scope.specs.Arrows.{Arrow, arrowRecords}
 use Rattle.scope.specs.Program.{Program}
 use Rattle.scope.specs.Bounds.{Bound, checkLimits, wholeCells, wholeFrames, wholeCost}
 use Rattle.scope.specs.Run.{programOf}
-use Rattle.scope.specs.Stages.{counted, lent, boundsStage}
+use Rattle.scope.specs.Stages.{counted, tablesLent, boundsStage}
 use Rattle.common.specs.declared.Checked.{Checked}
 use Rattle.common.specs.declared.Checked.the-variants.{Passed, Refused as Stopped}
 use Rattle.lookup.specs.Lookup.{sourceWidth, targetWidth}
@@ -57,7 +57,7 @@ programTotals P = record { cells = wholeCells P; frames = wholeFrames P; cost = 
 
 -- up to 12, then 14, and the numbers
 unfoldable pub stageBounds : (types nodes arrows program hashes : List ℕ) → Check Bound
-unfolding _>>=_ boundsStage programOf lent programTotals
+unfolding _>>=_ boundsStage programOf tablesLent programTotals
 stageBounds types nodes arrows program hashes = do
   within ← boundsStage types nodes arrows program hashes
-  passed (programTotals (programOf (lent types nodes arrows program hashes [] [] 0 [] 0) []))
+  passed (programTotals (programOf (tablesLent types nodes arrows program hashes [] [] 0 [] 0) []))

@@ -22,7 +22,7 @@ use Rattle.scope.specs.Arrows.{arrowRecords, source, target}
 use Rattle.scope.specs.Hashes.{branchHash}
 use Rattle.scope.specs.Program.{Program, valueFrom, sourceTy, targetTy, termAt}
 use Rattle.scope.specs.Run.{programOf}
-use Rattle.scope.specs.Stages.{lent}
+use Rattle.scope.specs.Stages.{tablesLent}
 use Rattle.layout.specs.Mach.{Mach}
 use Rattle.layout.specs.Rules.{bitWritten, bitsWritten, skipped, copied, forwarded, peeked}
 use Rattle.layout.specs.Exec.{runTerm, pairing, composing, disconnecting}
@@ -72,11 +72,11 @@ module _ {types widths next nodes arrows program hashes given witnesses position
     is-witness = by-kind 12 e
 
     pub witness-reads : Reads (tyAt (typeRecords types) k) (drop p (streamOf witnesses))
-    unfolding programAt programOf lent
+    unfolding programAt programOf tablesLent
     witness-reads = rw (ek, ep) (shown .witnessHeld i is-witness)
 
     value-is : padded (tyAt (typeRecords types) k) (valueFrom (tyAt (typeRecords types) k) (drop p (streamOf witnesses))) ≡ padded (targetTy P i) (getD (P .witnesses) i ⟨⟩)
-    unfolding programAt programOf lent targetTy
+    unfolding programAt programOf tablesLent targetTy
     value-is = rw (ek, ep) (ap (padded (targetTy P i)) (sym (Lent.witness-is shown i is-witness)))
 
     pub witness-need : 0 < getD widths k 0 → WriteOk (length (m .bits)) (getD widths k 0) m
@@ -191,7 +191,7 @@ module _ {types widths next nodes arrows program hashes given witnesses position
     Found j x = x ≡ hiddenAt (nodesOf [] [] (nodeRecords nodes)) j
 
     found : (j : ℕ) (x : Bool) → Found j x → hiddenAt (P .nodes) j ≡ x
-    unfolding programAt programOf lent
+    unfolding programAt programOf tablesLent
     found j x f = hidden-kind (streamOf program) hashes (nodeRecords nodes) j ∙ sym (f ∙ hidden-kind [] [] (nodeRecords nodes) j)
 
     pub left-pruned : peeked m ≡ 0 → (x : Bool) → Found (r .first) x → x ≡ true → runTerm (termAt P i) m ≡ pruned i m

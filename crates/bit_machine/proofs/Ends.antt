@@ -22,7 +22,7 @@ use Rattle.scope.specs.Program.{Program, last, whole, wholeSource, wholeTarget,
 use Rattle.scope.specs.Bounds.{wholeCells, wholeFrames}
 use Rattle.scope.specs.Machine.{State, Step, machine}
 use Rattle.scope.specs.Run.{Left, programOf, cellsOf, packed, cleared, written, leftWith, ends, ran}
-use Rattle.scope.specs.Stages.{lent}
+use Rattle.scope.specs.Stages.{tablesLent}
 use Rattle.common.specs.Checks.{clash}
 use Rattle.layout.specs.Mach.{Mach, empty}
 use Rattle.layout.specs.Exec.{runWhole}
@@ -48,7 +48,7 @@ use Rattle.bit_machine.specs.declared.Ran.the-variants.{Done, Stopped}
 -- as many nodes as the lent table has records
 pub nodes-many : (types nodes arrows program hashes given witnesses positions : List ℕ)
     → length (programAt types nodes arrows program hashes given witnesses positions .nodes) ≡ length nodes / nodeNumbers
-unfolding programAt programOf lent
+unfolding programAt programOf tablesLent
 nodes-many types nodes arrows program hashes given witnesses positions = length-nodes (streamOf program) hashes (nodeRecords nodes) ∙ length-records nodes
 
 pub last-is : (types nodes arrows program hashes given witnesses positions : List ℕ)
@@ -69,7 +69,7 @@ module _ {types widths next nodes arrows program hashes given witnesses position
 
   module _ (k : ℕ) (ek : k ≡ target (arrowRecords arrows) i) where
     pub target-is : tyAt (typeRecords types) k ≡ wholeTarget Q
-    unfolding wholeTarget targetTy programAt programOf lent
+    unfolding wholeTarget targetTy programAt programOf tablesLent
     target-is = ap (tyAt (typeRecords types)) ek ∙ ap (targetTy Q) e
 
     pub target-size : getD widths k 0 ≡ width (wholeTarget Q)

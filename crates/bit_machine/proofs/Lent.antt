@@ -21,10 +21,10 @@ use Rattle.scope.specs.Numbers.{streamOf}
 use Rattle.scope.specs.Types.{typeRecords, tyAt, leftAt, rightAt}
 use Rattle.scope.specs.Nodes.{kindOf, NodeRecord, nodeRecords, noNode, nodeOf, nodesOf, nodeAt, onHidden, onWitness}
 use Rattle.scope.specs.Arrows.{arrowRecords, source, target}
-use Rattle.scope.specs.Hashes.{rights, whole, entry, entryFor, branchHash}
+use Rattle.scope.specs.Hashes.{rights, wholeHash, entry, entryFor, branchHash}
 use Rattle.scope.specs.Program.{Program, valueFrom, sourceTy, targetTy}
 use Rattle.scope.specs.Run.{programOf}
-use Rattle.scope.specs.Stages.{lent}
+use Rattle.scope.specs.Stages.{tablesLent}
 use Rattle.common.specs.Bits.{AllBelow, AreBits, below-take, below-drop, are-bits, length-bits, stream-within}
 use Rattle.exactness.specs.Values.{width-word}
 use Rattle.value.proofs.Types.{read-fit}
@@ -41,8 +41,8 @@ use Rattle.common.specs.Nodes.{node-at}
 abbrev pub Whole : List ℕ → Type 0
 Whole bytes = (length bytes ≡ hashBytes) ⊎ (bytes ≡ [])
 
-whole-or-none : (bytes : List ℕ) → Whole (whole bytes)
-unfolding whole
+whole-or-none : (bytes : List ℕ) → Whole (wholeHash bytes)
+unfolding wholeHash
 whole-or-none bytes = go (eqb (length bytes) hashBytes) refl
   where
     go : (x : Bool) → eqb (length bytes) hashBytes ≡ x → Whole (elim x [ true ↦ bytes | false ↦ [] ])
@@ -54,11 +54,11 @@ unfolding entryFor
 entry-whole ns given j e [] = inr refl
 entry-whole ns given j e (r ∷ rs) = go (eqb r j) (entry-whole ns given j (suc e) rs)
   where
-    go : (x : Bool) → Whole (entryFor ns given j (suc e) rs) → Whole (elim x [ true ↦ whole (entry given e) | false ↦ entryFor ns given j (suc e) rs ])
+    go : (x : Bool) → Whole (entryFor ns given j (suc e) rs) → Whole (elim x [ true ↦ wholeHash (entry given e) | false ↦ entryFor ns given j (suc e) rs ])
     go true later = whole-or-none (entry given e)
     go false later = later
 
-hidden-whole : (n : Node) (o : List ℕ) → Whole o → Whole (onHidden n whole o)
+hidden-whole : (n : Node) (o : List ℕ) → Whole o → Whole (onHidden n wholeHash o)
 unfolding onHidden
 hidden-whole (Node.comp a b) o h = h
 hidden-whole (Node.case a b) o h = h
@@ -93,22 +93,22 @@ module _ {types widths next nodes arrows program hashes given witnesses position
 
   -- node i is that of its record
   pub node-is : (r : NodeRecord) → r ≡ recordAt nodes i → nodeAt (P .nodes) i ≡ nodeOf (streamOf program) hashes (kindOf (r .kind)) (r .first) (r .second)
-  unfolding programAt programOf lent
+  unfolding programAt programOf tablesLent
   node-is r e =
       node-at (streamOf program) hashes (nodeRecords nodes) i
       ∙ ap (λ (r : NodeRecord). nodeOf (streamOf program) hashes (kindOf (r .kind)) (r .first) (r .second)) (sym e)
 
   pub children-below : (j : ℕ) → AllBelow j (children (nodeAt (P .nodes) j))
-  unfolding programAt programOf lent
+  unfolding programAt programOf tablesLent
   children-below j = shown .below j
 
   -- widths of the source and of the target
   pub source-wide : getD widths (source (arrowRecords arrows) i) 0 ≡ width (sourceTy P i)
-  unfolding sourceTy programAt programOf lent
+  unfolding sourceTy programAt programOf tablesLent
   source-wide = width-shown types widths next (shown .typed) (source (arrowRecords arrows) i)
 
   pub target-wide : getD widths (target (arrowRecords arrows) i) 0 ≡ width (targetTy P i)
-  unfolding targetTy programAt programOf lent
+  unfolding targetTy programAt programOf tablesLent
   target-wide = width-shown types widths next (shown .typed) (target (arrowRecords arrows) i)
 
   -- widths of their left parts
@@ -116,11 +116,11 @@ module _ {types widths next nodes arrows program hashes given witnesses position
   part-wide k = width-shown types widths next (shown .typed) (leftAt (typeRecords types) k) ∙ ap width (sym (left-found types widths next (shown .typed) k))
 
   pub source-left-wide : getD widths (leftAt (typeRecords types) (source (arrowRecords arrows) i)) 0 ≡ width (leftOf (sourceTy P i))
-  unfolding sourceTy programAt programOf lent
+  unfolding sourceTy programAt programOf tablesLent
   source-left-wide = part-wide (source (arrowRecords arrows) i)
 
   pub target-left-wide : getD widths (leftAt (typeRecords types) (target (arrowRecords arrows) i)) 0 ≡ width (leftOf (targetTy P i))
-  unfolding targetTy programAt programOf lent
+  unfolding targetTy programAt programOf tablesLent
   target-left-wide = part-wide (target (arrowRecords arrows) i)
 
   -- paddings of a type
@@ -136,11 +136,11 @@ module _ {types widths next nodes arrows program hashes given witnesses position
   right-padded k = rw (part-wide k, other-wide k)
 
   pub target-left-padded : paddingIn types widths (target (arrowRecords arrows) i) .left ≡ padL (leftOf (targetTy P i)) (rightOf (targetTy P i))
-  unfolding targetTy programAt programOf lent
+  unfolding targetTy programAt programOf tablesLent
   target-left-padded = left-padded (target (arrowRecords arrows) i)
 
   pub target-right-padded : paddingIn types widths (target (arrowRecords arrows) i) .right ≡ padR (leftOf (targetTy P i)) (rightOf (targetTy P i))
-  unfolding targetTy programAt programOf lent
+  unfolding targetTy programAt programOf tablesLent
   target-right-padded = right-padded (target (arrowRecords arrows) i)
 
   -- paddings of the sum that is the left part of the source
@@ -148,7 +148,7 @@ module _ {types widths next nodes arrows program hashes given witnesses position
   sumAt = leftAt (typeRecords types) (source (arrowRecords arrows) i)
 
   sum-is : tyAt (typeRecords types) sumAt ≡ leftOf (sourceTy P i)
-  unfolding sourceTy programAt programOf lent
+  unfolding sourceTy programAt programOf tablesLent
   sum-is = sym (left-found types widths next (shown .typed) (source (arrowRecords arrows) i))
 
   pub sum-left-padded : paddingIn types widths sumAt .left ≡ padL (leftOf (leftOf (sourceTy P i))) (rightOf (leftOf (sourceTy P i)))
@@ -159,7 +159,7 @@ module _ {types widths next nodes arrows program hashes given witnesses position
 
   -- the hash of a right child, in cells
   pub hash-is : (j : ℕ) → padded (wordTy 8) (P .hash j) ≡ bitsOf (branchHash (nodesOf [] hashes (nodeRecords nodes)) given j)
-  unfolding programAt programOf lent
+  unfolding programAt programOf tablesLent
   hash-is j =
       hash-cells (branchHash (programNodes nodes program hashes) given j) (hash-whole (programNodes nodes program hashes) given j)
       ∙ ap bitsOf (branch-bits (streamOf program) hashes (nodeRecords nodes) given j)
@@ -174,7 +174,7 @@ module _ {types widths next nodes arrows program hashes given witnesses position
 
   -- a witness's value stands at its position
   pub witness-is : nodeAt (P .nodes) i ≡ Node.witness → getD (P .witnesses) i ⟨⟩ ≡ valueFrom (targetTy P i) (drop (getD positions i 0) (streamOf witnesses))
-  unfolding programAt programOf lent targetTy nodeAt valueOf onWitness
+  unfolding programAt programOf tablesLent targetTy nodeAt valueOf onWitness
   witness-is e = elim (decLt i (length (programNodes nodes program hashes))) [
     | yes h ↦ tabulate-at (valueOf types nodes arrows program hashes witnesses positions) (length (programNodes nodes program hashes)) i ⟨⟩ h
         ∙ ap (λ (n : Node). onWitness n (valueFrom (tyAt (typeRecords types) (target (arrowRecords arrows) i)) (drop (getD positions i 0) (streamOf witnesses))) ⟨⟩) e
@@ -193,14 +193,14 @@ module _ {types widths next nodes arrows program hashes given witnesses position
     size = getD widths (target (arrowRecords arrows) i) 0
 
     word-typed : targetTy P i ≡ wordTy (n - 1)
-    unfolding programAt programOf lent targetTy
+    unfolding programAt programOf tablesLent targetTy
     word-typed = shown .wordTyped i n (take (2 ^ (n - 1)) (drop b (streamOf program))) e
 
     word-wide : size ≡ 2 ^ (n - 1)
     word-wide = target-wide ∙ ap width word-typed ∙ width-word (n - 1)
 
     word-whole : length (take (2 ^ (n - 1)) (drop b (streamOf program))) ≡ 2 ^ (n - 1)
-    unfolding programAt programOf lent
+    unfolding programAt programOf tablesLent
     word-whole = shown .wordWhole i n (take (2 ^ (n - 1)) (drop b (streamOf program))) e
 
     in-bits : streamOf program ≡ bitsOf program

@@ -14,7 +14,7 @@ use Rattle.scope.specs.Program.{Program, valueFrom, whole, wholeSource, wholeTa
 use Rattle.scope.specs.Bounds.{wholeCells, wholeFrames}
 use Rattle.scope.specs.Machine.{machine}
 use Rattle.scope.specs.Run.{Ready, Left, cellsOf, leftWith, ran}
-use Rattle.scope.specs.Stages.{lent, runStage}
+use Rattle.scope.specs.Stages.{tablesLent, runStage}
 use Rattle.common.specs.Nodes.{length-records}
 use Rattle.types.specs.Table.{typeWidths, typeNext}
 use Rattle.ready.specs.Lent.{programAt, Shown}
@@ -47,13 +47,13 @@ module _ (types nodes arrows program hashes given witness : List ℕ) (witnessBi
     P = programAt types nodes arrows program hashes given witness (p .positions)
 
     pub begun-shown : Shown types (p .widths) (p .next) nodes arrows program hashes given witness (p .positions)
-    unfolding lent
+    unfolding tablesLent
     begun-shown =
         rw (told .widthsAre, told .nextAre, told .positionsAre)
         (Shows.shown types nodes arrows program hashes given witness witnessBits input inputBits (told .tablesPass) cells frames answer R (told .readyPass))
 
     same-program : P ≡ R .program
-    unfolding lent
+    unfolding tablesLent
     same-program =
         ap (λ (ps : List ℕ). programAt types nodes arrows program hashes given witness ps) (told .positionsAre)
         ∙ Shows.program-is types nodes arrows program hashes given witness witnessBits input inputBits (told .tablesPass) cells frames answer R (told .readyPass)

@@ -23,7 +23,7 @@ use Rattle.scope.specs.Program.{Program, sourceTy, targetTy, termAt, wholeSourc
 use Rattle.scope.specs.Bounds.{wholeCells, wholeFrames}
 use Rattle.scope.specs.Machine.{State, Step, exec}
 use Rattle.scope.specs.Run.{Ready, checkReady, cellsOf}
-use Rattle.scope.specs.Stages.{lent, hashStage}
+use Rattle.scope.specs.Stages.{tablesLent, hashStage}
 use Rattle.layout.specs.Mach.{Mach, recordsOf, length-recordsOf}
 use Rattle.layout.specs.Exec.{Outcome, runTerm}
 use Rattle.common.specs.Bits.{length-bits}
@@ -116,18 +116,18 @@ stores-within bytes numbers heights lentCells size most s fits c f e =
 -- a run over lent tables that passed their checks
 module _ (types nodes arrows program hashes given witness : List ℕ) (witnessBits : ℕ) (input : List ℕ) (inputBits : ℕ)
     (tables : hashStage types nodes arrows program hashes given ≡ passed tt) (cells frames answer : List ℕ) (R : Ready)
-    (ready : checkReady (lent types nodes arrows program hashes given witness witnessBits input inputBits) cells frames answer ≡ passed R) where
+    (ready : checkReady (tablesLent types nodes arrows program hashes given witness witnessBits input inputBits) cells frames answer ≡ passed R) where
   abbrev P : Program
   P = R .program
 
-  checked : Checked (lent types nodes arrows program hashes given witness witnessBits input inputBits)
+  checked : Checked (tablesLent types nodes arrows program hashes given witness witnessBits input inputBits)
   checked = lent-checked types nodes arrows program hashes given witness witnessBits input inputBits tables
 
   sound : Sound P
-  sound = ready-sound (lent types nodes arrows program hashes given witness witnessBits input inputBits) checked cells frames answer R ready
+  sound = ready-sound (tablesLent types nodes arrows program hashes given witness witnessBits input inputBits) checked cells frames answer R ready
 
   typed : HasTy (R .input) (wholeSource P)
-  typed = ready-input (lent types nodes arrows program hashes given witness witnessBits input inputBits) checked cells frames answer R ready
+  typed = ready-input (tablesLent types nodes arrows program hashes given witness witnessBits input inputBits) checked cells frames answer R ready
 
   -- the cells that are lent to the engine: those of the bytes that hold the bound's
   abbrev pub lentCells : ℕ

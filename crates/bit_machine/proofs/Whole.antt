@@ -14,7 +14,7 @@ use Rattle.scope.specs.Types.{typeRecords, tyAt}
 use Rattle.scope.specs.Arrows.{arrowRecords, source, target}
 use Rattle.scope.specs.Program.{Program, valueFrom, sourceTy, targetTy, termAt}
 use Rattle.scope.specs.Run.{programOf}
-use Rattle.scope.specs.Stages.{lent}
+use Rattle.scope.specs.Stages.{tablesLent}
 use Rattle.scope.specs.Machine.{Frame}
 use Rattle.layout.specs.Mach.{Mach, mach, empty, recordsOf, records-zero}
 use Rattle.layout.specs.Rules.{pushed, moved, bitsWritten}
@@ -99,7 +99,7 @@ module _ {types widths next nodes arrows program hashes given witnesses position
 
   module _ (k : ℕ) (e : k ≡ source (arrowRecords arrows) i) where
     source-is : sourceAt k ≡ sourceTy P i
-    unfolding sourceTy programAt programOf lent
+    unfolding sourceTy programAt programOf tablesLent
     source-is = ap sourceAt e
 
     input-wide : getD widths k 0 ≡ width (sourceTy P i)

@@ -9,7 +9,7 @@ use Rattle.refusal.specs.declared.Refusal.{Refusal}
 use Rattle.scope.specs.Check.{Check, passed, refused}
 use Rattle.scope.specs.Numbers.{zeros, filled}
 use Rattle.scope.specs.Nodes.{nodeRecords, nodeNumbersOf}
-use Rattle.scope.specs.Reading.{Table}
+use Rattle.scope.specs.Reading.{NodeTable}
 use Rattle.scope.specs.Closing.{decode, nodesLeft, hashesLeft}
 use Rattle.common.specs.Checks.{clash}
 use Rattle.decode.specs.declared.Sizes.{Sizes}
@@ -27,21 +27,21 @@ filled-front numbers store n e = take-at numbers (zeros (length store - length n
 module _ (program nodes hashes : List ℕ) (r : Decoded) (nodes′ hashes′ : List ℕ)
     (promise : left (saidOf r) nodes′ hashes′ ≡ leftBy (decode program (length nodes / nodeNumbers) (length hashes)) nodes hashes) where
   -- the requirements' answer
-  abbrev pub wanted : Check Table
+  abbrev pub wanted : Check NodeTable
   wanted = decode program (length nodes / nodeNumbers) (length hashes)
 
   -- a table that was decoded, and how it stands in the stores
-  pub record Holds (t : Table) : Type 0 where
+  pub record Holds (t : NodeTable) : Type 0 where
     pub answer : saidOf r ≡ passed (sizesWith (length (t .records)) (length (t .hashes)))
     pub nodes-left : nodes′ ≡ filled (nodeNumbersOf (t .records)) nodes
     pub hashes-left : hashes′ ≡ filled (t .hashes) hashes
     pub records-stand : nodeRecords (take (nodeNumbers * length (t .records)) nodes′) ≡ t .records
     pub bytes-stand : take (length (t .hashes)) hashes′ ≡ t .hashes
 
-  pub holds : (t : Table) → wanted ≡ passed t → Holds t
+  pub holds : (t : NodeTable) → wanted ≡ passed t → Holds t
   unfolding leftBy tableSizes nodesLeft hashesLeft
   holds t d =
-      let all : left (saidOf r) nodes′ hashes′ ≡ leftBy (passed t) nodes hashes = promise ∙ ap (λ (c : Check Table). leftBy c nodes hashes) d in
+      let all : left (saidOf r) nodes′ hashes′ ≡ leftBy (passed t) nodes hashes = promise ∙ ap (λ (c : Check NodeTable). leftBy c nodes hashes) d in
       let n : nodes′ ≡ filled (nodeNumbersOf (t .records)) nodes = ap (λ (x : Left). x .nodes) all in
       let h : hashes′ ≡ filled (t .hashes) hashes = ap (λ (x : Left). x .hashes) all in
       record {
@@ -54,11 +54,11 @@ module _ (program nodes hashes : List ℕ) (r : Decoded) (nodes′ hashes′ : L
       }
 
   -- what either answer tells
-  pub table-told : (sizes : Sizes) → r ≡ Decoded.Table sizes → (t : Table) × (wanted ≡ passed t) × Holds t
+  pub table-told : (sizes : Sizes) → r ≡ Decoded.Table sizes → (t : NodeTable) × (wanted ≡ passed t) × Holds t
   unfolding leftBy tableSizes
   table-told sizes e = go wanted refl (sym (ap saidOf e) ∙ ap (λ (x : Left). x .says) promise)
     where
-      go : (c : Check Table) → wanted ≡ c → passed sizes ≡ tableSizes c → (t : Table) × (wanted ≡ passed t) × Holds t
+      go : (c : Check NodeTable) → wanted ≡ c → passed sizes ≡ tableSizes c → (t : NodeTable) × (wanted ≡ passed t) × Holds t
       go (passed t) d e = (t, d, holds t d)
       go (refused why) d e = clash (cc)
 
@@ -66,9 +66,9 @@ module _ (program nodes hashes : List ℕ) (r : Decoded) (nodes′ hashes′ : L
   unfolding leftBy tableSizes nodesLeft hashesLeft
   refused-told why e = go wanted refl (sym (ap saidOf e) ∙ ap (λ (x : Left). x .says) promise)
     where
-      go : (c : Check Table) → wanted ≡ c → refused why ≡ tableSizes c → (wanted ≡ refused why) × (nodes′ ≡ zeros (length nodes)) × (hashes′ ≡ zeros (length hashes))
+      go : (c : Check NodeTable) → wanted ≡ c → refused why ≡ tableSizes c → (wanted ≡ refused why) × (nodes′ ≡ zeros (length nodes)) × (hashes′ ≡ zeros (length hashes))
       go (passed t) d e = clash (cc)
       go (refused other) d e =
-          let all : left (saidOf r) nodes′ hashes′ ≡ leftBy (refused other) nodes hashes = promise ∙ ap (λ (c : Check Table). leftBy c nodes hashes) d in
+          let all : left (saidOf r) nodes′ hashes′ ≡ leftBy (refused other) nodes hashes = promise ∙ ap (λ (c : Check NodeTable). leftBy c nodes hashes) d in
           let same : other ≡ why = cc in
           (d ∙ ap (λ (w : Refusal). refused w) same, ap (λ (x : Left). x .nodes) all, ap (λ (x : Left). x .hashes) all)

@@ -15,7 +15,7 @@ use Rattle.report.specs.Bits.{Bit}
 use Rattle.scope.specs.Check.{Check, passed, refused, _>>=_, require}
 use Rattle.scope.specs.Numbers.{zeros, filled, streamOf, tabulateFrom, tabulate}
 use Rattle.scope.specs.Nodes.{NodeRecord, nodeRecords, nodeNumbersOf, nodesOf}
-use Rattle.scope.specs.Reading.{Got, got, fault, refusalAt, Item, naturalUpTo, nodeIn, Table, nodesFrom, readNodes}
+use Rattle.scope.specs.Reading.{Got, got, fault, refusalAt, Item, naturalUpTo, nodeIn, NodeTable, nodesFrom, readNodes}
 use Rattle.scope.specs.Walk.{checkWalk}
 use Rattle.scope.specs.Closing.{closes, decode, nodesLeft, hashesLeft}
 use Rattle.common.specs.Checks.{clash, counted-fine, then-then, then-refuses, then-passes}
@@ -68,7 +68,7 @@ module _ (bits : List Bit) (room : ℕ) where
   from-refused k i held rs hs at why h e = go (nodeIn bits room i (length hs) at) (ap (λ (m : ℕ). atNode i (nodeIn bits room i m at)) h ∙ e)
     where
       go : (g : Got Item) → atNode i g ≡ refused why
-          → _≡_ {A = Check Table} (elim g [ got x n ↦ nodesFrom bits room k (suc i) (rs ++ x .node ∷ []) (hs ++ x .stored) n | fault d ↦ refused (refusalAt i d) ]) (refused why)
+          → _≡_ {A = Check NodeTable} (elim g [ got x n ↦ nodesFrom bits room k (suc i) (rs ++ x .node ∷ []) (hs ++ x .stored) n | fault d ↦ refused (refusalAt i d) ]) (refused why)
       go (got x n) e = clash (cc)
       go (fault d) e = (let r : refusalAt i d ≡ why = cc in ap (λ (r : Refusal). refused r) r)
 
@@ -111,7 +111,7 @@ unfolding nodesFrom
 ended-more bits room k nodes hashes done e = ap (λ (k : ℕ). more bits room k nodes hashes done) e
 
 -- a turn of the loop over the nodes: it stops, or goes on with one node less to read
-module _ (bits : List Bit) (wanted : Check Table) (room count : ℕ) (nodes hashes : List ℕ) (done : Progress)
+module _ (bits : List Bit) (wanted : Check NodeTable) (room count : ℕ) (nodes hashes : List ℕ) (done : Progress)
     (so-far : wanted ≡ more bits room (count - done .nodes) nodes hashes done) (left : done .nodes < count) (same : length hashes ≡ room)
     (r : Progressed) (nodes′ hashes′ : List ℕ) (step : StepMeans bits nodes hashes done r nodes′ hashes′) where
   one-less : wanted ≡ more bits (length hashes) (suc (count - (done .nodes + 1))) nodes hashes done
@@ -142,7 +142,7 @@ module _ (bits : List Bit) (room : ℕ) where
   abbrev counting : Got ℕ → Check (ℕ × ℕ)
   counting g = elim g [ got n next ↦ elim (leb n room) [ true ↦ passed (n, next) | false ↦ refused (StoreShort 3) ] | fault e ↦ refused (refusalAt 0 e) ]
 
-  abbrev reading : (bytes : ℕ) → Got ℕ → Check Table
+  abbrev reading : (bytes : ℕ) → Got ℕ → Check NodeTable
   reading bytes g = elim g [ got n next ↦ elim (leb n room) [ true ↦ nodesFrom bits bytes n 0 [] [] next | false ↦ refused (StoreShort 3) ] | fault e ↦ refused (refusalAt 0 e) ]
 
   pub count-stops : (why : Refusal) → atNode 0 (naturalUpTo bits nodeCount 0) ≡ refused why → refused why ≡ countIn bits room
@@ -167,7 +167,7 @@ module _ (bits : List Bit) (room : ℕ) where
   refused-told bytes why e = go (naturalUpTo bits nodeCount 0) e
     where
       tested : (n next : ℕ) (t : Bool) → _≡_ {A = Check (ℕ × ℕ)} (elim t [ true ↦ passed (n, next) | false ↦ refused (StoreShort 3) ]) (refused why)
-          → _≡_ {A = Check Table} (elim t [ true ↦ nodesFrom bits bytes n 0 [] [] next | false ↦ refused (StoreShort 3) ]) (refused why)
+          → _≡_ {A = Check NodeTable} (elim t [ true ↦ nodesFrom bits bytes n 0 [] [] next | false ↦ refused (StoreShort 3) ]) (refused why)
       tested n next true e = clash (cc)
       tested n next false e = (let r : StoreShort 3 ≡ why = cc in ap (λ (r : Refusal). refused r) r)
 
@@ -224,32 +224,32 @@ module _ (program : List ℕ) (room bytes : ℕ) where
   pub decode-stops : (why : Refusal) → readAll program room bytes ≡ refused why → decode program room bytes ≡ refused why
   decode-stops why e = decode-by ∙ then-refuses (readAll program room bytes) (judging program) why e
 
-  pub decode-judges : (t : Table) → readAll program room bytes ≡ passed t → decode program room bytes ≡ judging program t
+  pub decode-judges : (t : NodeTable) → readAll program room bytes ≡ passed t → decode program room bytes ≡ judging program t
   decode-judges t e = decode-by ∙ then-passes (readAll program room bytes) (judging program) t e
 
 -- a refusal of the count, of the walk and of the reading, as the stage after it hands it on
-pub begun-means : (wanted : Check Table) (r : Progressed) (count : NumberRead) (why : Refusal) (nodes hashes : List ℕ) → r ≡ begunOf count → count ≡ NumberRead.Refused why
+pub begun-means : (wanted : Check NodeTable) (r : Progressed) (count : NumberRead) (why : Refusal) (nodes hashes : List ℕ) → r ≡ begunOf count → count ≡ NumberRead.Refused why
     → wanted ≡ refused why → ReadMeans wanted r nodes hashes
 begun-means wanted r count why nodes hashes e told p = subst (λ (r : Progressed). ReadMeans wanted r nodes hashes) (sym (e ∙ ap begunOf told)) p
 
-pub settled-means : (program : List ℕ) (t : Table) (done : Progress) (r : Decoded) (c : Checked) (sizes : Sizes) (why : Refusal) → r ≡ settledOf c sizes
+pub settled-means : (program : List ℕ) (t : NodeTable) (done : Progress) (r : Decoded) (c : Checked) (sizes : Sizes) (why : Refusal) → r ≡ settledOf c sizes
     → c ≡ Checked.Refused why → judging program t ≡ refused why → JudgedMeans program t done r
 settled-means program t done r c sizes why e told p =
     subst (λ (r : Decoded). JudgedMeans program t done r) (sym (e ∙ ap (λ (c : Checked). settledOf c sizes) told)) p
 
-pub stopped-means : (wanted : Check Table) (r : Decoded) (read : Progressed) (why : Refusal) (nodes hashes : List ℕ) → r ≡ stoppedOf read → read ≡ Progressed.Refused why
+pub stopped-means : (wanted : Check NodeTable) (r : Decoded) (read : Progressed) (why : Refusal) (nodes hashes : List ℕ) → r ≡ stoppedOf read → read ≡ Progressed.Refused why
     → wanted ≡ refused why → DecodedMeans wanted r nodes hashes
 stopped-means wanted r read why nodes hashes e told p = subst (λ (r : Decoded). DecodedMeans wanted r nodes hashes) (sym (e ∙ ap stoppedOf told)) p
 
-pub told-read : (wanted : Check Table) (r known : Progressed) (nodes hashes : List ℕ) → r ≡ known → ReadMeans wanted r nodes hashes → ReadMeans wanted known nodes hashes
+pub told-read : (wanted : Check NodeTable) (r known : Progressed) (nodes hashes : List ℕ) → r ≡ known → ReadMeans wanted r nodes hashes → ReadMeans wanted known nodes hashes
 told-read wanted r known nodes hashes e m = subst (λ (r : Progressed). ReadMeans wanted r nodes hashes) e m
 
-pub read-means : (wanted other : Check Table) (r : Progressed) (nodes hashes : List ℕ) → wanted ≡ other → ReadMeans other r nodes hashes → ReadMeans wanted r nodes hashes
-read-means wanted other r nodes hashes e m = subst (λ (w : Check Table). ReadMeans w r nodes hashes) (sym e) m
+pub read-means : (wanted other : Check NodeTable) (r : Progressed) (nodes hashes : List ℕ) → wanted ≡ other → ReadMeans other r nodes hashes → ReadMeans wanted r nodes hashes
+read-means wanted other r nodes hashes e m = subst (λ (w : Check NodeTable). ReadMeans w r nodes hashes) (sym e) m
 
 -- walk and closing of a table of n nodes
 module _ (program nodes hashes : List ℕ) (n at : ℕ) (whole : length nodes ≡ nodeNumbers * n) (some : 1 ≤ n) (few : n ≤ nodeCount) where
-  abbrev table : Table
+  abbrev table : NodeTable
   table = record { records = nodeRecords nodes; hashes = hashes; end = at }
 
   count-is : length (nodeRecords nodes) ≡ n
@@ -260,7 +260,7 @@ module _ (program nodes hashes : List ℕ) (n at : ℕ) (whole : length nodes �
       walk-then hashes nodes (counted-fine (length (nodeRecords nodes)) nodeCount (omega (arith, count-is)) (omega (arith, count-is)))
       ∙ sym (walk-any-bits (streamOf program) hashes (nodeRecords nodes))
 
-  abbrev closing : Unit {0} → Check Table
+  abbrev closing : Unit {0} → Check NodeTable
   closing walked = require (closes (streamOf program) at) (Closing (length (nodeRecords nodes))) >>= λ closed. passed table
 
   pub walk-refuses : (c : Checked) (why : Refusal) → checkOf c ≡ countedWalk hashes nodes → c ≡ Checked.Refused why → judging program table ≡ refused why
@@ -303,7 +303,7 @@ pub fronts-mean : (program : List ℕ) (room bytes : ℕ) (nodes hashes : List �
 fronts-mean program room bytes nodes hashes done r m n h p q j =
     let same : tableOf (take (nodeNumbers * n) nodes) (take h hashes) done ≡ tableIn nodes hashes done =
     ap₂ (λ (x y : ℕ). tableOf (take (nodeNumbers * x) nodes) (take y hashes) done) p q in
-    judged-means program room bytes nodes hashes done r (m .0) (m .3) (m .4) (subst (λ (t : Table). JudgedMeans program t done r) same j)
+    judged-means program room bytes nodes hashes done r (m .0) (m .3) (m .4) (subst (λ (t : NodeTable). JudgedMeans program t done r) same j)
 
 -- the stores, once cleared behind what is kept, are what decoding leaves
 same-left : (s t : Check Sizes) (n m h g : List ℕ) → s ≡ t → n ≡ m → h ≡ g → left s n h ≡ left t m g
@@ -319,7 +319,7 @@ cleared-filled store store₀ n numbers h l e =
 cleared-whole : (store store₀ : List ℕ) → length store ≡ length store₀ → cleared store 0 ≡ zeros (length store₀)
 cleared-whole store store₀ l = all-cleared store ∙ ap zeros l
 
-pub decode-leaves : (wanted : Check Table) (r : Decoded) (nodes hashes nodes₀ hashes₀ : List ℕ) → DecodedMeans wanted r nodes hashes
+pub decode-leaves : (wanted : Check NodeTable) (r : Decoded) (nodes hashes nodes₀ hashes₀ : List ℕ) → DecodedMeans wanted r nodes hashes
     → length nodes ≡ length nodes₀ → length hashes ≡ length hashes₀
     → left (saidOf r) (cleared nodes (nodeNumbers * sizesOf r .nodes)) (cleared hashes (sizesOf r .hashes)) ≡ leftBy wanted nodes₀ hashes₀
 unfolding leftBy tableSizes nodesLeft hashesLeft
@@ -332,12 +332,12 @@ decode-leaves wanted (Decoded.Table sizes) nodes hashes nodes₀ hashes₀ (end,
     same-left _ _ _ _ _ _ (ap₂ (λ (x y : ℕ). passed (record { nodes = x; hashes = y })) a b)
     (cleared-filled nodes nodes₀ (nodeNumbers * n) (nodeNumbersOf (nodeRecords front)) k p (numbers-back n front f))
     (cleared-filled hashes hashes₀ (sizes .hashes) (take (sizes .hashes) hashes) l q refl)
-    ∙ sym (ap (λ (c : Check Table). leftBy c nodes₀ hashes₀) e)
+    ∙ sym (ap (λ (c : Check NodeTable). leftBy c nodes₀ hashes₀) e)
 decode-leaves wanted (Decoded.Refused why) nodes hashes nodes₀ hashes₀ e p q =
-    same-left _ _ _ _ _ _ refl (cleared-whole nodes nodes₀ p) (cleared-whole hashes hashes₀ q) ∙ sym (ap (λ (c : Check Table). leftBy c nodes₀ hashes₀) e)
+    same-left _ _ _ _ _ _ refl (cleared-whole nodes nodes₀ p) (cleared-whole hashes hashes₀ q) ∙ sym (ap (λ (c : Check NodeTable). leftBy c nodes₀ hashes₀) e)
 
 -- the same, as the code clears them
-pub clearing-leaves : (wanted : Check Table) (r : Decoded) (nodes hashes nodes₀ hashes₀ : List ℕ) → DecodedMeans wanted r nodes hashes
+pub clearing-leaves : (wanted : Check NodeTable) (r : Decoded) (nodes hashes nodes₀ hashes₀ : List ℕ) → DecodedMeans wanted r nodes hashes
     → length nodes ≡ length nodes₀ → length hashes ≡ length hashes₀ → (kept : Sizes) → kept ≡ sizesOf r → (n h : ℕ) → n ≡ kept .nodes → h ≡ kept .hashes
     → (nodes′ hashes′ : List ℕ) → nodes′ ≡ cleared nodes (nodeNumbers * n) → hashes′ ≡ cleared hashes h
     → left (saidOf r) nodes′ hashes′ ≡ leftBy wanted nodes₀ hashes₀

@@ -11,7 +11,7 @@ use Rattle.report.specs.Bits.{Bit}
 use Rattle.scope.specs.Check.{Check, passed, refused, _>>=_, require}
 use Rattle.scope.specs.Numbers.{streamOf}
 use Rattle.scope.specs.Nodes.{NodeRecord, nodeRecords, nodesOf}
-use Rattle.scope.specs.Reading.{got, nodeIn, Table, nodesFrom, readNodes}
+use Rattle.scope.specs.Reading.{got, nodeIn, NodeTable, nodesFrom, readNodes}
 use Rattle.scope.specs.Walk.{checkWalk}
 use Rattle.scope.specs.Closing.{closes, nodesLeft, hashesLeft}
 use Rattle.bititer.specs.Answers.{placed}
@@ -46,7 +46,7 @@ pub record Room (nodes hashes : List ℕ) (done : Progress) : Type 0 where
   pub most : done .hashes ≤ failBytes * done .nodes
 
 -- the table that the filled fronts of the stores are
-abbrev pub tableIn : (nodes hashes : List ℕ) → Progress → Table
+abbrev pub tableIn : (nodes hashes : List ℕ) → Progress → NodeTable
 tableIn nodes hashes done = record {
   records = nodeRecords (take (nodeNumbers * done .nodes) nodes);
   hashes = take (done .hashes) hashes;
@@ -54,11 +54,11 @@ tableIn nodes hashes done = record {
 }
 
 -- the table that two stores are as a whole
-abbrev pub tableOf : (nodes hashes : List ℕ) → Progress → Table
+abbrev pub tableOf : (nodes hashes : List ℕ) → Progress → NodeTable
 tableOf nodes hashes done = record { records = nodeRecords nodes; hashes = hashes; end = done .at }
 
 -- what k more nodes come to, after what the stores hold
-abbrev pub more : (bits : List Bit) → (room k : ℕ) → (nodes hashes : List ℕ) → Progress → Check Table
+abbrev pub more : (bits : List Bit) → (room k : ℕ) → (nodes hashes : List ℕ) → Progress → Check NodeTable
 more bits room k nodes hashes done =
     nodesFrom bits room k (done .nodes) (nodeRecords (take (nodeNumbers * done .nodes) nodes)) (take (done .hashes) hashes) (done .at)
 
@@ -70,18 +70,18 @@ StepMeans bits nodes hashes done (Progressed.Read after) nodes′ hashes′ =
 StepMeans bits nodes hashes done (Progressed.Refused why) nodes′ hashes′ = (k : ℕ) → more bits (length hashes) (suc k) nodes hashes done ≡ refused why
 
 -- all nodes that were wanted stand in the stores, or the reason is the wanted one
-abbrev pub ReadMeans : (wanted : Check Table) → Progressed → (nodes hashes : List ℕ) → Type 0
+abbrev pub ReadMeans : (wanted : Check NodeTable) → Progressed → (nodes hashes : List ℕ) → Type 0
 ReadMeans wanted (Progressed.Read done) nodes hashes =
     (wanted ≡ passed (tableIn nodes hashes done)) × (1 ≤ done .nodes) × (done .nodes ≤ nodeCount) × (nodeNumbers * done .nodes ≤ length nodes) × (done .hashes ≤ length hashes)
 ReadMeans wanted (Progressed.Refused why) nodes hashes = wanted ≡ refused why
 
 -- reading as a whole: 1, then the nodes
-unfoldable pub readAll : (program : List ℕ) → (records bytes : ℕ) → Check Table
+unfoldable pub readAll : (program : List ℕ) → (records bytes : ℕ) → Check NodeTable
 unfolding _>>=_ require streamOf readNodes
 readAll program records bytes = require (leb (length program) dossierBytes) (Header 0) >>= λ fits. readNodes (streamOf program) records bytes
 
 -- walk and closing of a table
-unfoldable pub judging : (program : List ℕ) → Table → Check Table
+unfoldable pub judging : (program : List ℕ) → NodeTable → Check NodeTable
 unfolding _>>=_ require streamOf checkWalk nodesOf closes
 judging program t = do
   walked ← checkWalk (nodesOf (streamOf program) (t .hashes) (t .records))
@@ -106,12 +106,12 @@ stoppedOf (Progressed.Read done) = Decoded.Table (sizesIn done)
 stoppedOf (Progressed.Refused why) = Decoded.Refused why
 
 -- a table of these sizes passed, or the reason is that of walk and closing
-abbrev pub JudgedMeans : (program : List ℕ) → Table → Progress → Decoded → Type 0
+abbrev pub JudgedMeans : (program : List ℕ) → NodeTable → Progress → Decoded → Type 0
 JudgedMeans program t done (Decoded.Table sizes) = (judging program t ≡ passed t) × (sizes ≡ sizesIn done)
 JudgedMeans program t done (Decoded.Refused why) = judging program t ≡ refused why
 
 -- a table of these sizes stands in the stores, or the reason is the wanted one
-abbrev pub DecodedMeans : (wanted : Check Table) → Decoded → (nodes hashes : List ℕ) → Type 0
+abbrev pub DecodedMeans : (wanted : Check NodeTable) → Decoded → (nodes hashes : List ℕ) → Type 0
 DecodedMeans wanted (Decoded.Table sizes) nodes hashes =
     (end : ℕ) × (wanted ≡ passed (tableIn nodes hashes (record { nodes = sizes .nodes; hashes = sizes .hashes; at = end })))
     × (nodeNumbers * sizes .nodes ≤ length nodes) × (sizes .hashes ≤ length hashes)
@@ -133,11 +133,11 @@ abbrev pub left : Check Sizes → (nodes hashes : List ℕ) → Left
 left says nodes hashes = record { says = says; nodes = nodes; hashes = hashes }
 
 -- the sizes of a table that was decoded
-unfoldable pub tableSizes : Check Table → Check Sizes
+unfoldable pub tableSizes : Check NodeTable → Check Sizes
 tableSizes (passed t) = passed (sizesWith (length (t .records)) (length (t .hashes)))
 tableSizes (refused why) = refused why
 
 -- what is left once decoding came to a table or a refusal, in stores that held these numbers
-unfoldable pub leftBy : Check Table → (nodes hashes : List ℕ) → Left
+unfoldable pub leftBy : Check NodeTable → (nodes hashes : List ℕ) → Left
 unfolding tableSizes nodesLeft hashesLeft
 leftBy c nodes hashes = left (tableSizes c) (nodesLeft c nodes) (hashesLeft c hashes)

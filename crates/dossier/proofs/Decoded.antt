@@ -23,12 +23,12 @@ use Rattle.scope.specs.Numbers.{every, streamOf, tabulate}
 use Rattle.scope.specs.Header.{count, size, start, countRule, typeCountRule, headerRule, checkHeader, section, sTypes, sProgram, sArrows, sWitness, sInput, sHashes}
 use Rattle.scope.specs.Types.{typeRecords, typeRecord, checkTypes}
 use Rattle.scope.specs.Nodes.{NodeRecord, nodeRecords, nodesOf, nodeNumbersOf}
-use Rattle.scope.specs.Reading.{Table}
+use Rattle.scope.specs.Reading.{NodeTable}
 use Rattle.scope.specs.Walk.{checkWalk}
 use Rattle.scope.specs.Closing.{decode}
 use Rattle.scope.specs.Arrows.{arrowRecords}
 use Rattle.scope.specs.Run.{Tables, checkTables, tablesOf, Left, leftWith, runTables}
-use Rattle.scope.specs.Stages.{counted, noRecord, recordRule, checkRecords, lentTables, lent, hashStage, runStage}
+use Rattle.scope.specs.Stages.{counted, noRecord, recordRule, checkRecords, lentTables, tablesLent, hashStage, runStage}
 use Rattle.common.specs.Checks.{every-all, all-every, holds-require, then-passes, holds-each, counted-fine}
 use Rattle.exactness.specs.Nodes.{recordsFrom, hashesOf, layout}
 use Rattle.exactness.specs.Stream.{Stands, stands-split}
@@ -67,7 +67,7 @@ module _ (d : List ℕ) (header : checkHeader d ≡ passed tt) where
       counted-fine (length (typeRecords (section d sTypes))) typeCount (omega arith) (omega arith)
 
 -- a program that decodes, with its table
-module _ (program : List ℕ) (records bytes : ℕ) (t : Table) (read : decode program records bytes ≡ passed t) where
+module _ (program : List ℕ) (records bytes : ℕ) (t : NodeTable) (read : decode program records bytes ≡ passed t) where
   -- its records keep their rules
   decoded-kept : (i : ℕ) → i < length (t .records) → recordRule (8 * length program) (length (t .hashes)) (t .records) i ≡ true
   unfolding recordRule layout codeProgram
@@ -81,17 +81,17 @@ module _ (program : List ℕ) (records bytes : ℕ) (t : Table) (read : decode p
       let front : Stands bits (length (codeNatural (length ns))) (length (codeProgram ns)) (codeNodes 0 ns) =
       subst (λ (k : ℕ). Stands bits k (length (codeProgram ns)) (codeNodes 0 ns)) (zero-add (length (codeNatural (length ns)))) (s .1) in
       let same : t ≡ layout ns = p .2 in
-      let n : length (t .records) ≡ length ns = ap (λ (u : Table). length (u .records)) same ∙ length-records 0 0 (length (codeNatural (length ns))) ns in
+      let n : length (t .records) ≡ length ns = ap (λ (u : NodeTable). length (u .records)) same ∙ length-records 0 0 (length (codeNatural (length ns))) ns in
       let kept : recordRule (length bits) (length (layout ns .hashes)) (layout ns .records) i ≡ true =
       records-kept bits (length (hashesOf ns)) (length (codeNatural (length ns))) (length (codeProgram ns)) ns (p .1 .formed .fit) front (omega arith) i (omega arith) in
-      ap₂ (λ (m : ℕ) (u : Table). recordRule m (length (u .hashes)) (u .records) i) (sym long) same ∙ kept
+      ap₂ (λ (m : ℕ) (u : NodeTable). recordRule m (length (u .hashes)) (u .records) i) (sym long) same ∙ kept
 
   decoded-length : (1 ≤ length (t .records)) × (length (t .records) ≤ nodeCount)
   unfolding layout
   decoded-length =
       let p = decoded-is-program program records bytes t read in
       let ns : List Node = p .0 in
-      let n : length (t .records) ≡ length ns = ap (λ (u : Table). length (u .records)) (p .2) ∙ length-records 0 0 (length (codeNatural (length ns))) ns in
+      let n : length (t .records) ≡ length ns = ap (λ (u : NodeTable). length (u .records)) (p .2) ∙ length-records 0 0 (length (codeNatural (length ns))) ns in
       (omega (arith, p .1 .formed .some), omega (arith, p .1 .formed .most))
 
   -- 4, 26 and 1 of the nodes, and the walk
@@ -115,7 +115,7 @@ abbrev pub stage : Check (Unit {0}) → Tables → (cells frames answer : List �
 stage c T cells frames answer = elim c [ passed x ↦ runTables T cells frames answer | refused r ↦ leftWith (Refused r) cells frames answer ]
 
 -- the tables of a dossier that passed 1 to 10
-module _ (d : List ℕ) (records bytes : ℕ) (t : Table) (header : checkHeader d ≡ passed tt) (typed : checkTypes (typeRecords (section d sTypes)) ≡ passed tt)
+module _ (d : List ℕ) (records bytes : ℕ) (t : NodeTable) (header : checkHeader d ≡ passed tt) (typed : checkTypes (typeRecords (section d sTypes)) ≡ passed tt)
     (read : decode (section d sProgram) records bytes ≡ passed t) where
   -- they pass the tests of lent tables
   decoded-lent : lentTables (section d sTypes) (nodeNumbersOf (t .records)) (section d sProgram) (t .hashes) ≡ passed tt
@@ -137,7 +137,7 @@ module _ (d : List ℕ) (records bytes : ℕ) (t : Table) (header : checkHeader 
 
   -- lent, they are the dossier's own
   pub lent-own : (given witness : List ℕ) (witnessBits : ℕ) (input : List ℕ) (inputBits : ℕ)
-      → lent (section d sTypes) (nodeNumbersOf (t .records)) (section d sArrows) (section d sProgram) (t .hashes) given witness witnessBits input inputBits
+      → tablesLent (section d sTypes) (nodeNumbersOf (t .records)) (section d sArrows) (section d sProgram) (t .hashes) given witness witnessBits input inputBits
       ≡ record {
         types = typeRecords (section d sTypes);
         nodes = nodesOf (streamOf (section d sProgram)) (t .hashes) (t .records);
@@ -148,7 +148,7 @@ module _ (d : List ℕ) (records bytes : ℕ) (t : Table) (header : checkHeader 
         input = input;
         inputBits = inputBits;
       }
-  unfolding lent
+  unfolding tablesLent
   lent-own given witness witnessBits input inputBits = rw (records-back (t .records))
 
   -- 11 to 13 are those of the dossier's tables
@@ -157,7 +157,7 @@ module _ (d : List ℕ) (records bytes : ℕ) (t : Table) (header : checkHeader 
   unfolding hashStage tablesOf checkTables
   stage-hashes =
       then-passes (lentTables (section d sTypes) (nodeNumbersOf (t .records)) (section d sProgram) (t .hashes))
-      (λ tables. checkTables (lent (section d sTypes) (nodeNumbersOf (t .records)) (section d sArrows) (section d sProgram) (t .hashes) (section d sHashes) [] 0 [] 0)) tt decoded-lent
+      (λ tables. checkTables (tablesLent (section d sTypes) (nodeNumbersOf (t .records)) (section d sArrows) (section d sProgram) (t .hashes) (section d sHashes) [] 0 [] 0)) tt decoded-lent
       ∙ ap checkTables (lent-own (section d sHashes) [] 0 [] 0)
 
   pub stage-own : (cells frames answer : List ℕ)

@@ -24,13 +24,13 @@ use Rattle.scope.specs.Check.{passed, refused}
 use Rattle.scope.specs.Numbers.{zeros, filled, bytesFor}
 use Rattle.scope.specs.Header.{count, section, sTypes, sProgram, sArrows, sWitness, sInput, sHashes}
 use Rattle.scope.specs.Nodes.{nodeNumbersOf}
-use Rattle.scope.specs.Reading.{Table}
+use Rattle.scope.specs.Reading.{NodeTable}
 use Rattle.scope.specs.Closing.{decode}
 use Rattle.scope.specs.Program.{sourceTy, targetTy, termAt, whole, wholeSource, wholeTarget}
 use Rattle.scope.specs.Bounds.{wholeCells, wholeFrames, wholeCost}
 use Rattle.scope.specs.Machine.{State, Step, machine}
-use Rattle.scope.specs.Stages.{lent}
-use Rattle.scope.specs.Run.{Tables, Ready, checkReady, tablesOf, checkDossier, leftWith, runTables, cellsOf, cleared, Ended, ended, run}
+use Rattle.scope.specs.Stages.{tablesLent}
+use Rattle.scope.specs.Run.{Tables, Ready, checkReady, tablesOf, checkDossier, leftWith, runTables, cellsOf, cleared, Ended, endedWith, run}
 use Rattle.exactness.specs.Nodes as Nodes
 use Rattle.exactness.specs.Programs.{IsProgram}
 use Rattle.exactness.specs.Decoding.{decoded-is-program}
@@ -72,13 +72,13 @@ module _ (d nodes hashes cells frames answer : List ℕ) (r : Answer) (nodes′ 
     (promise : Promise d nodes hashes cells frames answer r nodes′ hashes′ cells′ frames′ answer′) where
   -- DEMAND 1. The end has no second: another answer, or other stores left, break the promise.
   pub one-end : (q : Answer) (nodes″ hashes″ cells″ frames″ answer″ : List ℕ) → Promise d nodes hashes cells frames answer q nodes″ hashes″ cells″ frames″ answer″
-      → ended r nodes′ hashes′ cells′ frames′ answer′ ≡ ended q nodes″ hashes″ cells″ frames″ answer″
+      → endedWith r nodes′ hashes′ cells′ frames′ answer′ ≡ endedWith q nodes″ hashes″ cells″ frames″ answer″
   one-end q nodes″ hashes″ cells″ frames″ answer″ other = promise ∙ sym other
 
   -- DEMAND 2, of the whole call. The answer comes from a run, an output or 18 or 19, exactly if the dossier keeps the rules: its program section is the report's code
   -- of a table in canonical order, its types and hashes keep theirs, its arrows are the report's typing, it is within the limits, and values and stores fit.
   pub run-exactly : FromRun r ↔ Acceptable d nodes hashes cells frames answer
-  unfolding ended
+  unfolding endedWith
   run-exactly =
       let says : r ≡ (run d nodes hashes cells frames answer) .says = ap (λ (e : Ended). e .says) promise in
       let k = Theorems.kept-exactly d nodes hashes cells frames answer in
@@ -87,28 +87,28 @@ module _ (d nodes hashes cells frames answer : List ℕ) (r : Answer) (nodes′ 
   -- Such a dossier is answered by what its program means of its input, with that value's bits in the answer store.
   pub accepted : (ns : List Node) (values : List Val) (v : Val) → RulesKept d nodes hashes cells frames answer ns values v
       → (r ≡ told (eval (whole (programWith d ns values)) v)) × (answer′ ≡ output (eval (whole (programWith d ns values)) v) answer)
-  unfolding ended
+  unfolding endedWith
   accepted ns values v h =
       let k = Theorems.kept-means d nodes hashes cells frames answer ns values v h in
       (ap (λ (e : Ended). e .says) promise ∙ k .0, ap (λ (e : Ended). e .answer) promise ∙ k .1)
 
   -- A dossier against a check of 1 to 13 (or 17 at 3 or 4) is refused for it; node and hash stores are zero, the others as they were.
   pub refused-early : (why : Refusal) → checkDossier d nodes hashes ≡ refused why
-      → ended r nodes′ hashes′ cells′ frames′ answer′ ≡ ended (Refused why) (zeros (length nodes)) (zeros (length hashes)) cells frames answer
+      → endedWith r nodes′ hashes′ cells′ frames′ answer′ ≡ endedWith (Refused why) (zeros (length nodes)) (zeros (length hashes)) cells frames answer
   unfolding run
   refused-early why e = promise ∙ rw (e, run)
 
   -- A dossier that passes them.
-  module _ (t : Table) (passes : checkDossier d nodes hashes ≡ passed t) where
+  module _ (t : NodeTable) (passes : checkDossier d nodes hashes ≡ passed t) where
     -- The node and hash stores hold the decoded table, the rest of them zero, however the run ends.
     pub table-kept : (nodes′ ≡ filled (nodeNumbersOf (t .records)) nodes) × (hashes′ ≡ filled (t .hashes) hashes)
-    unfolding run ended
+    unfolding run endedWith
     table-kept = (ap (λ (e : Ended). e .nodes) promise ∙ rw (passes, run), ap (λ (e : Ended). e .hashes) promise ∙ rw (passes, run))
 
     -- Against a check of 14 to 17 it is refused for it, and the other stores are as they were.
     pub refused-late : (why : Refusal) → checkReady (tablesOf d t) cells frames answer ≡ refused why
         → (r ≡ Refused why) × (cells′ ≡ cells) × (frames′ ≡ frames) × (answer′ ≡ answer)
-    unfolding run ended runTables leftWith
+    unfolding run endedWith runTables leftWith
     refused-late why e = (
       ap (λ (e : Ended). e .says) promise ∙ rw (passes, run) (rw (e, runTables)),
       ap (λ (e : Ended). e .cells) promise ∙ rw (passes, run) (rw (e, runTables)),
@@ -128,32 +128,33 @@ module _ (d nodes hashes cells frames answer : List ℕ) (r : Answer) (nodes′ 
     module _ (R : Ready) (ready : checkReady (tablesOf d t) cells frames answer ≡ passed R) where
       -- The answer is what the program means of its input: so many bits, or 18 or 19 at the place where the meaning stops.
       pub answer-is-meaning : r ≡ told (eval (whole (R .program)) (R .input))
-      unfolding ended
+      unfolding endedWith
       answer-is-meaning = ap (λ (e : Ended). e .says) promise ∙ Theorems.job-says-meaning d nodes hashes cells frames answer t R passes ready
 
       -- The answer store begins with the compact bits of that value, later bytes kept; where the run stops it is as it was.
       pub output-is-meaning : answer′ ≡ output (eval (whole (R .program)) (R .input)) answer
-      unfolding ended
+      unfolding endedWith
       output-is-meaning = ap (λ (e : Ended). e .answer) promise ∙ Theorems.job-leaves-value d nodes hashes cells frames answer t R passes ready
 
       -- The frame records within the bound are zero, those beyond it as they were.
       pub frames-left : frames′ ≡ cleared (wholeFrames (R .program)) frames
-      unfolding ended
+      unfolding endedWith
       frames-left = ap (λ (e : Ended). e .frames) promise ∙ Theorems.job-clears-frames d nodes hashes cells frames answer t R passes ready
 
       -- The cells are those that the machine's rules left, and from the bound on as they were.
       pub cells-left : CellsLeft (machine (wholeCells (R .program)) (wholeFrames (R .program)) (whole (R .program)) (wholeSource (R .program)) (wholeTarget (R .program)) (R .input) (cellsOf cells))
           (wholeCells (R .program)) cells cells′
-      unfolding ended
+      unfolding endedWith
       cells-left =
           subst (CellsLeft _ (wholeCells (R .program)) cells) (sym (ap (λ (e : Ended). e .cells) promise)) (Theorems.job-leaves-cells d nodes hashes cells frames answer t R passes ready)
 
-      -- The program is typed and its input is a value of its source.
+      -- The program's tables keep every rule that the checks ask for (`Sound`; by `node-typed` each shown node's term then has its arrow's type),
+      -- and its input is a value of its source.
       pub program-sound : Sound (R .program) × HasTy (R .input) (wholeSource (R .program))
       program-sound = Theorems.dossier-sound d nodes hashes cells frames answer t R passes ready
 
       -- the dossier's tables, as they are lent
-      lent-ready : checkReady (lent (section d sTypes) (nodeNumbersOf (t .records)) (section d sArrows) (section d sProgram) (t .hashes) (section d sHashes) (section d sWitness) (count d sWitness)
+      lent-ready : checkReady (tablesLent (section d sTypes) (nodeNumbersOf (t .records)) (section d sArrows) (section d sProgram) (t .hashes) (section d sHashes) (section d sWitness) (count d sWitness)
           (section d sInput) (count d sInput)) cells frames answer ≡ passed R
       lent-ready = ap (λ (T : Tables). checkReady T cells frames answer) (sym (own-tables d nodes hashes t passes)) ∙ ready
 
@@ -193,7 +194,7 @@ pub old-stores : (d nodes hashes cells frames answer : List ℕ) (r : Answer) (n
     → Promise d nodesB hashesB cellsB framesB answerB q nodes″ hashes″ cells″ frames″ answer″
     → length nodes ≡ length nodesB → length hashes ≡ length hashesB → length cells ≡ length cellsB → length frames ≡ length framesB → length answer ≡ length answerB
     → (r ≡ q) × (outputBytes r answer′ ≡ outputBytes q answer″)
-unfolding ended
+unfolding endedWith
 old-stores d nodes hashes cells frames answer r nodes′ hashes′ cells′ frames′ answer′ promise nodesB hashesB cellsB framesB answerB q nodes″ hashes″ cells″ frames″ answer″ other n h c f a =
     let held : Ended → List ℕ = λ e. outputBytes (e .says) (e .answer) in (
       ap (λ (e : Ended). e .says) promise

@@ -21,24 +21,21 @@ use Rattle.scope.specs.Numbers.{zeros, filled}
 use Rattle.scope.specs.Header.{count, checkHeader, section, sTypes, sProgram, sArrows, sWitness, sInput, sHashes}
 use Rattle.scope.specs.Types.{typeRecords, checkTypes}
 use Rattle.scope.specs.Nodes.{nodeNumbersOf}
-use Rattle.scope.specs.Reading.{Table}
+use Rattle.scope.specs.Reading.{NodeTable}
 use Rattle.scope.specs.Closing.{decode}
-use Rattle.scope.specs.Stages.{lent, hashStage}
-use Rattle.scope.specs.Run.{Tables, checkTables, tablesOf, checkDossier, Left, leftWith, runTables, Ended, ended, run}
+use Rattle.scope.specs.Stages.{tablesLent, hashStage}
+use Rattle.scope.specs.Run.{Tables, checkTables, tablesOf, checkDossier, Left, leftWith, runTables, Ended, endedWith, run}
 use Rattle.common.specs.Checks.{both-passed, then-passes, then-then}
 use Rattle.exactness.specs.Nodes.{layout}
 use Rattle.exactness.specs.Decoding.{decoded-is-program}
 use Rattle.dossier.specs.Ends.{front, keeps, settled}
-use Rattle.dossier.proofs.Refusing.{Early, LateAnswer, tables-refuse, tables-late}
+use Rattle.dossier.proofs.Refusing.{LateAnswer, tables-refuse, tables-late}
 use Rattle.dossier.proofs.Decoded.{length-records, stage, stage-hashes, lent-own}
 
--- an answer of 14 or above, or an output, keeps the table; one of 13 or below does not
+-- an output keeps the table, and so does a refusal that says so
 late-keeps : (said : Answer) → LateAnswer said → keeps said ≡ true
 late-keeps (Value n) h = refl
-late-keeps (Refused r) h = le-leb 14 (numberOf r) h
-
-early-clears : (r : Refusal) → Early r → keeps (Refused r) ≡ false
-early-clears r h = lt-leb 14 (numberOf r) (omega arith)
+late-keeps (Refused r) h = h
 
 -- a store keeps its length
 length-filled : (numbers store : List ℕ) → length numbers ≤ length store → length (filled numbers store) ≡ length store
@@ -47,10 +44,10 @@ length-filled numbers store h =
     omega (arith, length-append numbers (zeros (length store - length numbers)), length-replicate {A = ℕ} (length store - length numbers) 0)
 
 module _ (d nodes hashes cells frames answer : List ℕ) where
-  abbrev pub read : Check Table
+  abbrev pub read : Check NodeTable
   read = decode (section d sProgram) (length nodes / nodeNumbers) (length hashes)
 
-  abbrev later : Check Table
+  abbrev later : Check NodeTable
   later = read >>= λ t. (checkTables (tablesOf d t) >>= λ tables. passed t)
 
   -- the checks of a dossier, as the job makes them
@@ -60,7 +57,7 @@ module _ (d nodes hashes cells frames answer : List ℕ) where
 
   -- an end without a table
   abbrev pub refusedEnd : Refusal → Ended
-  refusedEnd r = ended (Refused r) (zeros (length nodes)) (zeros (length hashes)) cells frames answer
+  refusedEnd r = endedWith (Refused r) (zeros (length nodes)) (zeros (length hashes)) cells frames answer
 
   dossier-refused : (r : Refusal) → checkDossier d nodes hashes ≡ refused r → refusedEnd r ≡ run d nodes hashes cells frames answer
   unfolding run
@@ -77,27 +74,27 @@ module _ (d nodes hashes cells frames answer : List ℕ) where
     unfolding _>>=_
     job-read r e = dossier-refused r (in-steps ∙ then-passes (front d) (λ typed. later) tt typed ∙ rw (e, _>>=_))
 
-    module _ (t : Table) (decodes : read ≡ passed t) where
+    module _ (t : NodeTable) (decodes : read ≡ passed t) where
       -- the stores hold what was decoded
       pub nodes-fit : length (filled (nodeNumbersOf (t .records)) nodes) ≡ length nodes
       unfolding layout
       nodes-fit =
           let p = decoded-is-program (section d sProgram) (length nodes / nodeNumbers) (length hashes) t decodes in
           let ns : List Node = p .0 in
-          let n : length (t .records) ≡ length ns = ap (λ (u : Table). length (u .records)) (p .2) ∙ length-records 0 0 (length (codeNatural (length ns))) ns in
+          let n : length (t .records) ≡ length ns = ap (λ (u : NodeTable). length (u .records)) (p .2) ∙ length-records 0 0 (length (codeNatural (length ns))) ns in
           length-filled (nodeNumbersOf (t .records)) nodes (omega (arith, length-numbers (t .records), p .1 .records-fit))
 
       pub hashes-fit : length (filled (t .hashes) hashes) ≡ length hashes
       unfolding layout
       hashes-fit =
           let p = decoded-is-program (section d sProgram) (length nodes / nodeNumbers) (length hashes) t decodes in
-          let n = ap (λ (u : Table). length (u .hashes)) (p .2) in
+          let n = ap (λ (u : NodeTable). length (u .hashes)) (p .2) in
           length-filled (t .hashes) hashes (omega (arith, p .1 .bytes-fit))
 
       -- the end of a job whose program was decoded, by how its run stage ended
       abbrev pub jobEnd : Left → Ended
       jobEnd left =
-          ended (left .says) (settled (left .says) (filled (nodeNumbersOf (t .records)) nodes)) (settled (left .says) (filled (t .hashes) hashes)) (left .cells) (left .frames) (left .answer)
+          endedWith (left .says) (settled (left .says) (filled (nodeNumbersOf (t .records)) nodes)) (settled (left .says) (filled (t .hashes) hashes)) (left .cells) (left .frames) (left .answer)
 
       tables-checked : (c : Check (Unit {0})) → checkTables (tablesOf d t) ≡ c → checkDossier d nodes hashes ≡ (c >>= λ tables. passed t)
       unfolding _>>=_
@@ -109,9 +106,9 @@ module _ (d nodes hashes cells frames answer : List ℕ) where
       job-tables : (r : Refusal) → checkTables (tablesOf d t) ≡ refused r → jobEnd (leftWith (Refused r) cells frames answer) ≡ run d nodes hashes cells frames answer
       unfolding settled leftWith _>>=_
       job-tables r q =
-          let clears : keeps (Refused r) ≡ false = early-clears r (tables-refuse (tablesOf d t) r q) in
+          let clears : keeps (Refused r) ≡ false = tables-refuse (tablesOf d t) r q in
           rw (clears, settled)
-          (ap₂ (λ (n h : ℕ). ended (Refused r) (zeros n) (zeros h) cells frames answer) nodes-fit hashes-fit ∙ dossier-refused r (tables-checked (refused r) q))
+          (ap₂ (λ (n h : ℕ). endedWith (Refused r) (zeros n) (zeros h) cells frames answer) nodes-fit hashes-fit ∙ dossier-refused r (tables-checked (refused r) q))
 
       -- an output, or 14 to 19, keeps it
       job-kept : {x : Unit {0}} → checkTables (tablesOf d t) ≡ passed x → jobEnd (runTables (tablesOf d t) cells frames answer) ≡ run d nodes hashes cells frames answer
@@ -130,16 +127,16 @@ module _ (d nodes hashes cells frames answer : List ℕ) where
           go (refused r) q = job-tables r q
 
 -- what a dossier that passes 1 to 13 has passed: its header, its types, decoding and the checks of its tables
-pub record Parts (d nodes hashes : List ℕ) (t : Table) : Type 0 where
+pub record Parts (d nodes hashes : List ℕ) (t : NodeTable) : Type 0 where
   pub header : checkHeader d ≡ passed tt
   pub types : checkTypes (typeRecords (section d sTypes)) ≡ passed tt
   pub decodes : decode (section d sProgram) (length nodes / nodeNumbers) (length hashes) ≡ passed t
   pub tables : checkTables (tablesOf d t) ≡ passed tt
 
-pub dossier-parts : (d nodes hashes : List ℕ) (t : Table) → checkDossier d nodes hashes ≡ passed t → Parts d nodes hashes t
+pub dossier-parts : (d nodes hashes : List ℕ) (t : NodeTable) → checkDossier d nodes hashes ≡ passed t → Parts d nodes hashes t
 unfolding checkDossier
 dossier-parts d nodes hashes t e =
-    let reads : Check Table = decode (section d sProgram) (length nodes / nodeNumbers) (length hashes) in
+    let reads : Check NodeTable = decode (section d sProgram) (length nodes / nodeNumbers) (length hashes) in
     let a = both-passed (checkHeader d) (λ header. checkTypes (typeRecords (section d sTypes)) >>= λ types. reads >>= λ t. checkTables (tablesOf d t) >>= λ tables. passed t) t e in
     let b = both-passed (checkTypes (typeRecords (section d sTypes))) (λ types. reads >>= λ t. checkTables (tablesOf d t) >>= λ tables. passed t) t (a .2) in
     let c = both-passed reads (λ t. checkTables (tablesOf d t) >>= λ tables. passed t) t (b .2) in
@@ -148,19 +145,19 @@ dossier-parts d nodes hashes t e =
     record {
       header = a .1;
       types = b .1;
-      decodes = c .1 ∙ ap (λ (u : Table). passed u) q;
-      tables = subst (λ (u : Table). checkTables (tablesOf d u) ≡ passed tt) q (f .1);
+      decodes = c .1 ∙ ap (λ (u : NodeTable). passed u) q;
+      tables = subst (λ (u : NodeTable). checkTables (tablesOf d u) ≡ passed tt) q (f .1);
     }
 
 -- its own tables pass as lent ones, and are those of the dossier
-module _ (d nodes hashes : List ℕ) (t : Table) (passes : checkDossier d nodes hashes ≡ passed t) where
+module _ (d nodes hashes : List ℕ) (t : NodeTable) (passes : checkDossier d nodes hashes ≡ passed t) where
   pub own-stage : hashStage (section d sTypes) (nodeNumbersOf (t .records)) (section d sArrows) (section d sProgram) (t .hashes) (section d sHashes) ≡ passed tt
   own-stage =
       let p = dossier-parts d nodes hashes t passes in
       stage-hashes d (length nodes / nodeNumbers) (length hashes) t (p .header) (p .types) (p .decodes) ∙ p .tables
 
   pub own-tables : tablesOf d t
-      ≡ lent (section d sTypes) (nodeNumbersOf (t .records)) (section d sArrows) (section d sProgram) (t .hashes) (section d sHashes) (section d sWitness) (count d sWitness) (section d sInput) (count d sInput)
+      ≡ tablesLent (section d sTypes) (nodeNumbersOf (t .records)) (section d sArrows) (section d sProgram) (t .hashes) (section d sHashes) (section d sWitness) (count d sWitness) (section d sInput) (count d sInput)
   unfolding tablesOf
   own-tables =
       let p = dossier-parts d nodes hashes t passes in

@@ -14,11 +14,11 @@ use Rattle.scope.specs.Numbers.{zeros, filled}
 use Rattle.scope.specs.Header.{count, checkHeader, section, sTypes, sProgram, sArrows, sWitness, sInput, sHashes}
 use Rattle.scope.specs.Types.{typeRecords, checkTypes}
 use Rattle.scope.specs.Nodes.{nodeNumbersOf}
-use Rattle.scope.specs.Reading.{Table}
+use Rattle.scope.specs.Reading.{NodeTable}
 use Rattle.scope.specs.Closing as Closing
 use Rattle.scope.specs.Closing.{nodesLeft, hashesLeft}
 use Rattle.scope.specs.Stages.{runStage}
-use Rattle.scope.specs.Run.{checkTables, tablesOf, Left, leftWith, Ended, ended, run}
+use Rattle.scope.specs.Run.{checkTables, tablesOf, Left, leftWith, Ended, endedWith, run}
 use Rattle.common.specs.Checks.{clash, both-passed}
 use Rattle.common.specs.Answers.{checkOf, answerOf}
 use Rattle.common.specs.declared.Checked.{Checked}
@@ -45,10 +45,10 @@ sections-run d nodes hashes cells frames answer types arrows program given witne
 module _ (d nodes hashes cells frames answer : List ℕ) (checked : Checked) (checks : checkOf checked ≡ front d) where
   -- 1 or 2: both stores are cleared
   pub ends-front : (why : Refusal) → checked ≡ Checked.Refused why → (said : Answer) → said ≡ answerOf checked → (n h : List ℕ) → n ≡ cleared nodes 0 → h ≡ cleared hashes 0
-      → ended said n h cells frames answer ≡ run d nodes hashes cells frames answer
+      → endedWith said n h cells frames answer ≡ run d nodes hashes cells frames answer
   ends-front why e said q n h cn ch =
-      ap₂ (λ (n h : List ℕ). ended said n h cells frames answer) (cn ∙ all-cleared nodes) (ch ∙ all-cleared hashes)
-      ∙ ap (λ (s : Answer). ended s (zeros (length nodes)) (zeros (length hashes)) cells frames answer) (q ∙ ap answerOf e)
+      ap₂ (λ (n h : List ℕ). endedWith said n h cells frames answer) (cn ∙ all-cleared nodes) (ch ∙ all-cleared hashes)
+      ∙ ap (λ (s : Answer). endedWith s (zeros (length nodes)) (zeros (length hashes)) cells frames answer) (q ∙ ap answerOf e)
       ∙ job-front d nodes hashes cells frames answer why (sym checks ∙ ap checkOf e)
 
   -- a dossier that passed 1 and 2, and what decoding promises of it
@@ -57,21 +57,21 @@ module _ (d nodes hashes cells frames answer : List ℕ) (checked : Checked) (ch
     typed : front d ≡ passed tt
     typed = sym checks ∙ ap checkOf passes
 
-    abbrev read : Check Table
+    abbrev read : Check NodeTable
     read = Closing.decode (section d sProgram) (length nodes / nodeNumbers) (length hashes)
 
     decodes-own : left (saidOf r) n h ≡ leftBy read nodes hashes
     decodes-own = decodes ∙ ap (λ (p : List ℕ). leftBy (Closing.decode p (length nodes / nodeNumbers) (length hashes)) nodes hashes) is
 
     -- 3 to 10
-    pub ends-undecoded : (why : Refusal) → r ≡ Decoded.Refused why → (said : Answer) → said ≡ undecodedOf r → ended said n h cells frames answer ≡ run d nodes hashes cells frames answer
+    pub ends-undecoded : (why : Refusal) → r ≡ Decoded.Refused why → (said : Answer) → said ≡ undecodedOf r → endedWith said n h cells frames answer ≡ run d nodes hashes cells frames answer
     unfolding leftBy tableSizes nodesLeft hashesLeft
     ends-undecoded why e said q = go read refl
       where
-        told : (c : Check Table) → read ≡ c → left (refused why) n h ≡ leftBy c nodes hashes
-        told c f = ap (λ (r : Decoded). left (saidOf r) n h) (sym e) ∙ decodes-own ∙ ap (λ (c : Check Table). leftBy c nodes hashes) f
+        told : (c : Check NodeTable) → read ≡ c → left (refused why) n h ≡ leftBy c nodes hashes
+        told c f = ap (λ (r : Decoded). left (saidOf r) n h) (sym e) ∙ decodes-own ∙ ap (λ (c : Check NodeTable). leftBy c nodes hashes) f
 
-        go : (c : Check Table) → read ≡ c → ended said n h cells frames answer ≡ run d nodes hashes cells frames answer
+        go : (c : Check NodeTable) → read ≡ c → endedWith said n h cells frames answer ≡ run d nodes hashes cells frames answer
         go (passed t) f = clash (let y = ap (λ (l : Stores.Left). l .says) (told (passed t) f) in cc)
         go (refused w) f =
             let x : left (refused why) n h ≡ leftBy (refused w) nodes hashes = told (refused w) f in
@@ -79,28 +79,28 @@ module _ (d nodes hashes cells frames answer : List ℕ) (checked : Checked) (ch
             let same : w ≡ why = cc in
             let cn : n ≡ zeros (length nodes) = ap (λ (l : Stores.Left). l .nodes) x in
             let ch : h ≡ zeros (length hashes) = ap (λ (l : Stores.Left). l .hashes) x in
-            ap₂ (λ (n h : List ℕ). ended said n h cells frames answer) cn ch
-            ∙ ap (λ (s : Answer). ended s (zeros (length nodes)) (zeros (length hashes)) cells frames answer) (q ∙ ap undecodedOf e)
+            ap₂ (λ (n h : List ℕ). endedWith said n h cells frames answer) cn ch
+            ∙ ap (λ (s : Answer). endedWith s (zeros (length nodes)) (zeros (length hashes)) cells frames answer) (q ∙ ap undecodedOf e)
             ∙ job-read d nodes hashes cells frames answer typed why (f ∙ ap refused same)
 
     -- a program that was decoded
     module _ (sizes : Sizes) (told : r ≡ Decoded.Table sizes) where
       -- the table that stands at the front of the stores
-      pub record Stands (t : Table) : Type 0 where
+      pub record Stands (t : NodeTable) : Type 0 where
         pub read-is : read ≡ passed t
         pub nodes-are : n ≡ filled (nodeNumbersOf (t .records)) nodes
         pub hashes-are : h ≡ filled (t .hashes) hashes
         pub nodes-size : nodeNumbers * sizes .nodes ≡ length (nodeNumbersOf (t .records))
         pub hashes-size : sizes .hashes ≡ length (t .hashes)
 
-      stands : (t : Table) × Stands t
+      stands : (t : NodeTable) × Stands t
       unfolding leftBy tableSizes nodesLeft hashesLeft
       stands = go read refl
         where
-          left-by : (c : Check Table) → read ≡ c → left (passed sizes) n h ≡ leftBy c nodes hashes
-          left-by c f = ap (λ (r : Decoded). left (saidOf r) n h) (sym told) ∙ decodes-own ∙ ap (λ (c : Check Table). leftBy c nodes hashes) f
+          left-by : (c : Check NodeTable) → read ≡ c → left (passed sizes) n h ≡ leftBy c nodes hashes
+          left-by c f = ap (λ (r : Decoded). left (saidOf r) n h) (sym told) ∙ decodes-own ∙ ap (λ (c : Check NodeTable). leftBy c nodes hashes) f
 
-          go : (c : Check Table) → read ≡ c → (t : Table) × Stands t
+          go : (c : Check NodeTable) → read ≡ c → (t : NodeTable) × Stands t
           go (refused w) f = clash (let y = ap (λ (l : Stores.Left). l .says) (left-by (refused w) f) in cc)
           go (passed t) f =
               let x = left-by (passed t) f in
@@ -135,10 +135,10 @@ module _ (d nodes hashes cells frames answer : List ℕ) (checked : Checked) (ch
 
       -- 11 to 19, or an output: the stores are settled by what the run stage answered
       pub ends-settled : (said : Answer) (c f a : List ℕ) → leftWith said c f a ≡ sectionsRun d (take (nodeNumbers * sizes .nodes) n) (take (sizes .hashes) h) cells frames answer
-          → (n′ h′ : List ℕ) → n′ ≡ settled said n → h′ ≡ settled said h → ended said n′ h′ c f a ≡ run d nodes hashes cells frames answer
+          → (n′ h′ : List ℕ) → n′ ≡ settled said n → h′ ≡ settled said h → endedWith said n′ h′ c f a ≡ run d nodes hashes cells frames answer
       unfolding sectionsRun leftWith front
       ends-settled said c f a e n′ h′ en eh =
-          let t : Table = stands .0 in
+          let t : NodeTable = stands .0 in
           let s : Stands t = stands .1 in
           let both = both-passed (checkHeader d) (λ header. checkTypes (typeRecords (section d sTypes))) tt typed in
           let own : leftWith said c f a ≡ stage (checkTables (tablesOf d t)) (tablesOf d t) cells frames answer = e
@@ -146,5 +146,5 @@ module _ (d nodes hashes cells frames answer : List ℕ) (checked : Checked) (ch
           (front-is (nodeNumbersOf (t .records)) nodes n (nodeNumbers * sizes .nodes) (s .nodes-size) (s .nodes-are))
           (front-is (t .hashes) hashes h (sizes .hashes) (s .hashes-size) (s .hashes-are))
           ∙ stage-own d (length nodes / nodeNumbers) (length hashes) t (both .1) (both .2) (s .read-is) cells frames answer in
-          ap₂ (λ (x y : List ℕ). ended said x y c f a) (en ∙ ap (settled said) (s .nodes-are)) (eh ∙ ap (settled said) (s .hashes-are))
+          ap₂ (λ (x y : List ℕ). endedWith said x y c f a) (en ∙ ap (settled said) (s .nodes-are)) (eh ∙ ap (settled said) (s .hashes-are))
           ∙ job-ran d nodes hashes cells frames answer typed t (s .read-is) (leftWith said c f a) own

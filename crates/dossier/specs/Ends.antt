@@ -1,12 +1,11 @@
--- The checks before decoding, and which ends keep the decoded table: an output, and the refusals from 14 on.
+-- The checks before decoding, and which ends keep the decoded table: an output, and the refusals that say so.
 use mathlib.Core.Bool.{Bool, true, false}
 use mathlib.Core.List.{List}
 use Prim.Native.Nat.{ℕ}
-use lib.Dec.{leb}
 use lib.ListN.{length}
 use Rattle.refusal.specs.declared.Answer.{Answer}
 use Rattle.refusal.specs.declared.Answer.the-variants.{Value, Refused}
-use Rattle.refusal.specs.Numbers.{numberOf}
+use Rattle.refusal.specs.Numbers.{keepsTable}
 use Rattle.common.specs.declared.Checked.{Checked}
 use Rattle.common.specs.declared.Checked.the-variants.{Passed, Refused as Stopped}
 use Rattle.decode.specs.declared.Decoded.{Decoded}
@@ -28,7 +27,7 @@ front d = do
 -- whether the decoded table stays in its stores
 abbrev pub keeps : Answer → Bool
 keeps (Value n) = true
-keeps (Refused r) = leb 14 (numberOf r)
+keeps (Refused r) = keepsTable r
 
 -- what a decoded store is left with
 unfoldable pub settled : Answer → (store : List ℕ) → List ℕ

@@ -1,12 +1,12 @@
 // The whole job: a dossier and five lent stores in, an answer out, and each store left as the requirements say.
 // The header and the types are checked (1, 2), the program is decoded (3 to 10), and the run stage does the rest on the decoded table (11 to 19).
-// A refusal up to 13 leaves no table: the node and hash stores are zero. From 14 on the table is kept.
+// Where `refusal::keeps_table` says no, the node and hash stores are zero: no table is left.
 use common::Checked;
 use decode::Decoded;
 use refusal::Answer;
 ghost use mathlib.Core.Path.{_≡_};
 ghost use Rattle.scope.specs.Header.{checkHeader};
-ghost use Rattle.scope.specs.Run.{leftWith, ended, run};
+ghost use Rattle.scope.specs.Run.{leftWith, endedWith, run};
 ghost use Rattle.common.specs.Answers.{checkOf};
 ghost use Rattle.dossier.specs.Ends.{front, keeps, settled, undecodedOf, sectionsRun};
 
@@ -22,9 +22,6 @@ const WITNESS: usize = 3;
 const INPUT: usize = 4;
 
 const HASHES: usize = 5;
-
-// The first number that is given once the tables stand.
-const LATE: u32 = 14;
 
 // The header, then the type table: 1 and 2.
 fn check_front(dossier: &[u8]) -> Checked
@@ -43,7 +40,7 @@ fn keeps(said: Answer) -> bool
 {
     match said {
         Answer::Value(_) => true,
-        Answer::Refused(why) => LATE <= refusal::number(why),
+        Answer::Refused(why) => refusal::keeps_table(why),
     }
 }
 
@@ -107,7 +104,7 @@ pub fn run(
     frames: &mut [u32],
     answer: &mut [u8],
 ) -> Answer
-    ensures { λ r. ⌜ ended r (now (nodes .exit)) (now (hashes .exit)) (now (cells .exit)) (now (frames .exit)) (now (answer .exit))
+    ensures { λ r. ⌜ endedWith r (now (nodes .exit)) (now (hashes .exit)) (now (cells .exit)) (now (frames .exit)) (now (answer .exit))
         ≡ run (now (dossier .entry)) (now (nodes .entry)) (now (hashes .entry)) (now (cells .entry)) (now (frames .entry)) (now (answer .entry)) ⌝ }
 {
     let front = check_front(dossier);

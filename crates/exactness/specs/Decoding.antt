@@ -19,7 +19,7 @@ use Rattle.report.specs.Nodes.{codeNode, codeNodes, codeProgram}
 use Rattle.scope.specs.Check.{Check, passed, _>>=_, require}
 use Rattle.scope.specs.Numbers.{zeros, streamOf, allZero}
 use Rattle.scope.specs.Nodes.{NodeRecord, kindOf, nodeOf, nodesOf}
-use Rattle.scope.specs.Reading.{Table, readNodes}
+use Rattle.scope.specs.Reading.{NodeTable, readNodes}
 use Rattle.scope.specs.Walk.{checkWalk}
 use Rattle.scope.specs.Closing.{closes, decode}
 use Rattle.common.specs.Checks.{clash, every-all, all-every, require-holds, holds-require, both-passed, then-passes}
@@ -161,10 +161,10 @@ module _ (program : List ℕ) (records bytes : ℕ) where
   decoded-nodes ns h = layout-nodes (streamOf program) records bytes ns (program-table ns h)
 
   -- what follows once all nodes are read
-  closing : Table → Check Table
+  closing : NodeTable → Check NodeTable
   closing t = require (closes (streamOf program) (t .end)) (Closing (length (t .records))) >>= λ closed. passed t
 
-  afterReading : Table → Check Table
+  afterReading : NodeTable → Check NodeTable
   afterReading t = checkWalk (nodesOf (streamOf program) (t .hashes) (t .records)) >>= λ walked. closing t
 
   table-program : (ns : List Node) → length program ≤ dossierBytes → IsTable (streamOf program) records bytes ns
@@ -184,7 +184,7 @@ module _ (program : List ℕ) (records bytes : ℕ) where
         bytes-fit = h .bytes-fit;
       }
 
-  read-program : (t u : Table) (ns : List Node) → length program ≤ dossierBytes → IsTable (streamOf program) records bytes ns
+  read-program : (t u : NodeTable) (ns : List Node) → length program ≤ dossierBytes → IsTable (streamOf program) records bytes ns
       → u ≡ layout ns → afterReading u ≡ passed t
       → (ns : List Node) × IsProgram program records bytes ns × (t ≡ layout ns)
   unfolding afterReading closing
@@ -194,13 +194,13 @@ module _ (program : List ℕ) (records bytes : ℕ) where
       let same : u ≡ t = (let e = c .2 in cc) in
       let closed = require-holds (closes (streamOf program) (u .end)) (Closing (length (u .records))) (c .0) (c .1) in (
         ns,
-        table-program ns l h (ap (λ (t : Table). checkWalk (nodesOf (streamOf program) (t .hashes) (t .records))) (sym q) ∙ w .1)
-            (ap (λ (t : Table). closes (streamOf program) (t .end)) (sym q) ∙ closed),
+        table-program ns l h (ap (λ (t : NodeTable). checkWalk (nodesOf (streamOf program) (t .hashes) (t .records))) (sym q) ∙ w .1)
+            (ap (λ (t : NodeTable). closes (streamOf program) (t .end)) (sym q) ∙ closed),
         sym same ∙ q,
       )
 
   -- a program that decodes is the code of a table, and what is decoded is its layout
-  pub decoded-is-program : (t : Table) → decode program records bytes ≡ passed t
+  pub decoded-is-program : (t : NodeTable) → decode program records bytes ≡ passed t
       → (ns : List Node) × IsProgram program records bytes ns × (t ≡ layout ns)
   unfolding decode afterReading closing
   decoded-is-program t e =
@@ -215,7 +215,7 @@ module _ (program : List ℕ) (records bytes : ℕ) where
   pub program-is-decoded : (ns : List Node) → IsProgram program records bytes ns → decode program records bytes ≡ passed (layout ns)
   unfolding decode afterReading closing layout
   program-is-decoded ns h =
-      let t : Table = layout ns in
+      let t : NodeTable = layout ns in
       then-passes (require (leb (length program) dossierBytes) (Header 0)) (λ fits. readNodes (streamOf program) records bytes >>= afterReading) tt
       (holds-require (leb (length program) dossierBytes) (Header 0) (le-leb (length program) dossierBytes (h .within)))
       ∙ then-passes (readNodes (streamOf program) records bytes) afterReading t
@@ -229,4 +229,4 @@ module _ (program : List ℕ) (records bytes : ℕ) where
   pub one-table : (ns ms : List Node) → IsProgram program records bytes ns → IsProgram program records bytes ms → ns ≡ ms
   one-table ns ms h k =
       let same : layout ns ≡ layout ms = (let e = program-is-decoded ns h in let f = program-is-decoded ms k in cc) in
-      sym (decoded-nodes ns h) ∙ ap (λ (t : Table). nodesOf (streamOf program) (t .hashes) (t .records)) same ∙ decoded-nodes ms k
+      sym (decoded-nodes ns h) ∙ ap (λ (t : NodeTable). nodesOf (streamOf program) (t .hashes) (t .records)) same ∙ decoded-nodes ms k

@@ -13,7 +13,7 @@ use Rattle.report.specs.Nodes.{Node, comp, case, pair, disconnect, injl, injr, 
 use Rattle.report.specs.Nodes.{codeNode, codeProgram}
 use Rattle.report.specs.Canonical.{children}
 use Rattle.scope.specs.Nodes.{NodeRecord, nodeAt}
-use Rattle.scope.specs.Reading.{Table}
+use Rattle.scope.specs.Reading.{NodeTable}
 use Rattle.common.specs.Bits.{AllBelow, AreBits, AreBytes}
 
 -- what a node holds is of the right size
@@ -114,7 +114,7 @@ hashesOf [] = []
 hashesOf (n ∷ ns) = storedBy n ++ hashesOf ns
 
 -- a table of nodes as it lies in the stores, and where its code ends
-unfoldable pub layout : List Node → Table
+unfoldable pub layout : List Node → NodeTable
 unfolding recordsFrom hashesOf codeProgram
 layout ns = record {
   records = recordsFrom 0 0 (length (codeNatural (length ns))) ns;

@@ -8,7 +8,7 @@ use Rattle.report.specs.Nodes.{Node, injl, unit}
 use Rattle.scope.specs.Check.{passed}
 use Rattle.scope.specs.Numbers.{streamOf}
 use Rattle.scope.specs.Nodes.{nodesOf}
-use Rattle.scope.specs.Reading.{Table}
+use Rattle.scope.specs.Reading.{NodeTable}
 use Rattle.scope.specs.Closing.{decode}
 use Rattle.exactness.specs.Nodes.{layout}
 use Rattle.exactness.specs.Programs.{IsProgram}
@@ -31,5 +31,5 @@ nodes-again = refl
 is-program : IsProgram program 2 0 table
 is-program =
     let r = decoded-is-program program 2 0 (layout table) decodes in
-    let nodes : (t : Table) → List Node = λ t. nodesOf (streamOf program) (t .hashes) (t .records) in
+    let nodes : (t : NodeTable) → List Node = λ t. nodesOf (streamOf program) (t .hashes) (t .records) in
     subst (IsProgram program 2 0) (sym (decoded-nodes program 2 0 (r .0) (r .1)) ∙ ap nodes (sym (r .2)) ∙ nodes-again) (r .1)

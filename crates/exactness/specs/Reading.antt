@@ -16,7 +16,7 @@ use Rattle.report.specs.Naturals.{codeNatural}
 use Rattle.report.specs.Nodes.{Node, codeNode, codeNodes, codeProgram}
 use Rattle.scope.specs.Check.{passed, refused}
 use Rattle.scope.specs.Nodes.{NodeRecord}
-use Rattle.scope.specs.Reading.{refusalAt, hashesShort, Got, got, fault, Reader, give, stop, Item, naturalUpTo, node, nodeIn, Table, nodesFrom, readNodes}
+use Rattle.scope.specs.Reading.{refusalAt, hashesShort, Got, got, fault, Reader, give, stop, Item, naturalUpTo, node, nodeIn, NodeTable, nodesFrom, readNodes}
 use Rattle.common.specs.Checks.{clash}
 use Rattle.common.specs.Bits.{AreBits}
 use Rattle.exactness.specs.Naturals.{naturalBound}
@@ -24,7 +24,7 @@ use Rattle.exactness.specs.Nodes.{NodesFit, WellFormed, storedBy, record
 use Rattle.exactness.specs.Stream.{both-got, then-reads, Stands, stands-none, stands-then, stands-split, natural-stands, stands-natural}
 use Rattle.exactness.specs.Coding.{itemOf, IsNode, node-is-code, code-is-node}
 
-abbrev tableWith : List NodeRecord → List ℕ → (end : ℕ) → Table
+abbrev tableWith : List NodeRecord → List ℕ → (end : ℕ) → NodeTable
 tableWith records hashes end = record { records = records; hashes = hashes; end = end }
 
 module _ (bits : List Bit) (are : AreBits bits) (room : ℕ) where
@@ -53,11 +53,11 @@ module _ (bits : List Bit) (are : AreBits bits) (room : ℕ) where
       ∙ rw (le-leb (held + length (x .stored)) room l)
 
   -- the table that is left after some nodes, with those before
-  abbrev tableAfter : (i : ℕ) → List NodeRecord → List ℕ → (at p : ℕ) → List Node → Table
+  abbrev tableAfter : (i : ℕ) → List NodeRecord → List ℕ → (at p : ℕ) → List Node → NodeTable
   tableAfter i records hashes at p ns = tableWith (records ++ recordsFrom i (length hashes) at ns) (hashes ++ hashesOf ns) p
 
   -- nodes that stand between two positions, and are read as t
-  record AreNodes (k i : ℕ) (records : List NodeRecord) (hashes : List ℕ) (at : ℕ) (t : Table) : Type 0 where
+  record AreNodes (k i : ℕ) (records : List NodeRecord) (hashes : List ℕ) (at : ℕ) (t : NodeTable) : Type 0 where
     nodes : List Node
     count : length nodes ≡ k
     fit : NodesFit i nodes
@@ -75,7 +75,7 @@ module _ (bits : List Bit) (are : AreBits bits) (room : ℕ) where
       ∙ ap₂ (λ (h a : ℕ). records ++ recordOf (length hashes) at n ∷ recordsFrom (suc i) h a ns) (length-append hashes (storedBy n)) e)
       (append-assoc hashes (storedBy n) (hashesOf ns))
 
-  are-more : (k i : ℕ) (records : List NodeRecord) (hashes : List ℕ) (at p : ℕ) (x : Item) (t : Table) → IsNode bits i (length hashes) at x p
+  are-more : (k i : ℕ) (records : List NodeRecord) (hashes : List ℕ) (at p : ℕ) (x : Item) (t : NodeTable) → IsNode bits i (length hashes) at x p
       → AreNodes k (suc i) (records ++ x .node ∷ []) (hashes ++ x .stored) p t → AreNodes (suc k) i records hashes at t
   unfolding codeNodes hashesOf itemOf
   are-more k i records hashes at p x t n a =
@@ -91,7 +91,7 @@ module _ (bits : List Bit) (are : AreBits bits) (room : ℕ) where
             ∙ table-more i records hashes at p (t .end) (n .the) (a .nodes) (n .stands .ends-at);
       }
 
-  nodes-are-code : (k i : ℕ) (records : List NodeRecord) (hashes : List ℕ) (at : ℕ) (t : Table) → at ≤ length bits → length hashes ≤ room
+  nodes-are-code : (k i : ℕ) (records : List NodeRecord) (hashes : List ℕ) (at : ℕ) (t : NodeTable) → at ≤ length bits → length hashes ≤ room
       → nodesFrom bits room k i records hashes at ≡ passed t → AreNodes k i records hashes at t
   unfolding nodesFrom codeNodes recordsFrom hashesOf
   nodes-are-code zero i records hashes at t l h e =
@@ -158,7 +158,7 @@ pub record IsTable (bits : List Bit) (records bytes : ℕ) (ns : List Node) : Ty
   pub bytes-fit : length (hashesOf ns) ≤ bytes
 
 module _ (bits : List Bit) (are : AreBits bits) (records bytes : ℕ) where
-  counted : (n mid : ℕ) (t : Table) → naturalUpTo bits nodeCount 0 ≡ got n mid → n ≤ records → nodesFrom bits bytes n 0 [] [] mid ≡ passed t
+  counted : (n mid : ℕ) (t : NodeTable) → naturalUpTo bits nodeCount 0 ≡ got n mid → n ≤ records → nodesFrom bits bytes n 0 [] [] mid ≡ passed t
       → (ns : List Node) × IsTable bits records bytes ns × (t ≡ layout ns)
   unfolding layout codeProgram
   counted n mid t e l h =
@@ -180,7 +180,7 @@ module _ (bits : List Bit) (are : AreBits bits) (records bytes : ℕ) where
       )
 
   -- what is read is the layout of such a table
-  pub read-is-table : (t : Table) → readNodes bits records bytes ≡ passed t → (ns : List Node) × IsTable bits records bytes ns × (t ≡ layout ns)
+  pub read-is-table : (t : NodeTable) → readNodes bits records bytes ≡ passed t → (ns : List Node) × IsTable bits records bytes ns × (t ≡ layout ns)
   unfolding readNodes
   read-is-table t e = go (naturalUpTo bits nodeCount 0) refl e
     where

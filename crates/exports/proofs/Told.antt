@@ -7,10 +7,10 @@ use Rattle.refusal.specs.declared.Refusal.{Refusal}
 use Rattle.refusal.specs.declared.Answer.{Answer}
 use Rattle.refusal.specs.Numbers.{numberOf, placeOf}
 use Rattle.scope.specs.Check.{Check, passed, refused}
-use Rattle.scope.specs.Reading.{Table, Got, got, fault}
+use Rattle.scope.specs.Reading.{NodeTable, Got, got, fault}
 use Rattle.scope.specs.Closing.{nodesLeft, hashesLeft}
 use Rattle.scope.specs.Bounds.{Bound}
-use Rattle.scope.specs.Run.{Left, leftWith, Ended, ended}
+use Rattle.scope.specs.Run.{Left, leftWith, Ended, endedWith}
 use Rattle.common.specs.Checks.{clash}
 use Rattle.bititer.specs.Answers.{naturalFault, gotNatural}
 use Rattle.bititer.specs.declared.NaturalFault.{NaturalFault}
@@ -42,12 +42,12 @@ check-told x c e said q code place ec ep =
     as-check (Checked.Refused why) = refl
 
 -- decoding
-module _ (r : Decoded) (c : Check Table) (n h nodes hashes : List ℕ) (left : Stores.left (saidOf r) n h ≡ leftBy c nodes hashes) where
+module _ (r : Decoded) (c : Check NodeTable) (n h nodes hashes : List ℕ) (left : Stores.left (saidOf r) n h ≡ leftBy c nodes hashes) where
   pub table-told : (sizes : Sizes) → r ≡ Decoded.Table sizes → decoding 0 (sizes .nodes) (sizes .hashes) n h ≡ decodingBy c nodes hashes
   unfolding decodingBy leftBy tableSizes
   table-told sizes e = go c (ap (λ (r : Decoded). Stores.left (saidOf r) n h) (sym e) ∙ left)
     where
-      go : (c : Check Table) → Stores.left (passed sizes) n h ≡ leftBy c nodes hashes → decoding 0 (sizes .nodes) (sizes .hashes) n h ≡ decodingBy c nodes hashes
+      go : (c : Check NodeTable) → Stores.left (passed sizes) n h ≡ leftBy c nodes hashes → decoding 0 (sizes .nodes) (sizes .hashes) n h ≡ decodingBy c nodes hashes
       go (refused w) f = clash (let y = ap (λ (l : Stores.Left). l .says) f in cc)
       go (passed t) f =
           let says : _≡_ {A = Check Sizes} (passed sizes) (passed (record { nodes = length (t .records); hashes = length (t .hashes) })) = ap (λ (l : Stores.Left). l .says) f in
@@ -59,7 +59,7 @@ module _ (r : Decoded) (c : Check Table) (n h nodes hashes : List ℕ) (left : S
   unfolding decodingBy leftBy tableSizes
   refusal-told why e code place ec ep = ap₂ (λ (x y : ℕ). decoding x y 0 n h) ec ep ∙ go c (ap (λ (r : Decoded). Stores.left (saidOf r) n h) (sym e) ∙ left)
     where
-      go : (c : Check Table) → Stores.left (refused why) n h ≡ leftBy c nodes hashes → decoding (numberOf why) (placeOf why) 0 n h ≡ decodingBy c nodes hashes
+      go : (c : Check NodeTable) → Stores.left (refused why) n h ≡ leftBy c nodes hashes → decoding (numberOf why) (placeOf why) 0 n h ≡ decodingBy c nodes hashes
       go (passed t) f = clash (let y = ap (λ (l : Stores.Left). l .says) f in cc)
       go (refused w) f =
           let says : _≡_ {A = Check Sizes} (refused why) (refused w) = ap (λ (l : Stores.Left). l .says) f in
@@ -93,7 +93,7 @@ pub stage-told : (left : Left) (said : Answer) (cells frames answer : List ℕ) 
 unfolding stagedBy leftWith
 stage-told left said cells frames answer e code place ec ep = ap₂ (λ (x y : ℕ). staged x y cells frames answer) ec ep ∙ ap stagedBy e
 
-pub job-told : (end : Ended) (said : Answer) (nodes hashes cells frames answer : List ℕ) → ended said nodes hashes cells frames answer ≡ end
+pub job-told : (end : Ended) (said : Answer) (nodes hashes cells frames answer : List ℕ) → endedWith said nodes hashes cells frames answer ≡ end
     → (code place : ℕ) → code ≡ answerCode said → place ≡ answerTold said → finished code place nodes hashes cells frames answer ≡ finishedBy end
-unfolding finishedBy ended
+unfolding finishedBy endedWith
 job-told end said nodes hashes cells frames answer e code place ec ep = ap₂ (λ (x y : ℕ). finished x y nodes hashes cells frames answer) ec ep ∙ ap finishedBy e

@@ -6,7 +6,7 @@ use Rattle.refusal.specs.declared.Answer.{Answer}
 use Rattle.refusal.specs.declared.Answer.the-variants.{Value, Refused}
 use Rattle.refusal.specs.Numbers.{numberOf, placeOf}
 use Rattle.scope.specs.Check.{Check, passed, refused}
-use Rattle.scope.specs.Reading.{Table, Got, got, fault, Fault, streamEnded, lengthTooLong, overBound, aJet, hashesShort}
+use Rattle.scope.specs.Reading.{NodeTable, Got, got, fault, Fault, streamEnded, lengthTooLong, overBound, aJet, hashesShort}
 use Rattle.scope.specs.Closing.{nodesLeft, hashesLeft}
 use Rattle.scope.specs.Bounds.{Bound}
 use Rattle.scope.specs.Run.{Left, Ended}
@@ -45,7 +45,7 @@ pub record Decoding : Type 0 where
 abbrev pub decoding : (code place bytes : ℕ) → (nodes hashes : List ℕ) → Decoding
 decoding code place bytes nodes hashes = record { code = code; place = place; bytes = bytes; nodes = nodes; hashes = hashes }
 
-unfoldable pub decodingBy : Check Table → (nodes hashes : List ℕ) → Decoding
+unfoldable pub decodingBy : Check NodeTable → (nodes hashes : List ℕ) → Decoding
 unfolding nodesLeft hashesLeft
 decodingBy (passed t) nodes hashes = decoding 0 (length (t .records)) (length (t .hashes)) (nodesLeft (passed t) nodes) (hashesLeft (passed t) hashes)
 decodingBy (refused r) nodes hashes = decoding (numberOf r) (placeOf r) 0 (nodesLeft (refused r) nodes) (hashesLeft (refused r) hashes)

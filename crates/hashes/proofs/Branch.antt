@@ -14,7 +14,7 @@ use Rattle.promise.specs.Parts.{Part, cut}
 use Rattle.limits.specs.Limits.{hashBytes, nodeNumbers}
 use Rattle.report.specs.Nodes.{Node}
 use Rattle.scope.specs.Nodes.{kindOf, NodeRecord, nodeRecords, nodeOf, nodesOf, nodeAt, onHidden}
-use Rattle.scope.specs.Hashes.{rights, whole, entry, entryFor, branchHash}
+use Rattle.scope.specs.Hashes.{rights, wholeHash, entry, entryFor, branchHash}
 use Rattle.scope.specs.Stages.{noRecord}
 use Rattle.table.specs.Lent.{nodeIs, lentNodes, hiddenKind, hashIs}
 use Rattle.common.specs.Nodes.{length-records, length-nodes, node-at}
@@ -28,22 +28,22 @@ entry-for-same : (N M : List Node) (given : List ℕ) (j e : ℕ) (rs : List ℕ
 unfolding entryFor
 entry-for-same N M given j e [] = refl
 entry-for-same N M given j e (r ∷ rs) =
-    ap (λ (x : List ℕ). elim (eqb r j) [ true ↦ whole (entry given e) | false ↦ x ]) (entry-for-same N M given j (suc e) rs)
+    ap (λ (x : List ℕ). elim (eqb r j) [ true ↦ wholeHash (entry given e) | false ↦ x ]) (entry-for-same N M given j (suc e) rs)
 
 -- nor does a branch's hash on a word's bits
 module _ (bits hashes : List ℕ) (rs : List NodeRecord) (given : List ℕ) (j : ℕ) where
-  hidden-same : (other : List ℕ) → onHidden (nodeAt (nodesOf bits hashes rs) j) whole other ≡ onHidden (nodeAt (nodesOf [] hashes rs) j) whole other
+  hidden-same : (other : List ℕ) → onHidden (nodeAt (nodesOf bits hashes rs) j) wholeHash other ≡ onHidden (nodeAt (nodesOf [] hashes rs) j) wholeHash other
   hidden-same other =
       let r : NodeRecord = getD rs j noRecord in
-      ap (λ (n : Node). onHidden n whole other) (node-at bits hashes rs j)
-      ∙ by-hidden bits hashes (kindOf (r .kind)) (r .first) (r .second) whole other
-      ∙ sym (by-hidden [] hashes (kindOf (r .kind)) (r .first) (r .second) whole other)
-      ∙ ap (λ (n : Node). onHidden n whole other) (sym (node-at [] hashes rs j))
+      ap (λ (n : Node). onHidden n wholeHash other) (node-at bits hashes rs j)
+      ∙ by-hidden bits hashes (kindOf (r .kind)) (r .first) (r .second) wholeHash other
+      ∙ sym (by-hidden [] hashes (kindOf (r .kind)) (r .first) (r .second) wholeHash other)
+      ∙ ap (λ (n : Node). onHidden n wholeHash other) (sym (node-at [] hashes rs j))
 
   pub branch-bits : branchHash (nodesOf bits hashes rs) given j ≡ branchHash (nodesOf [] hashes rs) given j
   unfolding branchHash
   branch-bits =
-      ap (onHidden (nodeAt (nodesOf bits hashes rs) j) whole)
+      ap (onHidden (nodeAt (nodesOf bits hashes rs) j) wholeHash)
       (entry-for-same (nodesOf bits hashes rs) (nodesOf [] hashes rs) given j 0 (rights (nodesOf bits hashes rs))
       ∙ ap (entryFor (nodesOf [] hashes rs) given j 0) (rights-alike bits hashes rs ∙ sym (rights-alike [] hashes rs)))
       ∙ hidden-same (entryFor (nodesOf [] hashes rs) given j 0 (rights (nodesOf [] hashes rs)))
@@ -58,8 +58,8 @@ module _ (slice : Part) (at : ℕ) (bytes : List ℕ) where
   unfolding wholePart
   part-missing n = rw (wholePart, ne-eqb (length bytes) hashBytes n)
 
-whole-holds : (slice : Part) (at : ℕ) → wholePart slice at (take hashBytes (drop at (slice .bytes))) .bytes ≡ whole (take hashBytes (drop at (slice .bytes)))
-unfolding wholePart whole
+whole-holds : (slice : Part) (at : ℕ) → wholePart slice at (take hashBytes (drop at (slice .bytes))) .bytes ≡ wholeHash (take hashBytes (drop at (slice .bytes)))
+unfolding wholePart wholeHash
 whole-holds slice at = go (eqb (length (take hashBytes (drop at (slice .bytes)))) hashBytes)
   where
     go : (b : Bool) → elim b as (λ x. Part) [ true ↦ cut slice at hashBytes | false ↦ cut slice 0 0 ] .bytes
@@ -67,7 +67,7 @@ whole-holds slice at = go (eqb (length (take hashBytes (drop at (slice .bytes)))
     go true = refl
     go false = refl
 
-pub entry-holds : (part given : Part) (e : ℕ) → part ≡ entryPart given e → part .bytes ≡ whole (entry (given .bytes) e)
+pub entry-holds : (part given : Part) (e : ℕ) → part ≡ entryPart given e → part .bytes ≡ wholeHash (entry (given .bytes) e)
 unfolding entry
 entry-holds part given e q = ap (λ (p : Part). p .bytes) q ∙ whole-holds given (hashBytes * e)
 
@@ -80,9 +80,9 @@ unfolding suppliedPart entryFor
 supplied-holds N given j e [] = refl
 supplied-holds N given j e (r ∷ rs) = go (eqb r j) (entry-holds (entryPart given e) given e refl) (supplied-holds N given j (suc e) rs)
   where
-    go : (b : Bool) → entryPart given e .bytes ≡ whole (entry (given .bytes) e) → suppliedPart given j (suc e) rs .bytes ≡ entryFor N (given .bytes) j (suc e) rs
+    go : (b : Bool) → entryPart given e .bytes ≡ wholeHash (entry (given .bytes) e) → suppliedPart given j (suc e) rs .bytes ≡ entryFor N (given .bytes) j (suc e) rs
         → elim b as (λ x. Part) [ true ↦ entryPart given e | false ↦ suppliedPart given j (suc e) rs ] .bytes
-        ≡ elim b [ true ↦ whole (entry (given .bytes) e) | false ↦ entryFor N (given .bytes) j (suc e) rs ]
+        ≡ elim b [ true ↦ wholeHash (entry (given .bytes) e) | false ↦ entryFor N (given .bytes) j (suc e) rs ]
     go true p q = p
     go false p q = q
 
@@ -137,10 +137,10 @@ module _ (nodes : List ℕ) (hashes given : Part) (j : ℕ) where
           let held = entryFor lent (given .bytes) j 0 (rights lent) in
           let bytes : Part → List ℕ = λ (p : Part). p .bytes in
           elim (ℕ-discrete (r .kind) 13) [
-            | yes e ↦ sym (ap bytes (part-stored r is e)) ∙ whole-holds hashes (r .first) ∙ in-store (hashes .bytes) nodes j r is whole held e
+            | yes e ↦ sym (ap bytes (part-stored r is e)) ∙ whole-holds hashes (r .first) ∙ in-store (hashes .bytes) nodes j r is wholeHash held e
             | no n ↦ sym (ap bytes (part-supplied r is n)) ∙ supplied-holds lent given j 0 (rights (lentNodes [] nodes))
                 ∙ ap (entryFor lent (given .bytes) j 0) (sym (rights-alike [] (hashes .bytes) (nodeRecords nodes)))
-                ∙ not-hidden (hashes .bytes) nodes j r is whole held n
+                ∙ not-hidden (hashes .bytes) nodes j r is wholeHash held n
           ]
 
 -- one pass over the table: the entries from e on are those of the disconnects from node i on

@@ -14,7 +14,7 @@ use Rattle.report.specs.Nodes.{Node}
 use Rattle.scope.specs.Check.{Check, passed, refused, _>>=_, require, each}
 use Rattle.scope.specs.Numbers.{same, every}
 use Rattle.scope.specs.Nodes.{NodeRecord, nodeRecords, nodesOf}
-use Rattle.scope.specs.Hashes.{rights, whole, entry, clash, countPlace, checkHashes}
+use Rattle.scope.specs.Hashes.{rights, wholeHash, entry, clash, countPlace, checkHashes}
 use Rattle.scope.specs.Stages.{counted}
 use Rattle.table.specs.Lent.{lentNodes}
 use Rattle.common.specs.Checks.{every-one, passes}
@@ -22,11 +22,11 @@ use Rattle.hashes.specs.Hashes.{unlikeAt, clashAt, countedHashes}
 use Rattle.hashes.proofs.Rights.{rights-alike}
 
 -- 32 bytes, and any other number of them
-pub whole-there : (l : List ℕ) → length l ≡ hashBytes → l ≡ whole l
-unfolding whole
-whole-there l e = rw (whole, eq-eqb (length l) hashBytes e)
+pub whole-there : (l : List ℕ) → length l ≡ hashBytes → l ≡ wholeHash l
+unfolding wholeHash
+whole-there l e = rw (wholeHash, eq-eqb (length l) hashBytes e)
 
-pub entry-there : (s : List ℕ) (e : ℕ) → hashBytes * (e + 1) ≤ length s → whole (entry s e) ≡ entry s e
+pub entry-there : (s : List ℕ) (e : ℕ) → hashBytes * (e + 1) ≤ length s → wholeHash (entry s e) ≡ entry s e
 unfolding entry
 entry-there s e h = sym (whole-there (take hashBytes (drop (hashBytes * e) s)) (simp (length-take, length-drop) (omega arith)))
 

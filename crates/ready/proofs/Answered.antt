@@ -17,7 +17,7 @@ use Rattle.scope.specs.Witness.{checkWitness}
 use Rattle.scope.specs.Input.{checkInput}
 use Rattle.scope.specs.Stores.{checkStores}
 use Rattle.scope.specs.Run.{Tables, programOf, Ready, checkReady}
-use Rattle.scope.specs.Stages.{lent, arrowStage, hashStage}
+use Rattle.scope.specs.Stages.{tablesLent, arrowStage, hashStage}
 use Rattle.common.specs.Checks.{clash, then-passes, then-refuses}
 use Rattle.theory.specs.NodeTerms.{cells-alike, frames-alike}
 use Rattle.common.specs.declared.Checked.the-variants.{Passed, Refused}
@@ -34,7 +34,7 @@ use Rattle.ready.specs.declared.WitnessTable.{WitnessTable}
 
 module _ (types nodes arrows program hashes given witness : List ℕ) (witnessBits : ℕ) (input : List ℕ) (inputBits : ℕ) (cells frames answer : ℕ) where
   abbrev pub T : Tables
-  T = lent types nodes arrows program hashes given witness witnessBits input inputBits
+  T = tablesLent types nodes arrows program hashes given witness witnessBits input inputBits
 
   -- the program of the tables, without values
   abbrev pub P : Program
@@ -89,7 +89,7 @@ module _ (types nodes arrows program hashes given witness : List ℕ) (witnessBi
         λ k. storesRule (wholeCells P) (wholeFrames P) (width (wholeTarget P)) (length-replicate {A = ℕ} cells 0 k) (length-replicate {A = ℕ} frames 0 k) (length-replicate {A = ℕ} answer 0 k)
 
     ready-is : ready ≡ (checkBounds P >>= λ bounded. read >>= λ values. taken >>= λ v. stored >>= λ kept. passed (made values v))
-    unfolding checkReady wholeSource sourceTy last programOf lent
+    unfolding checkReady wholeSource sourceTy last programOf tablesLent
     ready-is = ap (λ (s : Check (Unit {0})). checkBounds P >>= λ bounded. read >>= λ values. taken >>= λ v. s >>= λ kept. passed (made values v)) stores-are
 
     -- the bounds are refused
@@ -182,7 +182,7 @@ module _ (types nodes arrows program hashes given witness : List ℕ) (witnessBi
       said = let s = bounded-says P cellBound frameBound cost (e ∙ judged) in (s .0, s .1, s .2)
 
       same : r ≡ suppliedTable (T .types) (T .nodes) (T .arrows) witness witnessBits input inputBits (wholeCells P) (wholeFrames P) cells frames answer
-      unfolding lent
+      unfolding tablesLent
       same =
           is ∙ ap₂ (λ (c f : ℕ). suppliedTable (typeRecords types) (nodesOf (streamOf program) hashes (nodeRecords nodes)) (arrowRecords arrows)
           witness witnessBits input inputBits c f cells frames answer) (said .1) (said .2)

@@ -26,7 +26,7 @@ use Rattle.scope.specs.Witness.{Values, valuesFrom, checkWitness}
 use Rattle.scope.specs.Input.{checkInput}
 use Rattle.scope.specs.Stores.{checkStores}
 use Rattle.scope.specs.Run.{Tables, programOf, Ready, checkReady, cellsOf}
-use Rattle.scope.specs.Stages.{counted, lent, arrowStage, hashStage}
+use Rattle.scope.specs.Stages.{counted, tablesLent, arrowStage, hashStage}
 use Rattle.scope.specs.Machine.{machine}
 use Rattle.common.specs.Checks.{clash, both-passed, then-passes, counted-passed}
 use Rattle.common.specs.Bits.{AllBelow, held-within}
@@ -124,7 +124,7 @@ module _ (types nodes arrows program hashes given witnesses : List ℕ) (witness
     (tablesPass : hashStage types nodes arrows program hashes given ≡ passed tt) where
   -- the tables, and the positions of their nodes
   abbrev pub T : Tables
-  T = lent types nodes arrows program hashes given witnesses witnessBits input inputBits
+  T = tablesLent types nodes arrows program hashes given witnesses witnessBits input inputBits
 
   abbrev pub positions : List ℕ
   positions = positionsOf (typeRecords types) (programNodes nodes program hashes) (arrowRecords arrows) witnesses witnessBits
@@ -153,7 +153,7 @@ module _ (types nodes arrows program hashes given witnesses : List ℕ) (witness
 
   -- children stand below their node, and past the table's end there are none
   all-below : (i : ℕ) → AllBelow i (children (nodeAt (programNodes nodes program hashes) i))
-  unfolding lent nodeAt children
+  unfolding tablesLent nodeAt children
   all-below i = go (decLt i (length (programNodes nodes program hashes)))
     where
       go : Dec (i < length (programNodes nodes program hashes)) → AllBelow i (children (nodeAt (programNodes nodes program hashes) i))
@@ -207,7 +207,7 @@ module _ (types nodes arrows program hashes given witnesses : List ℕ) (witness
 
     witness-held : (i : ℕ) → nodeAt (programNodes nodes program hashes) i ≡ witness
         → Reads (tyAt (typeRecords types) (target (arrowRecords arrows) i)) (drop (getD positions i 0) (streamOf witnesses))
-    unfolding lent
+    unfolding tablesLent
     witness-held i w =
         let m = witness-here (typeRecords types) (programNodes nodes program hashes) (arrowRecords arrows) witnesses witnessBits (parts .0) (parts .3) i
         (in-table i witness w (λ f. clash (cc))) w _ refl in
@@ -215,7 +215,7 @@ module _ (types nodes arrows program hashes given witnesses : List ℕ) (witness
 
     -- THE TABLES ARE AS `Shown` SAYS
     pub shown : Shown types (typeWidths types) (typeNext types) nodes arrows program hashes given witnesses positions
-    unfolding lent
+    unfolding tablesLent
     shown = record {
       below = all-below;
       typed = types-shown;
@@ -227,9 +227,9 @@ module _ (types nodes arrows program hashes given witnesses : List ℕ) (witness
 
     -- THEIR PROGRAM IS THE ONE THAT WAS MADE READY
     pub program-is : programAt types nodes arrows program hashes given witnesses positions ≡ R .program
-    unfolding programAt valueOf lent programOf
+    unfolding programAt valueOf tablesLent programOf
     program-is =
-        ap (λ (vs : List Val). programOf (lent types nodes arrows program hashes given witnesses 0 [] 0) vs)
+        ap (λ (vs : List Val). programOf (tablesLent types nodes arrows program hashes given witnesses 0 [] 0) vs)
         (values-in (typeRecords types) (programNodes nodes program hashes) (arrowRecords arrows) witnesses witnessBits (parts .0) (parts .3))
         ∙ sym (ap (λ (Q : Ready). Q .program) (parts .6))
 
@@ -263,7 +263,7 @@ module _ (types nodes arrows program hashes given witnesses : List ℕ) (witness
 
     -- THE INPUT STANDS AT THE FRONT OF THE INPUT BITS
     pub input-held : (rest : List Bit) × (readValue (wholeSource P) (streamOf input) ≡ value (R .input) rest)
-    unfolding lent
+    unfolding tablesLent
     input-held =
         let m = input-read (wholeSource (programOf T [])) input inputBits (parts .1) (parts .4) in
         (m .0, ap (λ (A : Ty). readValue A (streamOf input)) same-source ∙ m .1 ∙ ap (λ (Q : Ready). value (Q .input) (m .0)) (sym (parts .6)))

@@ -11,7 +11,7 @@ use Rattle.scope.specs.Numbers.{zeros}
 use Rattle.scope.specs.Bounds.{wholeCells, wholeFrames}
 use Rattle.scope.specs.Stores.{checkStores}
 use Rattle.scope.specs.Run.{Tables, Ready, checkReady, Left, leftWith, ran, runTables}
-use Rattle.scope.specs.Stages.{lent, hashStage, runStage}
+use Rattle.scope.specs.Stages.{tablesLent, hashStage, runStage}
 use Rattle.common.specs.Checks.{clash, both-passed}
 use Rattle.types.specs.Table.{typeWidths, typeNext}
 use Rattle.ready.specs.Positions.{positionsOf}
@@ -28,7 +28,7 @@ ready-by-lengths T cells frames answer =
 
 module _ (types nodes arrows program hashes given witness : List ℕ) (witnessBits : ℕ) (input : List ℕ) (inputBits : ℕ) (cells frames answer : List ℕ) where
   abbrev T : Tables
-  T = lent types nodes arrows program hashes given witness witnessBits input inputBits
+  T = tablesLent types nodes arrows program hashes given witness witnessBits input inputBits
 
   -- what the check of the run answers
   abbrev pub found : Prepared

@@ -17,7 +17,7 @@ use Rattle.scope.specs.Bounds.{wholeCells, wholeFrames}
 use Rattle.scope.specs.Witness.{checkWitness}
 use Rattle.scope.specs.Input.{checkInput}
 use Rattle.scope.specs.Run.{checkReady}
-use Rattle.scope.specs.Stages.{lent, hashStage}
+use Rattle.scope.specs.Stages.{tablesLent, hashStage}
 use Rattle.common.specs.declared.Checked.{Checked}
 use Rattle.common.specs.declared.Checked.the-variants.{Passed, Refused}
 use Rattle.types.specs.Table.{typeWidths, typeNext}
@@ -97,9 +97,9 @@ unprepared why = refusedOf (Refused why)
 -- a run over lent tables, into stores of these lengths: its bounds and the tables beside the lent ones, or the first refusal of its checks
 unfoldable pub prepared : (types nodes arrows program hashes given witness : List ℕ) → (witnessBits : ℕ) → (input : List ℕ) → (inputBits : ℕ)
     → (cells frames answer : List ℕ) → Prepared
-unfolding _>>=_ hashStage checkReady lent wholeCells wholeFrames typeWidths typeNext positionsOf typeRecords arrowRecords
+unfolding _>>=_ hashStage checkReady tablesLent wholeCells wholeFrames typeWidths typeNext positionsOf typeRecords arrowRecords
 prepared types nodes arrows program hashes given witness witnessBits input inputBits cells frames answer =
-    let T = lent types nodes arrows program hashes given witness witnessBits input inputBits in
+    let T = tablesLent types nodes arrows program hashes given witness witnessBits input inputBits in
     elim (hashStage types nodes arrows program hashes given >>= λ tables. checkReady T cells frames answer) [
       | passed R ↦ record {
         answer = Bounds (wholeCells (R .program)) (wholeFrames (R .program));

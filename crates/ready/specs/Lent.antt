@@ -17,7 +17,7 @@ use Rattle.scope.specs.Check.{passed}
 use Rattle.scope.specs.Arrows.{arrowRecords, target}
 use Rattle.scope.specs.Program.{Program, valueFrom}
 use Rattle.scope.specs.Run.{programOf}
-use Rattle.scope.specs.Stages.{lent}
+use Rattle.scope.specs.Stages.{tablesLent}
 use Rattle.types.specs.Table.{checkTable, typeWidths, typeNext}
 use Rattle.common.specs.Bits.{AllBelow}
 
@@ -35,9 +35,9 @@ valueOf types nodes arrows program hashes witnesses positions i =
 
 -- the program of the lent tables
 unfoldable pub programAt : (types nodes arrows program hashes given witnesses positions : List ℕ) → Program
-unfolding programOf lent tabulate valueOf
+unfolding programOf tablesLent tabulate valueOf
 programAt types nodes arrows program hashes given witnesses positions =
-    programOf (lent types nodes arrows program hashes given witnesses 0 [] 0)
+    programOf (tablesLent types nodes arrows program hashes given witnesses 0 [] 0)
     (tabulate (length (programNodes nodes program hashes)) (valueOf types nodes arrows program hashes witnesses positions))
 
 -- a value of the type stands at the front of the bits

@@ -10,7 +10,7 @@ use Rattle.refusal.specs.declared.Refusal.the-variants.{OneChildDisconnect, Arr
 use Rattle.report.specs.Nodes.{Node, comp, case, pair, disconnect, injl, injr, take, drop, disconnect1, iden, unit, witness, fail, hidden, word}
 use Rattle.scope.specs.Check.{Check, passed, refused, _>>=_, require, each}
 use Rattle.scope.specs.Numbers.{be16, tabulate, every}
-use Rattle.scope.specs.Types.{TypeRecord, isUnit, isSum, isProduct, leftAt, rightAt, isWord}
+use Rattle.scope.specs.Types.{TypeRecord, isUnit, isSum, isProduct, leftAt, rightAt, aSum, sumWithLeft, sumWithRight, aProduct, productWithLeft, productWithRight, isWord}
 use Rattle.scope.specs.Nodes.{nodeAt, onOneChild}
 use Rattle.scope.specs.Walk.{hiddenAt}
 
@@ -57,19 +57,17 @@ module _ (types : List TypeRecord) (nodes : List Node) (arrows : List Arrow) whe
   kindRule A B (case s t) =
       let sum = leftAt types A in
       let rest = rightAt types A in
-      every (isProduct types A sum rest ∷ isSum types sum (leftAt types sum) (rightAt types sum)
-      ∷ branchRule s (leftAt types sum) rest B ∷ branchRule t (rightAt types sum) rest B ∷ [])
+      every (aProduct types A ∷ aSum types sum ∷ branchRule s (leftAt types sum) rest B ∷ branchRule t (rightAt types sum) rest B ∷ [])
   kindRule A B (pair s t) = every (eqb (source arrows s) A ∷ eqb (source arrows t) A ∷ isProduct types B (target arrows s) (target arrows t) ∷ [])
   kindRule A B (disconnect s t) =
-      let word = leftAt types (source arrows s) in
       let b = leftAt types (target arrows s) in
       let c = rightAt types (target arrows s) in
-      every (isProduct types (source arrows s) word A ∷ isWord types 8 word ∷ isProduct types (target arrows s) b c
+      every (productWithRight types (source arrows s) A ∷ isWord types 8 (leftAt types (source arrows s)) ∷ aProduct types (target arrows s)
       ∷ eqb (source arrows t) c ∷ isProduct types B b (target arrows t) ∷ [])
-  kindRule A B (injl s) = every (eqb (source arrows s) A ∷ isSum types B (target arrows s) (rightAt types B) ∷ [])
-  kindRule A B (injr s) = every (eqb (source arrows s) A ∷ isSum types B (leftAt types B) (target arrows s) ∷ [])
-  kindRule A B (take s) = every (isProduct types A (source arrows s) (rightAt types A) ∷ eqb (target arrows s) B ∷ [])
-  kindRule A B (drop s) = every (isProduct types A (leftAt types A) (source arrows s) ∷ eqb (target arrows s) B ∷ [])
+  kindRule A B (injl s) = every (eqb (source arrows s) A ∷ sumWithLeft types B (target arrows s) ∷ [])
+  kindRule A B (injr s) = every (eqb (source arrows s) A ∷ sumWithRight types B (target arrows s) ∷ [])
+  kindRule A B (take s) = every (productWithLeft types A (source arrows s) ∷ eqb (target arrows s) B ∷ [])
+  kindRule A B (drop s) = every (productWithRight types A (source arrows s) ∷ eqb (target arrows s) B ∷ [])
   kindRule A B (disconnect1 s) = false
   kindRule A B iden = eqb A B
   kindRule A B unit = isUnit types B
@@ -95,6 +93,6 @@ module _ (types : List TypeRecord) (nodes : List Node) (arrows : List Arrow) whe
   unfoldable pub checkArrows : Check (Unit {0})
   unfolding _>>=_ require each noOneChild arrowRule
   checkArrows = do
-    whole ← each (length nodes) noOneChild OneChildDisconnect
+    paired ← each (length nodes) noOneChild OneChildDisconnect
     count ← require (eqb (length arrows) (length nodes)) (BadArrow (length nodes))
     each (length nodes) arrowRule BadArrow

@@ -11,7 +11,7 @@ use Rattle.report.specs.Bits.{Bit}
 use Rattle.scope.specs.Check.{Check, passed, refused, _>>=_, require}
 use Rattle.scope.specs.Numbers.{zeros, filled, streamOf, every, allZero}
 use Rattle.scope.specs.Nodes.{nodeNumbersOf, nodesOf}
-use Rattle.scope.specs.Reading.{Table, readNodes}
+use Rattle.scope.specs.Reading.{NodeTable, readNodes}
 use Rattle.scope.specs.Walk.{checkWalk}
 
 -- the bits end at the position, but for fewer than eight zeros
@@ -24,7 +24,7 @@ abbrev pub usedUp : (bytes : List ℕ) → (count : ℕ) → (rest : List Bit) �
 usedUp bytes count rest = every (eqb (length rest) 0 ∷ leb (length bytes) dossierBytes ∷ closes (streamOf bytes) count ∷ [])
 
 -- a program's bytes into stores for `records` records and `bytes` bytes
-unfoldable pub decode : (program : List ℕ) → (records bytes : ℕ) → Check Table
+unfoldable pub decode : (program : List ℕ) → (records bytes : ℕ) → Check NodeTable
 unfolding _>>=_ require streamOf readNodes checkWalk nodesOf closes
 decode program records bytes = do
   fits ← require (leb (length program) dossierBytes) (Header 0)
@@ -34,12 +34,12 @@ decode program records bytes = do
   passed t
 
 -- what decoding leaves in the node store and in the hash store: what was decoded and zeros after it, or zeros alone
-unfoldable pub nodesLeft : Check Table → (store : List ℕ) → List ℕ
+unfoldable pub nodesLeft : Check NodeTable → (store : List ℕ) → List ℕ
 unfolding filled nodeNumbersOf
 nodesLeft (passed t) store = filled (nodeNumbersOf (t .records)) store
 nodesLeft (refused r) store = zeros (length store)
 
-unfoldable pub hashesLeft : Check Table → (store : List ℕ) → List ℕ
+unfoldable pub hashesLeft : Check NodeTable → (store : List ℕ) → List ℕ
 unfolding filled
 hashesLeft (passed t) store = filled (t .hashes) store
 hashesLeft (refused r) store = zeros (length store)

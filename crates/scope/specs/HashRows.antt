@@ -11,7 +11,7 @@ use Rattle.report.specs.Nodes.{Node, comp, disconnect, disconnect1, iden, unit,
 use Rattle.scope.specs.Check.{Check, passed, refused}
 use Rattle.scope.specs.Nodes.{nodesOf}
 use Rattle.scope.specs.Shorthand.{row}
-use Rattle.scope.specs.Hashes.{rights, whole, entry, lastPlace, countPlace, checkHashes, branchHash}
+use Rattle.scope.specs.Hashes.{rights, wholeHash, entry, lastPlace, countPlace, checkHashes, branchHash}
 
 -- a hash of one byte again and again
 abbrev hash : ℕ → List ℕ
@@ -27,13 +27,13 @@ damaged = nodesOf [] (hash 4) (row 9 0 0 ∷ row 15 0 0 ∷ row 3 0 1 ∷ row 15
 
 entries : Hold (
     rights nodes is (2 ∷ 1 ∷ 2 ∷ [])
-    ∷ whole (hash 7) is hash 7
-    ∷ whole (7 ∷ hash 7) is []
-    ∷ whole (7 ∷ []) is []
+    ∷ wholeHash (hash 7) is hash 7
+    ∷ wholeHash (7 ∷ hash 7) is []
+    ∷ wholeHash (7 ∷ []) is []
     ∷ entry (hash 7 ++ hash 8) 0 is hash 7
     ∷ entry (hash 7 ++ hash 8) 1 is hash 8
     ∷ [])
-unfolding Hold rights whole entry
+unfolding Hold rights wholeHash entry
 entries = refl
 
 -- the first entry of a right child, in the order of the disconnects; a hidden node's own; nothing for other nodes, nor where the bytes are not all there

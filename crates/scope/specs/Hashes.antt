@@ -19,8 +19,8 @@ rights [] = []
 rights (n ∷ ns) = onDisconnect n (λ left right. right ∷ rights ns) (rights ns)
 
 -- the 32 bytes at a place, or nothing where they are not all there
-unfoldable pub whole : List ℕ → List ℕ
-whole bytes = elim (eqb (length bytes) hashBytes) [ true ↦ bytes | false ↦ [] ]
+unfoldable pub wholeHash : List ℕ → List ℕ
+wholeHash bytes = elim (eqb (length bytes) hashBytes) [ true ↦ bytes | false ↦ [] ]
 
 unfoldable pub entry : (given : List ℕ) → (e : ℕ) → List ℕ
 entry given e = take hashBytes (drop (hashBytes * e) given)
@@ -46,11 +46,11 @@ module _ (nodes : List Node) (given : List ℕ) where
 
   -- the first entry that is for node j, from entry e on; nothing where there is none
   unfoldable pub entryFor : (j e : ℕ) → List ℕ → List ℕ
-  unfolding entry whole
+  unfolding entry wholeHash
   entryFor j e [] = []
-  entryFor j e (r ∷ rs) = elim (eqb r j) [ true ↦ whole (entry given e) | false ↦ entryFor j (suc e) rs ]
+  entryFor j e (r ∷ rs) = elim (eqb r j) [ true ↦ wholeHash (entry given e) | false ↦ entryFor j (suc e) rs ]
 
   -- the hash of the branch at node j: a hidden node's stands in the hash store, that of a disconnect's right child among the supplied ones; any other node has none
   unfoldable pub branchHash : (j : ℕ) → List ℕ
-  unfolding nodeAt onHidden whole entryFor rights
-  branchHash j = onHidden (nodeAt nodes j) whole (entryFor j 0 (rights nodes))
+  unfolding nodeAt onHidden wholeHash entryFor rights
+  branchHash j = onHidden (nodeAt nodes j) wholeHash (entryFor j 0 (rights nodes))

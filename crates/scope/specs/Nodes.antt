@@ -17,6 +17,25 @@ unfoldable pub kindOf : ℕ → Kind
 kindOf n =
     getD (kComp ∷ kCase ∷ kPair ∷ kDisconnect ∷ kInjl ∷ kInjr ∷ kTake ∷ kDrop ∷ kIden ∷ kUnit ∷ kFail ∷ kDisconnect1 ∷ kWitness ∷ kHidden ∷ kWord ∷ []) n kUnknown
 
+-- and back
+abbrev pub kindNumber : Kind → ℕ
+kindNumber kComp = 0
+kindNumber kCase = 1
+kindNumber kPair = 2
+kindNumber kDisconnect = 3
+kindNumber kInjl = 4
+kindNumber kInjr = 5
+kindNumber kTake = 6
+kindNumber kDrop = 7
+kindNumber kIden = 8
+kindNumber kUnit = 9
+kindNumber kFail = 10
+kindNumber kDisconnect1 = 11
+kindNumber kWitness = 12
+kindNumber kHidden = 13
+kindNumber kWord = 14
+kindNumber kUnknown = 15
+
 pub record NodeRecord : Type 0 where
   pub kind : ℕ
   pub first : ℕ
@@ -75,74 +94,40 @@ nodesOf bits hashes (r ∷ rs) = nodeOf bits hashes (kindOf (r .kind)) (r .first
 unfoldable pub nodeAt : List Node → (i : ℕ) → Node
 nodeAt nodes i = getD nodes i noNode
 
+-- The four kinds that some check singles out: a hidden node by its hash, a disconnect by its two children or its one child, a witness; any other node alike
+unfoldable pub single : {X : Type 0} → Node → (hash : List ℕ → X) → (two : ℕ → ℕ → X) → (one : ℕ → X) → (wit other : X) → X
+single (comp a b) hash two one wit other = other
+single (case a b) hash two one wit other = other
+single (pair a b) hash two one wit other = other
+single (disconnect a b) hash two one wit other = two a b
+single (injl a) hash two one wit other = other
+single (injr a) hash two one wit other = other
+single (take a) hash two one wit other = other
+single (drop a) hash two one wit other = other
+single (disconnect1 a) hash two one wit other = one a
+single iden hash two one wit other = other
+single unit hash two one wit other = other
+single witness hash two one wit other = wit
+single (fail bytes) hash two one wit other = other
+single (hidden bytes) hash two one wit other = hash bytes
+single (word n bits) hash two one wit other = other
+
 -- what is made of a hidden node's hash, or of any other node
 unfoldable pub onHidden : {X : Type 0} → Node → (List ℕ → X) → (other : X) → X
-onHidden (comp a b) f other = other
-onHidden (case a b) f other = other
-onHidden (pair a b) f other = other
-onHidden (disconnect a b) f other = other
-onHidden (injl a) f other = other
-onHidden (injr a) f other = other
-onHidden (take a) f other = other
-onHidden (drop a) f other = other
-onHidden (disconnect1 a) f other = other
-onHidden iden f other = other
-onHidden unit f other = other
-onHidden witness f other = other
-onHidden (fail bytes) f other = other
-onHidden (hidden bytes) f other = f bytes
-onHidden (word n bits) f other = other
+unfolding single
+onHidden n f other = single n f (λ a b. other) (λ a. other) other other
 
--- what is made of the children of a disconnect that has two, or of any other node
+-- of the children of a disconnect that has two, or of any other node
 unfoldable pub onDisconnect : {X : Type 0} → Node → (ℕ → ℕ → X) → (other : X) → X
-onDisconnect (comp a b) f other = other
-onDisconnect (case a b) f other = other
-onDisconnect (pair a b) f other = other
-onDisconnect (disconnect a b) f other = f a b
-onDisconnect (injl a) f other = other
-onDisconnect (injr a) f other = other
-onDisconnect (take a) f other = other
-onDisconnect (drop a) f other = other
-onDisconnect (disconnect1 a) f other = other
-onDisconnect iden f other = other
-onDisconnect unit f other = other
-onDisconnect witness f other = other
-onDisconnect (fail bytes) f other = other
-onDisconnect (hidden bytes) f other = other
-onDisconnect (word n bits) f other = other
+unfolding single
+onDisconnect n f other = single n (λ hash. other) f (λ a. other) other other
 
--- what is made of the child of a disconnect that has one, or of any other node
+-- of the child of a disconnect that has one, or of any other node
 unfoldable pub onOneChild : {X : Type 0} → Node → (ℕ → X) → (other : X) → X
-onOneChild (comp a b) f other = other
-onOneChild (case a b) f other = other
-onOneChild (pair a b) f other = other
-onOneChild (disconnect a b) f other = other
-onOneChild (injl a) f other = other
-onOneChild (injr a) f other = other
-onOneChild (take a) f other = other
-onOneChild (drop a) f other = other
-onOneChild (disconnect1 a) f other = f a
-onOneChild iden f other = other
-onOneChild unit f other = other
-onOneChild witness f other = other
-onOneChild (fail bytes) f other = other
-onOneChild (hidden bytes) f other = other
-onOneChild (word n bits) f other = other
+unfolding single
+onOneChild n f other = single n (λ hash. other) (λ a b. other) f other other
 
 -- one answer for a witness, one for any other node
 unfoldable pub onWitness : {X : Type 0} → Node → (for other : X) → X
-onWitness (comp a b) for other = other
-onWitness (case a b) for other = other
-onWitness (pair a b) for other = other
-onWitness (disconnect a b) for other = other
-onWitness (injl a) for other = other
-onWitness (injr a) for other = other
-onWitness (take a) for other = other
-onWitness (drop a) for other = other
-onWitness (disconnect1 a) for other = other
-onWitness iden for other = other
-onWitness unit for other = other
-onWitness witness for other = for
-onWitness (fail bytes) for other = other
-onWitness (hidden bytes) for other = other
-onWitness (word n bits) for other = other
+unfolding single
+onWitness n for other = single n (λ hash. other) (λ a b. other) (λ a. other) for other

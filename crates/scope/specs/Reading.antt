@@ -11,7 +11,15 @@ use Rattle.refusal.specs.declared.Refusal.the-variants.{StreamEnded, Natural as
 use Rattle.report.specs.Bits.{Bit, numberFrom, bytesOf}
 use Rattle.scope.specs.Check.{Check, passed, refused}
 use Rattle.scope.specs.Naturals.{Natural, natural, ended, tooLong, readNatural}
-use Rattle.scope.specs.Nodes.{NodeRecord}
+use Rattle.scope.specs.Nodes.{Kind, kComp, kCase, kPair, kDisconnect, kInjl, kInjr, kTake, kDrop, kIden, kUnit, kFail, kDisconnect1, kWitness, kHidden, kWord, kindNumber, NodeRecord}
+
+-- THE CODES: the bits that a node begins with, and its kind. Children, a word's number and bits, and stored bytes follow.
+abbrev pub codes : List (List Bit × Kind)
+codes =
+    (0 ∷ 0 ∷ 0 ∷ 0 ∷ 0 ∷ [], kComp) ∷ (0 ∷ 0 ∷ 0 ∷ 0 ∷ 1 ∷ [], kCase) ∷ (0 ∷ 0 ∷ 0 ∷ 1 ∷ 0 ∷ [], kPair) ∷ (0 ∷ 0 ∷ 0 ∷ 1 ∷ 1 ∷ [], kDisconnect)
+    ∷ (0 ∷ 0 ∷ 1 ∷ 0 ∷ 0 ∷ [], kInjl) ∷ (0 ∷ 0 ∷ 1 ∷ 0 ∷ 1 ∷ [], kInjr) ∷ (0 ∷ 0 ∷ 1 ∷ 1 ∷ 0 ∷ [], kTake) ∷ (0 ∷ 0 ∷ 1 ∷ 1 ∷ 1 ∷ [], kDrop)
+    ∷ (0 ∷ 1 ∷ 0 ∷ 0 ∷ 0 ∷ [], kIden) ∷ (0 ∷ 1 ∷ 0 ∷ 0 ∷ 1 ∷ [], kUnit) ∷ (0 ∷ 1 ∷ 0 ∷ 1 ∷ 0 ∷ [], kFail) ∷ (0 ∷ 1 ∷ 0 ∷ 1 ∷ 1 ∷ [], kDisconnect1)
+    ∷ (0 ∷ 1 ∷ 1 ∷ 0 ∷ [], kHidden) ∷ (0 ∷ 1 ∷ 1 ∷ 1 ∷ [], kWitness) ∷ (1 ∷ 0 ∷ [], kWord) ∷ []
 
 -- what can be wrong at a node
 pub data Fault : Type 0 where
@@ -67,9 +75,13 @@ module _ (bits : List Bit) where
     bs ← next k
     give (numberFrom 0 bs)
 
+  -- how many bits were taken of a list, of which these are left
+  abbrev pub taken : (all rest : List Bit) → ℕ
+  taken all rest = length all - length rest
+
   -- what a natural that was read from the bits l at a position answers, with its bound
   unfoldable pub bounded : (most at : ℕ) → (l : List Bit) → Natural → Got ℕ
-  bounded most at l (natural n rest) = elim (leb n most) [ true ↦ got n (at + (length l - length rest)) | false ↦ fault overBound ]
+  bounded most at l (natural n rest) = elim (leb n most) [ true ↦ got n (at + taken l rest) | false ↦ fault overBound ]
   bounded most at l ended = fault streamEnded
   bounded most at l tooLong = fault lengthTooLong
 
@@ -92,7 +104,8 @@ module _ (bits : List Bit) where
     bs ← next (8 * k)
     give (bytesOf k bs)
 
-  -- a combinator after its `0` and its two-bit code, at node i with `held` bytes in the hash store
+  -- a combinator after its `0` and its two-bit code, at node i with `held` bytes in the hash store;
+  -- the kinds of a code follow one another, those of code 0 from comp on, whose number is 0
   unfoldable pub combinator : (i held code : ℕ) → Reader Item
   unfolding code child octets item _>>=_
   combinator i held zero = do
@@ -103,27 +116,27 @@ module _ (bits : List Bit) where
   combinator i held (suc zero) = do
     sub ← code 2
     only ← child i
-    item (4 + sub) only 0 []
+    item (kindNumber kInjl + sub) only 0 []
   combinator i held (suc (suc zero)) = do
     sub ← code 2
     elim (eqb sub 3) [
       | true ↦ (do
         only ← child i
-        item 11 only 0 [])
+        item (kindNumber kDisconnect1) only 0 [])
       | false ↦ elim (eqb sub 2) [
         | true ↦ (do
           bytes ← octets failBytes
-          item 10 held 0 bytes)
-        | false ↦ item (8 + sub) 0 0 []
+          item (kindNumber kFail) held 0 bytes)
+        | false ↦ item (kindNumber kIden + sub) 0 0 []
       ]
     ]
   combinator i held (suc (suc (suc k))) = do
     sub ← code 1
     elim (eqb sub 1) [
-      | true ↦ item 12 0 0 []
+      | true ↦ item (kindNumber kWitness) 0 0 []
       | false ↦ (do
         bytes ← octets hashBytes
-        item 13 held 0 bytes)
+        item (kindNumber kHidden) held 0 bytes)
     ]
 
   -- a word after its `10`: n, then 2^(n - 1) bits
@@ -133,7 +146,7 @@ module _ (bits : List Bit) where
     n ← naturalUpTo wordMost
     first ← here
     bs ← next (2 ^ (n - 1))
-    item 14 n first []
+    item (kindNumber kWord) n first []
 
   -- node i, where the hash store holds `held` bytes
   unfoldable pub node : (i held : ℕ) → Reader Item
@@ -157,13 +170,13 @@ module _ (bits : List Bit) where
     elim (leb (held + length (x .stored)) room) [ true ↦ give x | false ↦ stop hashesShort ]
 
 -- the records that were read, the bytes of the hash store, and the position after the last node
-pub record Table : Type 0 where
+pub record NodeTable : Type 0 where
   pub records : List NodeRecord
   pub hashes : List ℕ
   pub end : ℕ
 
 -- k nodes from node i on
-unfoldable pub nodesFrom : (bits : List Bit) → (room k i : ℕ) → List NodeRecord → List ℕ → (at : ℕ) → Check Table
+unfoldable pub nodesFrom : (bits : List Bit) → (room k i : ℕ) → List NodeRecord → List ℕ → (at : ℕ) → Check NodeTable
 unfolding nodeIn refusalAt
 nodesFrom bits room zero i records hashes at = passed (record { records = records; hashes = hashes; end = at })
 nodesFrom bits room (suc k) i records hashes at = elim (nodeIn bits room i (length hashes) at) [
@@ -172,7 +185,7 @@ nodesFrom bits room (suc k) i records hashes at = elim (nodeIn bits room i (leng
 ]
 
 -- all nodes, into a node store for `records` records and a hash store of `bytes` bytes
-unfoldable pub readNodes : (bits : List Bit) → (records bytes : ℕ) → Check Table
+unfoldable pub readNodes : (bits : List Bit) → (records bytes : ℕ) → Check NodeTable
 unfolding naturalUpTo nodesFrom refusalAt
 readNodes bits records bytes = elim (naturalUpTo bits nodeCount 0) [
   | got n next ↦ elim (leb n records) [ true ↦ nodesFrom bits bytes n 0 [] [] next | false ↦ refused (StoreShort 3) ]

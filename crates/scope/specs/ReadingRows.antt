@@ -1,7 +1,7 @@
 -- Reading, computed: naturals at their borders, each kind of node, every way in which a node's bits can be wrong, and the stores that are too short.
 use mathlib.Core.Path.{_≡_, refl}
 use mathlib.Core.List.{List, [], _∷_, _++_}
-use Prim.Native.Nat.{ℕ, _+_, _-_, _^_}
+use Prim.Native.Nat.{ℕ, _+_, _-_, _*_, _^_}
 use lib.ListN.{replicate, take as takeL}
 use Rattle.limits.specs.Limits.{nodeCount, naturalLength, wordMost, hashBytes, failBytes}
 use Rattle.refusal.specs.declared.Refusal.the-variants.{StreamEnded, Natural as BadNatural, Jet, StoreShort}
@@ -12,8 +12,8 @@ use Rattle.report.specs.Nodes.{Node, comp, unit, injl, fail, hidden, word, code
 use Rattle.scope.specs.Check.{Check, passed, refused}
 use Rattle.scope.specs.Numbers.{tabulate}
 use Rattle.scope.specs.Naturals.{Natural, natural, ended, tooLong, readNatural}
-use Rattle.scope.specs.Nodes.{NodeRecord}
-use Rattle.scope.specs.Reading.{Fault, streamEnded, lengthTooLong, overBound, aJet, hashesShort, Got, got, fault, Item, next, code, naturalUpTo, child, octets, node, nodeIn, Table, nodesFrom, readNodes}
+use Rattle.scope.specs.Nodes.{Kind, kUnknown, kindNumber, NodeRecord}
+use Rattle.scope.specs.Reading.{codes, Fault, streamEnded, lengthTooLong, overBound, aJet, hashesShort, Got, got, fault, Item, next, code, naturalUpTo, child, octets, node, nodeIn, NodeTable, nodesFrom, readNodes}
 use Rattle.scope.specs.Shorthand.{row, table}
 
 naturals : Hold (
@@ -72,6 +72,23 @@ read bits = node (1 ∷ bits) 3 5 1
 -- bytes 1, 2, 3, ..
 abbrev counting : ℕ → List ℕ
 counting n = tabulate n (λ k. k + 1)
+
+-- every code of the table is read as its kind
+abbrev kindRead : Got Item → ℕ
+kindRead (got x next) = x .node .kind
+kindRead (fault e) = kindNumber kUnknown
+
+abbrev kindsRead : List (List Bit × Kind) → List ℕ
+kindsRead [] = []
+kindsRead (c ∷ cs) = kindRead (read (c .0 ++ replicate (8 * failBytes) 0)) ∷ kindsRead cs
+
+abbrev kindsNamed : List (List Bit × Kind) → List ℕ
+kindsNamed [] = []
+kindsNamed (c ∷ cs) = kindNumber (c .1) ∷ kindsNamed cs
+
+every-code : Hold (kindsRead codes is kindsNamed codes ∷ [])
+unfolding Hold node
+every-code = refl
 
 nodes-read : Hold (
     read (0 ∷ 0 ∷ 0 ∷ 0 ∷ 0 ∷ 0 ∷ 1 ∷ 0 ∷ 0 ∷ []) is got (item 0 2 1 []) 10

@@ -1,6 +1,15 @@
 -- The whole job: from what is lent (a dossier and five stores, of any contents and any size) to the answer and what is left in each store.
 -- Checks go in number order. Refusals 1 to 17 leave cells, frames and answer untouched; 1 to 13, and 17 at 3 or 4, zero the node and hash stores;
 -- every other end leaves the decoded table in them, the rest zero.
+--
+-- In the order of a job:
+--   NodeTable  what decoding gives: node records, the bytes of the hash store, the position after the last node (Reading)
+--   Tables     everything that is checked and run: types, nodes, arrows, supplied hashes, witness and input bits with their counts
+--   Program    the tables once they passed, with a value for each witness node and a hash for each branch (Program)
+--   Ready      a program and its input, all checked: what the machine starts from
+--   Step       how the machine comes to its end: done, failed, pruned or stuck (Machine)
+--   Left       the answer, with cells, frames and answer store as they are left; `leftWith` makes one
+--   Ended      the answer, with all five stores; `endedWith` makes one
 use mathlib.Core.Bool.{Bool, true, false}
 use mathlib.Core.List.{List, [], _∷_, _++_}
 use Prim.Native.Nat.{ℕ, _+_, _*_, _-_, _/_}
@@ -20,7 +29,7 @@ use Rattle.scope.specs.Numbers.{zeros, filled, bytesFor, streamOf, tabul
 use Rattle.scope.specs.Header.{checkHeader, section, count, sTypes, sProgram, sArrows, sWitness, sInput, sHashes}
 use Rattle.scope.specs.Types.{TypeRecord, typeRecords, checkTypes}
 use Rattle.scope.specs.Nodes.{NodeRecord, nodeNumbersOf, nodesOf}
-use Rattle.scope.specs.Reading.{Table}
+use Rattle.scope.specs.Reading.{NodeTable}
 use Rattle.scope.specs.Closing.{decode}
 use Rattle.scope.specs.Arrows.{Arrow, arrowRecords, checkArrows}
 use Rattle.scope.specs.Hashes.{checkHashes, branchHash}
@@ -141,12 +150,12 @@ pub record Ended : Type 0 where
   pub answer : List ℕ
 
 -- an end as a call meets it: its answer, and the stores as they are left
-unfoldable pub ended : Answer → (nodes hashes cells frames answer : List ℕ) → Ended
-ended says nodes hashes cells frames answer =
+unfoldable pub endedWith : Answer → (nodes hashes cells frames answer : List ℕ) → Ended
+endedWith says nodes hashes cells frames answer =
     record { says = says; nodes = nodes; hashes = hashes; cells = cells; frames = frames; answer = answer }
 
 -- the tables that a dossier's sections hold, of which the node table was decoded
-unfoldable pub tablesOf : (dossier : List ℕ) → Table → Tables
+unfoldable pub tablesOf : (dossier : List ℕ) → NodeTable → Tables
 unfolding section count typeRecords arrowRecords nodesOf streamOf
 tablesOf d t = record {
   types = typeRecords (section d sTypes);
@@ -160,7 +169,7 @@ tablesOf d t = record {
 }
 
 -- 1 to 13: the decoded table, of which the tables are made
-unfoldable pub checkDossier : (dossier nodes hashes : List ℕ) → Check Table
+unfoldable pub checkDossier : (dossier nodes hashes : List ℕ) → Check NodeTable
 unfolding _>>=_ checkHeader checkTypes typeRecords section decode checkTables tablesOf
 checkDossier d nodes hashes = do
   header ← checkHeader d
@@ -171,10 +180,10 @@ checkDossier d nodes hashes = do
 
 -- THE WHOLE JOB
 unfoldable pub run : (dossier nodes hashes cells frames answer : List ℕ) → Ended
-unfolding checkDossier runTables tablesOf ended filled nodeNumbersOf
+unfolding checkDossier runTables tablesOf endedWith filled nodeNumbersOf
 run d nodes hashes cells frames answer = elim (checkDossier d nodes hashes) [
   | passed t ↦ (
       let left = runTables (tablesOf d t) cells frames answer in
-      ended (left .says) (filled (nodeNumbersOf (t .records)) nodes) (filled (t .hashes) hashes) (left .cells) (left .frames) (left .answer))
-  | refused r ↦ ended (Refused r) (zeros (length nodes)) (zeros (length hashes)) cells frames answer
+      endedWith (left .says) (filled (nodeNumbersOf (t .records)) nodes) (filled (t .hashes) hashes) (left .cells) (left .frames) (left .answer))
+  | refused r ↦ endedWith (Refused r) (zeros (length nodes)) (zeros (length hashes)) cells frames answer
 ]

@@ -3,7 +3,7 @@ use mathlib.Core.List.{List}
 use Prim.Native.Nat.{ℕ}
 use Rattle.scope.specs.Types.{TypeRecord}
 use Rattle.scope.specs.Nodes.{NodeRecord}
-use Rattle.scope.specs.Reading.{Table}
+use Rattle.scope.specs.Reading.{NodeTable}
 use Rattle.scope.specs.Arrows.{Arrow}
 
 abbrev pub ty : (tag left right : ℕ) → TypeRecord
@@ -16,5 +16,5 @@ to a b = record { source = a; target = b }
 abbrev pub row : (kind first second : ℕ) → NodeRecord
 row k a b = record { kind = k; first = a; second = b; third = 0 }
 
-abbrev pub table : List NodeRecord → (hashes : List ℕ) → (end : ℕ) → Table
+abbrev pub table : List NodeRecord → (hashes : List ℕ) → (end : ℕ) → NodeTable
 table rows bytes at = record { records = rows; hashes = bytes; end = at }

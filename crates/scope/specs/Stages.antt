@@ -79,9 +79,9 @@ lentTables types nodes program hashes = do
   checkWalk (nodesOf (streamOf program) hashes (nodeRecords nodes))
 
 -- the tables as a stage is lent them; what a stage does not take is empty
-unfoldable pub lent : (types nodes arrows program hashes given witness : List ℕ) → (witnessBits : ℕ) → (input : List ℕ) → (inputBits : ℕ) → Tables
+unfoldable pub tablesLent : (types nodes arrows program hashes given witness : List ℕ) → (witnessBits : ℕ) → (input : List ℕ) → (inputBits : ℕ) → Tables
 unfolding typeRecords nodeRecords nodesOf streamOf arrowRecords
-lent types nodes arrows program hashes given witness witnessBits input inputBits = record {
+tablesLent types nodes arrows program hashes given witness witnessBits input inputBits = record {
   types = typeRecords types;
   nodes = nodesOf (streamOf program) hashes (nodeRecords nodes);
   arrows = arrowRecords arrows;
@@ -94,31 +94,31 @@ lent types nodes arrows program hashes given witness witnessBits input inputBits
 
 -- up to 12
 unfoldable pub arrowStage : (types nodes arrows program hashes : List ℕ) → Check (Unit {0})
-unfolding _>>=_ lentTables lent checkArrows
+unfolding _>>=_ lentTables tablesLent checkArrows
 arrowStage types nodes arrows program hashes = do
   tables ← lentTables types nodes program hashes
-  let T = lent types nodes arrows program hashes [] [] 0 [] 0 in checkArrows (T .types) (T .nodes) (T .arrows)
+  let T = tablesLent types nodes arrows program hashes [] [] 0 [] 0 in checkArrows (T .types) (T .nodes) (T .arrows)
 
 -- up to 13
 unfoldable pub hashStage : (types nodes arrows program hashes given : List ℕ) → Check (Unit {0})
-unfolding _>>=_ lentTables lent checkTables
+unfolding _>>=_ lentTables tablesLent checkTables
 hashStage types nodes arrows program hashes given = do
   tables ← lentTables types nodes program hashes
-  checkTables (lent types nodes arrows program hashes given [] 0 [] 0)
+  checkTables (tablesLent types nodes arrows program hashes given [] 0 [] 0)
 
 -- up to 12, then 14
 unfoldable pub boundsStage : (types nodes arrows program hashes : List ℕ) → Check (Unit {0})
-unfolding _>>=_ arrowStage lent programOf checkBounds
+unfolding _>>=_ arrowStage tablesLent programOf checkBounds
 boundsStage types nodes arrows program hashes = do
   arrowed ← arrowStage types nodes arrows program hashes
-  checkBounds (programOf (lent types nodes arrows program hashes [] [] 0 [] 0) [])
+  checkBounds (programOf (tablesLent types nodes arrows program hashes [] [] 0 [] 0) [])
 
 -- all of it, and the run
 unfoldable pub runStage : (types nodes arrows program hashes given witness : List ℕ) → (witnessBits : ℕ) → (input : List ℕ) → (inputBits : ℕ)
     → (cells frames answer : List ℕ) → Left
-unfolding hashStage lent runTables leftWith
+unfolding hashStage tablesLent runTables leftWith
 runStage types nodes arrows program hashes given witness witnessBits input inputBits cells frames answer =
     elim (hashStage types nodes arrows program hashes given) [
-      | passed x ↦ runTables (lent types nodes arrows program hashes given witness witnessBits input inputBits) cells frames answer
+      | passed x ↦ runTables (tablesLent types nodes arrows program hashes given witness witnessBits input inputBits) cells frames answer
       | refused r ↦ leftWith (Refused r) cells frames answer
     ]

@@ -100,8 +100,27 @@ module _ (types : List TypeRecord) where
   unfolding typeAt
   rightAt j = (typeAt j) .right
 
+  -- a sum, or a product, of whatever parts; with this left part; with this right part
+  abbrev pub aSum : (j : ℕ) → Bool
+  aSum j = isSum j (leftAt j) (rightAt j)
+
+  abbrev pub sumWithLeft : (j left : ℕ) → Bool
+  sumWithLeft j left = isSum j left (rightAt j)
+
+  abbrev pub sumWithRight : (j right : ℕ) → Bool
+  sumWithRight j right = isSum j (leftAt j) right
+
+  abbrev pub aProduct : (j : ℕ) → Bool
+  aProduct j = isProduct j (leftAt j) (rightAt j)
+
+  abbrev pub productWithLeft : (j left : ℕ) → Bool
+  productWithLeft j left = isProduct j left (rightAt j)
+
+  abbrev pub productWithRight : (j right : ℕ) → Bool
+  productWithRight j right = isProduct j (leftAt j) right
+
   -- the very type of words of 2 ^ k bits: a sum of units, or a product of a word type with itself
   unfoldable pub isWord : (k j : ℕ) → Bool
   unfolding isUnit isSum isProduct leftAt rightAt every
-  isWord zero j = every (isSum j (leftAt j) (rightAt j) ∷ isUnit (leftAt j) ∷ isUnit (rightAt j) ∷ [])
+  isWord zero j = every (aSum j ∷ isUnit (leftAt j) ∷ isUnit (rightAt j) ∷ [])
   isWord (suc k) j = every (isProduct j (leftAt j) (leftAt j) ∷ isWord k (leftAt j) ∷ [])

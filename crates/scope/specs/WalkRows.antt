@@ -12,7 +12,7 @@ use Rattle.report.specs.Nodes.{Node, comp, case, pair, disconnect, injl, injr, 
 use Rattle.scope.specs.Check.{Check, passed, refused}
 use Rattle.scope.specs.Numbers.{zeros}
 use Rattle.scope.specs.Nodes.{NodeRecord, nodesOf}
-use Rattle.scope.specs.Reading.{Table}
+use Rattle.scope.specs.Reading.{NodeTable}
 use Rattle.scope.specs.Walk.{hiddenAt, allowed, walkFrom, checkWalk}
 use Rattle.scope.specs.Closing.{closes, decode, nodesLeft, hashesLeft}
 use Rattle.scope.specs.Shorthand.{row, table}

@@ -17,7 +17,7 @@ use Rattle.scope.specs.Walk.{checkWalk}
 use Rattle.scope.specs.Arrows.{arrowRecords, checkArrows}
 use Rattle.scope.specs.Hashes.{checkHashes}
 use Rattle.scope.specs.Run.{checkTables}
-use Rattle.scope.specs.Stages.{counted, checkRecords, lentTables, lent, arrowStage, hashStage}
+use Rattle.scope.specs.Stages.{counted, checkRecords, lentTables, tablesLent, arrowStage, hashStage}
 use Rattle.common.specs.Checks.{both-passed, then-then, stops, passes}
 use Rattle.types.specs.Table.{countedTypes}
 use Rattle.table.specs.Lent.{lentNodes}
@@ -161,7 +161,7 @@ module _ (types nodes program hashes : List ℕ) where
   module _ (arrows : List ℕ) where
     pub arrows-told : (said : Check (Unit {0})) → said ≡ countedTypes types → toldArrows said types nodes arrows program hashes
         ≡ arrowStage types nodes arrows program hashes
-    unfolding toldArrows arrowStage lent
+    unfolding toldArrows arrowStage tablesLent
     arrows-told said is =
         ap (λ (c : Check (Unit {0})). c >>= λ tables. checkArrows (typeRecords types) (nodesOf (streamOf program) hashes (nodeRecords nodes))
         (arrowRecords arrows))
@@ -171,7 +171,7 @@ module _ (types nodes program hashes : List ℕ) where
     pub hash-stage-by : (given : List ℕ) → (arrowStage types nodes arrows program hashes >>= λ arrowed. checkHashes
         (nodesOf (streamOf program) hashes (nodeRecords nodes)) given)
         ≡ hashStage types nodes arrows program hashes given
-    unfolding arrowStage hashStage checkTables lent
+    unfolding arrowStage hashStage checkTables tablesLent
     hash-stage-by given =
         then-then (lentTables types nodes program hashes)
         (λ x. checkArrows (typeRecords types) (nodesOf (streamOf program) hashes (nodeRecords nodes)) (arrowRecords arrows))

@@ -19,7 +19,7 @@ use Rattle.scope.specs.Nodes.{nodeRecords, nodesOf, nodeAt}
 use Rattle.scope.specs.Walk.{checkWalk}
 use Rattle.scope.specs.Arrows.{arrowRecords, arrowRule, checkArrows}
 use Rattle.scope.specs.Hashes.{checkHashes}
-use Rattle.scope.specs.Stages.{counted, recordRule, checkRecords, lentTables, lent, arrowStage, hashStage}
+use Rattle.scope.specs.Stages.{counted, recordRule, checkRecords, lentTables, tablesLent, arrowStage, hashStage}
 use Rattle.common.specs.Checks.{both-passed, require-holds, each-holds}
 use Rattle.common.specs.Bits.{AllBelow, length-within}
 use Rattle.exactness.specs.Arrows.{arrows-pass}
@@ -87,7 +87,7 @@ module _ (types nodes program hashes : List ℕ) where
     pub stage-passed : arrowStage types nodes arrows program hashes ≡ passed tt
         → (lentTables types nodes program hashes ≡ passed tt) ×
         (checkArrows (typeRecords types) (nodesIn nodes program hashes) (arrowRecords arrows) ≡ passed tt)
-    unfolding arrowStage lent
+    unfolding arrowStage tablesLent
     stage-passed e =
         let a = both-passed (lentTables types nodes program hashes)
         (λ tables. checkArrows (typeRecords types) (nodesIn nodes program hashes) (arrowRecords arrows)) tt e in

@@ -12,7 +12,7 @@ use Rattle.scope.specs.Numbers.{streamOf}
 use Rattle.scope.specs.Types.{typeRecords}
 use Rattle.scope.specs.Nodes.{nodeRecords, nodeAt}
 use Rattle.scope.specs.Arrows.{arrowRecords, checkArrows}
-use Rattle.scope.specs.Stages.{lentTables, lent, arrowStage}
+use Rattle.scope.specs.Stages.{lentTables, tablesLent, arrowStage}
 use Rattle.common.specs.Checks.{then-passes}
 use Rattle.common.specs.Bits.{AllBelow}
 use Rattle.exactness.specs.Types.{types-pass}
@@ -29,7 +29,7 @@ module _ (types nodes arrows program hashes : List ℕ) where
   -- THE STAGE OF THE ARROWS PASSES EXACTLY IF THE TABLES DO AND EVERY NODE HAS THE REPORT'S TYPING AT ITS ARROW
   pub stage-typed : (arrowStage types nodes arrows program hashes ≡ passed tt)
       ↔ ((lentTables types nodes program hashes ≡ passed tt) × ArrowsTyped (typeRecords types) (nodesIn nodes program hashes) (arrowRecords arrows))
-  unfolding arrowStage lent
+  unfolding arrowStage tablesLent
   stage-typed = (
     (λ e.
         let a = stage-passed types nodes program hashes arrows e in

@@ -19,7 +19,7 @@ use Rattle.scope.specs.Check.{Check, passed, refused, _>>=_}
 use Rattle.scope.specs.Numbers.{bytesFor}
 use Rattle.scope.specs.Header.{checkHeader, section, count, sTypes, sProgram, sArrows, sWitness, sInput, sHashes}
 use Rattle.scope.specs.Types.{TypeRecord, typeRecords, checkTypes}
-use Rattle.scope.specs.Reading.{Table}
+use Rattle.scope.specs.Reading.{NodeTable}
 use Rattle.scope.specs.Closing.{decode}
 use Rattle.scope.specs.Arrows.{Arrow, arrowRecords, checkArrows}
 use Rattle.scope.specs.Hashes.{branchHash, checkHashes}
@@ -40,7 +40,7 @@ use Rattle.theory.specs.Safety.{Good, GoodValue, GoodFail, GoodPrune}
 use Rattle.theory.specs.Programs.{value-of-target}
 use Rattle.theory.specs.Answers.{told, output}
 use Rattle.theory.specs.Job.{job-sound, job-input, job-says, job-output, job-refused, job-unready}
-use Rattle.theory.specs.Refusals.{Refuses, dossier-refuses, ready-refuses}
+use Rattle.theory.specs.Refusals.{Refuses, OfDecoding, OfTables, OfReady, dossier-refuses, ready-refuses}
 use Rattle.theory.specs.NodeTerms.{cells-alike, frames-alike, cost-alike, source-alike, target-alike}
 use Rattle.theory.specs.Supply.{HeaderFits, header-fits, fits-header, LimitsFit, limits-fit, fit-limits, StoresFit, stores-fit, fit-stores, HashesFit, hashes-fit, fit-hashes, InputFits, input-fits, fits-input, WitnessFits, witness-fits, fits-witness}
 
@@ -132,8 +132,8 @@ module _ (d nodes hashes cells frames answer : List ℕ) where
     kept-passes =
         let types : List TypeRecord = typeRecords (section d sTypes) in
         let arrows : List Arrow = arrowRecords (section d sArrows) in
-        let read : Check Table = decode (section d sProgram) (length nodes / nodeNumbers) (length hashes) in
-        let after : Table → Check Table = λ t. checkTables (tablesOf d t) >>= λ tables. passed t in
+        let read : Check NodeTable = decode (section d sProgram) (length nodes / nodeNumbers) (length hashes) in
+        let after : NodeTable → Check NodeTable = λ t. checkTables (tablesOf d t) >>= λ tables. passed t in
         let fit = h .program .formed .fit in
         let tables : checkTables (T ns) ≡ passed tt =
         then-passes (checkArrows types ns arrows) (λ fine. checkHashes ns (section d sHashes)) tt (typed-arrows types (h .types) ns arrows (λ i l. fit-at ns i fit l .below) (h .arrows))
@@ -164,7 +164,7 @@ module _ (d nodes hashes cells frames answer : List ℕ) where
         ∙ then-passes (checkStores Q cells frames answer) (λ stored. passed (made values v)) tt (fit-stores Q cells frames answer (stores-alike d ns values [] (h .stores)))
 
   -- ONLY SUCH A DOSSIER DOES
-  module _ (t : Table) (R : Ready) (e : checkDossier d nodes hashes ≡ passed t) (f : checkReady (tablesOf d t) cells frames answer ≡ passed R) where
+  module _ (t : NodeTable) (R : Ready) (e : checkDossier d nodes hashes ≡ passed t) (f : checkReady (tablesOf d t) cells frames answer ≡ passed R) where
     -- the type records
     abbrev types : List TypeRecord
     types = typeRecords (section d sTypes)
@@ -182,14 +182,14 @@ module _ (d nodes hashes cells frames answer : List ℕ) where
     checked : (ns : List Node) × Checked ns
     unfolding checkDossier checkTables
     checked =
-        let read : Check Table = decode (section d sProgram) (length nodes / nodeNumbers) (length hashes) in
-        let after : Table → Check Table = λ t. checkTables (tablesOf d t) >>= λ tables. passed t in
+        let read : Check NodeTable = decode (section d sProgram) (length nodes / nodeNumbers) (length hashes) in
+        let after : NodeTable → Check NodeTable = λ t. checkTables (tablesOf d t) >>= λ tables. passed t in
         let a = both-passed (checkHeader d) (λ header. checkTypes types >>= λ fine. read >>= after) t e in
         let b = both-passed (checkTypes types) (λ fine. read >>= after) t (a .2) in
         let c = both-passed read after t (b .2) in
         let g = both-passed (checkTables (tablesOf d (c .0))) (λ tables. passed (c .0)) t (c .2) in
         let same : c .0 ≡ t = (let z = g .2 in cc) in
-        let p = decoded-is-program (section d sProgram) (length nodes / nodeNumbers) (length hashes) t (c .1 ∙ ap (λ (u : Table). passed u) same) in
+        let p = decoded-is-program (section d sProgram) (length nodes / nodeNumbers) (length hashes) t (c .1 ∙ ap (λ (u : NodeTable). passed u) same) in
         let ns : List Node = p .0 in
         let own : tablesOf d (c .0) ≡ T ns = ap (tablesOf d) (same ∙ p .2) ∙ tables-are d (length nodes / nodeNumbers) (length hashes) ns (p .1) in
         let k = both-passed (checkArrows types ns arrows) (λ fine. checkHashes ns (section d sHashes)) tt (ap checkTables (sym own) ∙ g .1) in
@@ -234,17 +234,54 @@ module _ (d nodes hashes cells frames answer : List ℕ) where
           sym (ap (λ (R : Ready). R .program) is),
         )
 
--- an answer that comes from a run: an output, or a refusal above 17
+-- 18 or 19, the refusals of a run
+pub record RunRefusal (r : Refusal) : Type 0 where
+  pub least : 18 ≤ numberOf r
+  pub most : numberOf r ≤ 19
+
+-- an answer that comes from a run: an output, or one of these
 abbrev pub FromRun : Answer → Type 0
 FromRun (Value n) = Unit {0}
-FromRun (Refused why) = 17 < numberOf why
+FromRun (Refused why) = RunRefusal why
+
+-- the refusals of the checks are none of them
+abbrev OfCheck : Refusal → Type 0
+OfCheck r = RunRefusal r → ⊥
+
+decoding-checks : OfDecoding OfCheck
+decoding-checks = record {
+  header = λ at h. omega arith;
+  ended = λ at h. omega arith;
+  natural = λ at h. omega arith;
+  jet = λ at h. omega arith;
+  order = λ at h. omega arith;
+  elsewhere = λ at h. omega arith;
+  both = λ at h. omega arith;
+  repeated = λ at h. omega arith;
+  closing = λ at h. omega arith;
+  nodes-short = λ h. omega arith;
+  hashes-short = λ h. omega arith;
+}
+
+tables-check : OfTables OfCheck
+tables-check = record { one-child = λ at h. omega arith; arrow = λ at h. omega arith; hash = λ at h. omega arith }
+
+ready-checks : OfReady OfCheck
+ready-checks = record {
+  over = λ at h. omega arith;
+  witness = λ at h. omega arith;
+  input = λ h. omega arith;
+  cells-short = λ h. omega arith;
+  frames-short = λ h. omega arith;
+  answer-short = λ h. omega arith;
+}
 
 -- a meaning that is not stuck is told so
 good-told : {B : Ty} {o : Means} → Good B o → FromRun (told o)
 unfolding told
 good-told (GoodValue h) = tt
-good-told GoodFail = omega arith
-good-told GoodPrune = omega arith
+good-told GoodFail = record { least = omega arith; most = omega arith }
+good-told GoodPrune = record { least = omega arith; most = omega arith }
 
 module _ (d nodes hashes cells frames answer : List ℕ) where
   -- the whole job
@@ -278,18 +315,18 @@ module _ (d nodes hashes cells frames answer : List ℕ) where
   Acceptable = (ns : List Node) × (values : List Val) × (v : Val) × RulesKept d nodes hashes cells frames answer ns values v
 
   -- what a check refuses is no answer of a run
-  not-run : {X : Type 0} (lo : ℕ) (c : Check X) (why : Refusal) → Refuses lo 17 c → c ≡ refused why → job .says ≡ Refused why → FromRun (job .says) → ⊥
-  not-run lo c why h e q f = let n = h why e in let m : 17 < numberOf why = subst FromRun q f in omega arith
+  not-run : {X : Type 0} (c : Check X) (why : Refusal) → Refuses OfCheck c → c ≡ refused why → job .says ≡ Refused why → FromRun (job .says) → ⊥
+  not-run c why h e q f = h why e (subst FromRun q f)
 
   -- AND ONLY SUCH A DOSSIER IS ANSWERED BY A RUN
   pub run-kept : FromRun (job .says) → Acceptable
   run-kept f = go (checkDossier d nodes hashes) refl
     where
-      tables : (t : Table) → checkDossier d nodes hashes ≡ passed t → (x : Check Ready) → checkReady (tablesOf d t) cells frames answer ≡ x → Acceptable
+      tables : (t : NodeTable) → checkDossier d nodes hashes ≡ passed t → (x : Check Ready) → checkReady (tablesOf d t) cells frames answer ≡ x → Acceptable
       tables t e (passed R) p = let k = passes-kept d nodes hashes cells frames answer t R e p in (k .0, k .1, R .input, k .2)
       tables t e (refused r) p =
-          absurd (not-run 14 (checkReady (tablesOf d t) cells frames answer) r (ready-refuses (tablesOf d t) cells frames answer) p (job-unready d nodes hashes cells frames answer t r e p) f)
+          absurd (not-run (checkReady (tablesOf d t) cells frames answer) r (ready-refuses OfCheck ready-checks (tablesOf d t) cells frames answer) p (job-unready d nodes hashes cells frames answer t r e p) f)
 
-      go : (x : Check Table) → checkDossier d nodes hashes ≡ x → Acceptable
+      go : (x : Check NodeTable) → checkDossier d nodes hashes ≡ x → Acceptable
       go (passed t) e = tables t e (checkReady (tablesOf d t) cells frames answer) refl
-      go (refused r) e = absurd (not-run 1 (checkDossier d nodes hashes) r (dossier-refuses d nodes hashes) e (job-refused d nodes hashes cells frames answer r e) f)
+      go (refused r) e = absurd (not-run (checkDossier d nodes hashes) r (dossier-refuses OfCheck decoding-checks (λ at h. omega arith) tables-check d nodes hashes) e (job-refused d nodes hashes cells frames answer r e) f)

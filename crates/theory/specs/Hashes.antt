@@ -19,7 +19,7 @@ use Rattle.report.specs.Nodes.{Node, comp, case, pair, disconnect, injl, injr, 
 use Rattle.scope.specs.Check.{passed, require, each}
 use Rattle.scope.specs.Nodes.{nodeAt, onHidden, onDisconnect}
 use Rattle.scope.specs.Walk.{hiddenAt}
-use Rattle.scope.specs.Hashes.{countPlace, rights, whole, entry, clash, checkHashes, entryFor, branchHash}
+use Rattle.scope.specs.Hashes.{countPlace, rights, wholeHash, entry, clash, checkHashes, entryFor, branchHash}
 use Rattle.scope.specs.Program.{valueFrom}
 use Rattle.common.specs.Checks as Checks
 use Rattle.common.specs.Checks.{not-both, both-passed, require-holds}
@@ -77,24 +77,24 @@ among-rights (n ∷ ns) (suc i) a b e = among-more n b (rights ns) (among-rights
 
 module _ (nodes : List Node) (given : List ℕ) where
   -- the first entry for a node that is among the right children
-  entry-found : (j e : ℕ) (rs : List ℕ) → Among j rs → (d : ℕ) × (d < e + length rs) × (entryFor nodes given j e rs ≡ whole (entry given d))
+  entry-found : (j e : ℕ) (rs : List ℕ) → Among j rs → (d : ℕ) × (d < e + length rs) × (entryFor nodes given j e rs ≡ wholeHash (entry given d))
   unfolding entryFor
   entry-found j e [] h = absurd (not-suc-le-zero (h .1))
   entry-found j e (r ∷ rs) h = go (eqb r j) refl (h .0) (h .1) (h .2) (λ g. entry-found j (suc e) rs g)
     where
       go : (x : Bool) → eqb r j ≡ x → (k : ℕ) → k < suc (length rs) → getD (r ∷ rs) k 0 ≡ j
-          → (Among j rs → (d : ℕ) × (d < suc e + length rs) × (entryFor nodes given j (suc e) rs ≡ whole (entry given d)))
-          → (d : ℕ) × (d < e + suc (length rs)) × (entryFor nodes given j e (r ∷ rs) ≡ whole (entry given d))
+          → (Among j rs → (d : ℕ) × (d < suc e + length rs) × (entryFor nodes given j (suc e) rs ≡ wholeHash (entry given d)))
+          → (d : ℕ) × (d < e + suc (length rs)) × (entryFor nodes given j e (r ∷ rs) ≡ wholeHash (entry given d))
       go true f k l q later = (e, omega arith, rw (f, entryFor))
       go false f zero l q later = absurd (eqb-false r j f q)
       go false f (suc k) l q later = let p = later (k, omega arith, q) in (p .0, omega (arith, p .1), rw (f, entryFor) (p .2))
 
   -- an entry that is all there has 32 bytes
-  entry-whole : (d : ℕ) → d < length given / hashBytes → length (whole (entry given d)) ≡ hashBytes
-  unfolding whole entry
+  entry-whole : (d : ℕ) → d < length given / hashBytes → length (wholeHash (entry given d)) ≡ hashBytes
+  unfolding wholeHash entry
   entry-whole d h =
       let l : length (entry given d) ≡ hashBytes = length-take-le hashBytes (dropL (hashBytes * d) given) (omega (arith, length-drop (hashBytes * d) given)) in
-      rw (eq-eqb (length (entry given d)) hashBytes l, whole) l
+      rw (eq-eqb (length (entry given d)) hashBytes l, wholeHash) l
 
   -- THE RIGHT CHILD OF A DISCONNECT HAS A HASH OF 256 BITS
   pub hash-typed : checkHashes nodes given ≡ passed tt → (i a b : ℕ) → nodeAt nodes i ≡ disconnect a b → hiddenAt nodes b ≡ false
@@ -106,6 +106,6 @@ module _ (nodes : List Node) (given : List ℕ) where
       let count : length given / hashBytes ≡ length (rights nodes) =
       eqb-true _ _ (require-holds (eqb (length given / hashBytes) (length (rights nodes))) (Hash (countPlace (length given / hashBytes))) _ (p .1)) in
       let f = entry-found b 0 (rights nodes) (among-rights nodes i a b q) in
-      let g : branchHash nodes given b ≡ whole (entry given (f .0)) = on-shown (nodeAt nodes b) whole (entryFor nodes given b 0 (rights nodes)) shown ∙ f .2 in
+      let g : branchHash nodes given b ≡ wholeHash (entry given (f .0)) = on-shown (nodeAt nodes b) wholeHash (entryFor nodes given b 0 (rights nodes)) shown ∙ f .2 in
       let l : length (branchHash nodes given b) ≡ hashBytes = ap length g ∙ entry-whole (f .0) (omega (arith, f .1)) in
       word-from 8 (bitsOf (branchHash nodes given b)) (omega (arith, length-bits (branchHash nodes given b)))

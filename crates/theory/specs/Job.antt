@@ -20,13 +20,13 @@ use Rattle.scope.specs.Numbers.{zeros, bytesFor, streamOf}
 use Rattle.scope.specs.Header.{checkHeader, section, sTypes, sProgram}
 use Rattle.scope.specs.Types.{typeRecords, checkTypes}
 use Rattle.scope.specs.Nodes.{nodeAt, noNode, nodesOf}
-use Rattle.scope.specs.Reading.{Table}
+use Rattle.scope.specs.Reading.{NodeTable}
 use Rattle.scope.specs.Walk.{checkWalk}
 use Rattle.scope.specs.Closing.{decode}
 use Rattle.scope.specs.Program.{Program, whole, wholeSource}
 use Rattle.scope.specs.Bounds.{wholeCells, wholeFrames}
 use Rattle.scope.specs.Stores.{checkStores}
-use Rattle.scope.specs.Run.{Tables, Ready, checkTables, checkReady, tablesOf, checkDossier, leftWith, runTables, cellsOf, cleared, Ended, ended, run}
+use Rattle.scope.specs.Run.{Tables, Ready, checkTables, checkReady, tablesOf, checkDossier, leftWith, runTables, cellsOf, cleared, Ended, endedWith, run}
 use Rattle.common.specs.Checks.{clash, both-passed}
 use Rattle.common.specs.Bits.{AllBelow}
 use Rattle.exactness.specs.Nodes.{ContentFits, NodeFits, WellFormed, fit-at}
@@ -53,13 +53,13 @@ words-whole ns h i n bits e = elim (decLt i (length ns)) [
 ]
 
 -- so are the nodes that a decoded program stands for
-pub decoded : (program : List ℕ) (records bytes : ℕ) (t : Table) → decode program records bytes ≡ passed t
+pub decoded : (program : List ℕ) (records bytes : ℕ) (t : NodeTable) → decode program records bytes ≡ passed t
     → Stand (nodesOf (streamOf program) (t .hashes) (t .records))
 decoded program records bytes t e =
     let p = decoded-is-program program records bytes t e in
     let ns : List Node = p .0 in
     let same : nodesOf (streamOf program) (t .hashes) (t .records) ≡ ns =
-    ap (λ (u : Table). nodesOf (streamOf program) (u .hashes) (u .records)) (p .2) ∙ decoded-nodes program records bytes ns (p .1) in
+    ap (λ (u : NodeTable). nodesOf (streamOf program) (u .hashes) (u .records)) (p .2) ∙ decoded-nodes program records bytes ns (p .1) in
     subst Stand (sym same) (
       p .1 .formed .some,
       (λ i l. fit-at ns i (p .1 .formed .fit) l .below),
@@ -82,26 +82,26 @@ meant-bytes (failed p y) answer = refl
 meant-bytes (pruned p y) answer = refl
 meant-bytes stuck answer = refl
 
-module _ (d nodes hashes : List ℕ) (t : Table) (e : checkDossier d nodes hashes ≡ passed t) where
+module _ (d nodes hashes : List ℕ) (t : NodeTable) (e : checkDossier d nodes hashes ≡ passed t) where
   -- A DOSSIER THAT PASSED 1 TO 13 HOLDS CHECKED TABLES
   pub dossier-checked : Checked (tablesOf d t)
   unfolding checkDossier tablesOf
   dossier-checked =
-      let tables : Table → Check (Unit {0}) = λ t. checkTables (tablesOf d t) in
-      let read : Check Table = decode (section d sProgram) (length nodes / nodeNumbers) (length hashes) in
+      let tables : NodeTable → Check (Unit {0}) = λ t. checkTables (tablesOf d t) in
+      let read : Check NodeTable = decode (section d sProgram) (length nodes / nodeNumbers) (length hashes) in
       let a = both-passed (checkHeader d) (λ header. checkTypes (typeRecords (section d sTypes)) >>= λ types. read >>= λ t. tables t >>= λ passing. passed t) t e in
       let b = both-passed (checkTypes (typeRecords (section d sTypes))) (λ types. read >>= λ t. tables t >>= λ passing. passed t) t (a .2) in
       let c = both-passed read (λ t. tables t >>= λ passing. passed t) t (b .2) in
       let f = both-passed (tables (c .0)) (λ passing. passed (c .0)) t (c .2) in
       let q : c .0 ≡ t = cc in
-      let r = decoded (section d sProgram) (length nodes / nodeNumbers) (length hashes) t (subst (λ (u : Table). read ≡ passed u) q (c .1)) in
+      let r = decoded (section d sProgram) (length nodes / nodeNumbers) (length hashes) t (subst (λ (u : NodeTable). read ≡ passed u) q (c .1)) in
       record {
         types = b .1;
         some = r .0;
         below = r .1;
         words = r .2;
         walk = r .3;
-        tables = subst (λ (u : Table). tables u ≡ passed tt) q (f .1);
+        tables = subst (λ (u : NodeTable). tables u ≡ passed tt) q (f .1);
       }
 
   module _ (cells frames answer : List ℕ) (R : Ready) (p : checkReady (tablesOf d t) cells frames answer ≡ passed R) where
@@ -115,22 +115,22 @@ module _ (d nodes hashes : List ℕ) (t : Table) (e : checkDossier d nodes hashe
 
     -- THE JOB SAYS WHAT THE PROGRAM MEANS, and leaves that value's bits in the answer store
     pub job-says : (run d nodes hashes cells frames answer) .says ≡ told (eval (whole (R .program)) (R .input))
-    unfolding run ended
+    unfolding run endedWith
     job-says = rw (e, run) (tables-say (tablesOf d t) dossier-checked cells frames answer R p)
 
     -- the answer store
     pub job-output : (run d nodes hashes cells frames answer) .answer ≡ output (eval (whole (R .program)) (R .input)) answer
-    unfolding run ended
+    unfolding run endedWith
     job-output = rw (e, run) (tables-output (tablesOf d t) dossier-checked cells frames answer R p)
 
     -- the frame store: what the bound covers is zero, the rest as it was
     pub job-frames : (run d nodes hashes cells frames answer) .frames ≡ cleared (wholeFrames (R .program)) frames
-    unfolding run ended
+    unfolding run endedWith
     job-frames = rw (e, run) (tables-frames (tablesOf d t) dossier-checked cells frames answer R p)
 
     -- the cells: those of the machine's last state, from the bound on as they were
     pub job-cells : CellsLeft (runOf (R .program) (R .input) (cellsOf cells)) (wholeCells (R .program)) cells ((run d nodes hashes cells frames answer) .cells)
-    unfolding run ended
+    unfolding run endedWith
     job-cells = rw (e, run) (tables-cells (tablesOf d t) dossier-checked cells frames answer R p)
 
     -- the bytes that hold the output are those of the meaning's value alone
@@ -140,13 +140,13 @@ module _ (d nodes hashes : List ℕ) (t : Table) (e : checkDossier d nodes hashe
 -- a dossier that is refused by 1 to 13, or by 14 to 17, is told so
 pub job-refused : (d nodes hashes cells frames answer : List ℕ) (r : Refusal) → checkDossier d nodes hashes ≡ refused r
     → (run d nodes hashes cells frames answer) .says ≡ Refused r
-unfolding run ended
+unfolding run endedWith
 job-refused d nodes hashes cells frames answer r e = rw (e, run)
 
 -- refused by 14 to 17
-pub job-unready : (d nodes hashes cells frames answer : List ℕ) (t : Table) (r : Refusal) → checkDossier d nodes hashes ≡ passed t
+pub job-unready : (d nodes hashes cells frames answer : List ℕ) (t : NodeTable) (r : Refusal) → checkDossier d nodes hashes ≡ passed t
     → checkReady (tablesOf d t) cells frames answer ≡ refused r → (run d nodes hashes cells frames answer) .says ≡ Refused r
-unfolding run ended runTables leftWith
+unfolding run endedWith runTables leftWith
 job-unready d nodes hashes cells frames answer t r e p = rw (e, run) (rw (p, runTables))
 
 -- the same dossier with stores of the same sizes
@@ -182,7 +182,7 @@ module _ (d nodes nodes′ hashes hashes′ cells cells′ frames frames′ answ
             ∙ sym (ap (λ (a : Answer). outputBytes a ((run d nodes′ hashes′ cells′ frames′ answer′) .answer)) q),
       )
 
-      tables : (t : Table) → checkDossier d nodes hashes ≡ passed t → (x : Check Ready) → checkReady (tablesOf d t) cells frames answer ≡ x → Alike
+      tables : (t : NodeTable) → checkDossier d nodes hashes ≡ passed t → (x : Check Ready) → checkReady (tablesOf d t) cells frames answer ≡ x → Alike
       tables t e (passed R) p =
           let e′ = sym same-dossier ∙ e in
           let p′ = sym (same-ready (tablesOf d t)) ∙ p in (
@@ -193,7 +193,7 @@ module _ (d nodes nodes′ hashes hashes′ cells cells′ frames frames′ answ
           alike-refused r (job-unready d nodes hashes cells frames answer t r e p)
           (job-unready d nodes′ hashes′ cells′ frames′ answer′ t r (sym same-dossier ∙ e) (sym (same-ready (tablesOf d t)) ∙ p))
 
-      go : (x : Check Table) → checkDossier d nodes hashes ≡ x → Alike
+      go : (x : Check NodeTable) → checkDossier d nodes hashes ≡ x → Alike
       go (passed t) e = tables t e (checkReady (tablesOf d t) cells frames answer) refl
       go (refused r) e = alike-refused r (job-refused d nodes hashes cells frames answer r e) (job-refused d nodes′ hashes′ cells′ frames′ answer′ r (sym same-dossier ∙ e))
 

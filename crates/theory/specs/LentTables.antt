@@ -19,7 +19,7 @@ use Rattle.scope.specs.Nodes.{NodeRecord, nodeRecords, nodesOf}
 use Rattle.scope.specs.Walk.{checkWalk}
 use Rattle.scope.specs.Program.{whole}
 use Rattle.scope.specs.Run.{Tables, Ready, checkTables, checkReady, Left}
-use Rattle.scope.specs.Stages.{counted, recordRule, checkRecords, lentTables, lent, hashStage, runStage}
+use Rattle.scope.specs.Stages.{counted, recordRule, checkRecords, lentTables, tablesLent, hashStage, runStage}
 use Rattle.common.specs.Checks.{every-all, both-passed, require-holds, each-holds}
 use Rattle.common.specs.Bits.{length-bits, length-within}
 use Rattle.common.specs.Nodes.{length-nodes}
@@ -31,18 +31,18 @@ module _ (types nodes arrows program hashes given witness : List ℕ) (witnessBi
     (e : hashStage types nodes arrows program hashes given ≡ passed tt) where
   -- the tables
   abbrev T : Tables
-  T = lent types nodes arrows program hashes given witness witnessBits input inputBits
+  T = tablesLent types nodes arrows program hashes given witness witnessBits input inputBits
 
   -- LENT TABLES THAT PASSED ARE CHECKED ONES
   pub lent-checked : Checked T
-  unfolding hashStage lentTables lent checkTables counted
+  unfolding hashStage lentTables tablesLent checkTables counted
   lent-checked =
       let bits : List Bit = streamOf program in
       let records : List NodeRecord = nodeRecords nodes in
       let walk : Check (Unit {0}) = checkWalk (nodesOf bits hashes records) in
       let types′ : Check (Unit {0}) = checkTypes (typeRecords types) in
       let fits : Check (Unit {0}) = require (leb (length program) dossierBytes) (Header 0) in
-      let a = both-passed (lentTables types nodes program hashes) (λ tables. checkTables (lent types nodes arrows program hashes given [] 0 [] 0)) tt e in
+      let a = both-passed (lentTables types nodes program hashes) (λ tables. checkTables (tablesLent types nodes arrows program hashes given [] 0 [] 0)) tt e in
       let b = both-passed (counted (length records) nodeCount) (λ some. counted (length (typeRecords types)) typeCount >>= λ some.
       checkRecords program hashes records >>= λ kept. fits >>= λ fitting. types′ >>= λ typed. walk) tt (a .1) in
       let c = both-passed (counted (length (typeRecords types)) typeCount) (λ some. checkRecords program hashes records >>= λ kept. fits >>= λ fitting. types′ >>= λ typed. walk) tt (b .2) in

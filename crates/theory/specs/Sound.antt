@@ -1,5 +1,5 @@
 -- A sound program: its tables keep the rules that the checks ask for, and its values are values of their types.
--- In it the term of each node that is not hidden goes from the node's source to the node's target.
+-- That is not yet the report's typing. `term-typed` makes it so: the term of each node that is not hidden is `Typed` from the node's source to its target.
 use mathlib.Core.Path.{_≡_, refl, subst₂}
 use mathlib.Core.Bool.{true, false, not}
 use mathlib.Core.List.{List, [], _∷_}

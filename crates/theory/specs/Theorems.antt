@@ -28,7 +28,7 @@ use Rattle.scope.specs.Numbers.{tabulate, streamOf}
 use Rattle.scope.specs.Types.{TypeRecord, typeFrom, tyAt, checkTypes, leftAt, rightAt, isWord}
 use Rattle.scope.specs.Naturals.{natural, readNatural}
 use Rattle.scope.specs.Nodes.{nodeAt, nodesOf}
-use Rattle.scope.specs.Reading.{Table}
+use Rattle.scope.specs.Reading.{NodeTable}
 use Rattle.scope.specs.Walk.{hiddenAt, walkFrom, checkWalk}
 use Rattle.scope.specs.Closing.{decode}
 use Rattle.scope.specs.Arrows.{Arrow, arrowRule, checkArrows}
@@ -40,7 +40,7 @@ use Rattle.scope.specs.Witness.{checkWitness}
 use Rattle.scope.specs.Input.{checkInput}
 use Rattle.scope.specs.Stores.{checkStores}
 use Rattle.scope.specs.Run.{Ready, Left, Ended, checkDossier, tablesOf, checkReady, run, cellsOf, cleared}
-use Rattle.scope.specs.Stages.{lent, hashStage, runStage}
+use Rattle.scope.specs.Stages.{tablesLent, hashStage, runStage}
 use Rattle.scope.specs.Machine.{Frame, State, Step, state, exec, machine, answer}
 use Rattle.common.specs.Tables.{length-entries, entries-at}
 use Rattle.common.specs.Bits.{AllBelow, AreBits}
@@ -211,7 +211,7 @@ unfolding Programs.runOf
 stops-where-entered P ok v hv c = run-stops P ok v hv c
 
 -- THE JOB. A dossier that passes the checks 1 to 13 with stores of these sizes, and whose values and stores pass 14 to 17, holds a sound program and a value of its source.
-module _ (d nodes hashes cells frames answer : List ℕ) (t : Table) (R : Ready)
+module _ (d nodes hashes cells frames answer : List ℕ) (t : NodeTable) (R : Ready)
     (e : checkDossier d nodes hashes ≡ passed t) (p : checkReady (tablesOf d t) cells frames answer ≡ passed R) where
   -- The program and its input.
   pub dossier-sound : Sound (R .program) × HasTy (R .input) (wholeSource (R .program))
@@ -263,7 +263,7 @@ old-stores-change-no-bit = Job.old-output
 -- THE RUN OVER LENT TABLES that pass their checks says what the program of the tables means.
 pub stage-says-meaning : (types nodes arrows program hashes given witness : List ℕ) (witnessBits : ℕ) (input : List ℕ) (inputBits : ℕ)
     → hashStage types nodes arrows program hashes given ≡ passed tt → (cells frames answer : List ℕ) (R : Ready)
-    → checkReady (lent types nodes arrows program hashes given witness witnessBits input inputBits) cells frames answer ≡ passed R
+    → checkReady (tablesLent types nodes arrows program hashes given witness witnessBits input inputBits) cells frames answer ≡ passed R
     → (runStage types nodes arrows program hashes given witness witnessBits input inputBits cells frames answer) .says ≡ told (eval (whole (R .program)) (R .input))
 stage-says-meaning = stage-says
 
@@ -438,11 +438,11 @@ pub walk-exact : (nodes : List Node) → 1 ≤ length nodes → (checkWalk nodes
 walk-exact nodes some = (walk-canonical nodes some, (λ h. canonical-walk nodes (h .0) (h .1)))
 
 -- Decoding. It passes exactly if the program is the report's code of a table of nodes, as `IsProgram` says, and what it leaves is the layout of that table.
-pub decode-exact : (program : List ℕ) (records bytes : ℕ) (t : Table)
+pub decode-exact : (program : List ℕ) (records bytes : ℕ) (t : NodeTable)
     → (decode program records bytes ≡ passed t) ↔ ((ns : List Node) × IsProgram program records bytes ns × (t ≡ Nodes.layout ns))
 decode-exact program records bytes t = (
   decoded-is-program program records bytes t,
-  (λ h. program-is-decoded program records bytes (h .0) (h .1) ∙ ap (λ (u : Table). passed u) (sym (h .2))),
+  (λ h. program-is-decoded program records bytes (h .0) (h .1) ∙ ap (λ (u : NodeTable). passed u) (sym (h .2))),
 )
 
 -- The records and the bytes that are left stand for just the nodes of that table.
