@@ -18,7 +18,7 @@ word-cells k bits b e =
     let r = word-read k bits (omega arith) in
     let c = read-is-compact (wordTy k) bits (r .0) (drop (2 ^ k) bits) b (r .1) in
     rw (r .1, valueFrom) (word-unpadded k (c .0)
-    ∙ sym (c .1 ∙ ap (λ (l : List Bit). compact (r .0) ++ l) (drop-of-length-le bits (omega arith)) ∙ append-nil (compact (r .0))))
+    ∙ sym (c .1 ∙ ap (λ (l : List Bit). compact (r .0) ++ l) (drop-of-length-le bits {i = 2 ^ k} (omega arith)) ∙ append-nil (compact (r .0))))
 
 nothing : (k : ℕ) → readValue (wordTy k) [] ≡ short
 unfolding readValue wordTy andThen

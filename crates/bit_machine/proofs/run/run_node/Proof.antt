@@ -38,7 +38,7 @@ open-input-requires c κs =
         within-kept (start .pre .1 .0) refl (clear-call .kept .0),
         (
           Whole.input-reads (start .pre .0) (start .args .i) _ _ _ (c .before .before .source-at .ensures) (start .pre .1 .1),
-          λ some. Whole.input-as (Whole.none-open _ _ (length (start .args .frames .now)) (clear-call .ensures ∙ all-cleared _)) (Whole.input-need (start .pre .0) (start .args .i) _ _ _ (c .before .before .source-at .ensures) (start .pre .1 .1) some),
+          λ some. Whole.input-as (Whole.none-open _ _ (length (start .args .frames .now)) (clear-call .ensures ∙ all-cleared (start .args .frames .now))) (Whole.input-need (start .pre .0) (start .args .i) _ _ _ (c .before .before .source-at .ensures) (start .pre .1 .1) some),
         ),
       ),
     )
@@ -49,7 +49,7 @@ target-width-requires c κs = search needs
 open-output-requires : tie.Need-open-output-requires
 open-output-requires c κs =
     let start = c .before .before .before .before .before .before .before .before .before .before .before .before .before .before .before .before .before .before .before .before .before .before .before .before .before .before .before in
-    λ some. push-need (Whole.input-is (start .pre .0) (start .args .i) _ _ _ (c .before .before .before .before .before .before .before .before .before .source-at .ensures) _ (c .before .before .before .before .before .before .open-input .ensures ∙ ap (withInput _ _) (Whole.none-open _ _ (length (start .args .frames .now)) (c .before .before .before .before .before .before .before .before .before .before .before .before .clear-numbers .ensures ∙ all-cleared _)))) (fed-bits (within-fed (start .pre .1 .0))) (Whole.output-need (start .pre .0) (start .args .i) _ _ _ (c .before .target-width .ensures) (start .pre .1 .1) some)
+    λ some. push-need (Whole.input-is (start .pre .0) (start .args .i) _ _ _ (c .before .before .before .before .before .before .before .before .before .source-at .ensures) _ (c .before .before .before .before .before .before .open-input .ensures ∙ ap (withInput _ _) (Whole.none-open _ _ (length (start .args .frames .now)) (c .before .before .before .before .before .before .before .before .before .before .before .before .clear-numbers .ensures ∙ all-cleared (start .args .frames .now))))) (fed-bits (within-fed (start .pre .1 .0))) (Whole.output-need (start .pre .0) (start .args .i) _ _ _ (c .before .target-width .ensures) (start .pre .1 .1) some)
 
 node-requires : tie.Need-node-requires
 node-requires c κs =
@@ -60,7 +60,7 @@ node-requires c κs =
       start .pre .0,
       (
         within-kept (start .pre .1 .0) (open-input-call .kept .1 .1 .1 .1 .1 .0) (open-output-call .kept .0 ∙ open-input-call .kept .1 .1 .1 .1 .1 .1 .0 ∙ clear-call .kept .0),
-        safe-as _ (Whole.output-is (start .pre .0) (start .args .i) _ _ _ (c .before .before .before .before .before .before .target-width .ensures) _ (open-output-call .ensures _ ∙ ap (withOutput _) (Whole.input-is (start .pre .0) (start .args .i) _ _ _ (c .before .before .before .before .before .before .before .before .before .before .before .before .before .before .source-at .ensures) _ (open-input-call .ensures ∙ ap (withInput _ _) (Whole.none-open _ _ (length (start .args .frames .now)) (clear-call .ensures ∙ all-cleared _)))))) ((start .pre .1 .1) .safe .term),
+        safe-as _ (Whole.output-is (start .pre .0) (start .args .i) _ _ _ (c .before .before .before .before .before .before .target-width .ensures) _ (open-output-call .ensures _ ∙ ap (withOutput _) (Whole.input-is (start .pre .0) (start .args .i) _ _ _ (c .before .before .before .before .before .before .before .before .before .before .before .before .before .before .source-at .ensures) _ (open-input-call .ensures ∙ ap (withInput _ _) (Whole.none-open _ _ (length (start .args .frames .now)) (clear-call .ensures ∙ all-cleared (start .args .frames .now))))))) ((start .pre .1 .1) .safe .term),
       ),
     )
 
@@ -80,8 +80,8 @@ returns c =
     let open-input-call = c .before .before .before .before .before .before .before .before .before .before .before .before .before .before .before .before .before .before .before .before .open-input in
     let open-output-call = c .before .before .before .before .before .before .before .before .before .before .before .before .before .open-output in
     let node-call = c .before .before .before .before .before .before .before .before .node in (
-      Whole.whole-end (start .pre .0) (start .args .i) _ _ (node-call .result) _ _ _ (Whole.output-is (start .pre .0) (start .args .i) _ _ _ (c .before .before .before .before .before .before .before .before .before .before .before .before .before .before .before .target-width .ensures) _ (open-output-call .ensures _ ∙ ap (withOutput _) (Whole.input-is (start .pre .0) (start .args .i) _ _ _ (c .before .before .before .before .before .before .before .before .before .before .before .before .before .before .before .before .before .before .before .before .before .before .before .source-at .ensures) _ (open-input-call .ensures ∙ ap (withInput _ _) (Whole.none-open _ _ (length (start .args .frames .now)) (clear-call .ensures ∙ all-cleared _)))))) (node-call .ensures),
-      c .before .before .clear-numbers2 .ensures ∙ all-cleared _ ∙ ap zeros (node-call .kept .1 .1 .1 .1 .1 .1 .1 .1 .1 .1 .1 .0 ∙ open-output-call .kept .0 ∙ open-input-call .kept .1 .1 .1 .1 .1 .1 .0 ∙ clear-call .kept .0),
+      Whole.whole-end (start .pre .0) (start .args .i) _ _ (node-call .result) _ _ _ (Whole.output-is (start .pre .0) (start .args .i) _ _ _ (c .before .before .before .before .before .before .before .before .before .before .before .before .before .before .before .target-width .ensures) _ (open-output-call .ensures _ ∙ ap (withOutput _) (Whole.input-is (start .pre .0) (start .args .i) _ _ _ (c .before .before .before .before .before .before .before .before .before .before .before .before .before .before .before .before .before .before .before .before .before .before .before .source-at .ensures) _ (open-input-call .ensures ∙ ap (withInput _ _) (Whole.none-open _ _ (length (start .args .frames .now)) (clear-call .ensures ∙ all-cleared (start .args .frames .now))))))) (node-call .ensures),
+      c .before .before .clear-numbers2 .ensures ∙ all-cleared (node-call .last .1 .1 .1 .1 .1 .1 .1 .1 .1 .1 .1 .0) ∙ ap zeros (node-call .kept .1 .1 .1 .1 .1 .1 .1 .1 .1 .1 .1 .0 ∙ open-output-call .kept .0 ∙ open-input-call .kept .1 .1 .1 .1 .1 .1 .0 ∙ clear-call .kept .0),
     )
 
 pub run-node-spec : {M : Type 1} → statement M
