@@ -1,8 +1,8 @@
-# Packs dossiers with known answers for the programs that replay them. vectors/cases/README.md says what stands in a record. The same bytes come out each time.
+# Packs dossiers with known answers for crate replay_test. vectors/cases/README.md says what stands in a record. The same bytes come out each time.
 #
-#   pack_cases.py                           all test data of crates replay and stores_test, from vectors/cases, vectors/original and make_known.py
-#   pack_cases.py cases CASES CRATES        edges.tsv and random.tsv of the folder CASES for crate replay, stores.tsv for crate stores_test
-#   pack_cases.py original ORIGINAL CRATES  bounds.tsv of the folder vectors/original for crate replay, outputs.tsv for crate stores_test
+#   pack_cases.py                        all test data of the crate, from vectors/cases, vectors/original and its make_known.py
+#   pack_cases.py cases CASES OUT        edges.tsv, random.tsv and stores.tsv of the folder CASES, packed into the folder OUT
+#   pack_cases.py original ORIGINAL OUT  bounds.tsv and outputs.tsv of the folder vectors/original
 #
 # A table may be compressed (edges.tsv.xz).
 import lzma
@@ -12,10 +12,11 @@ import sys
 
 import limits
 from limits import LARGEST
-from parts import write_parts
+from parts import record, short_number, write_parts
 
 NOT_TOLD = 255
 NO_ANSWER, NO_BOUNDS = [NOT_TOLD, 0], [NOT_TOLD, 0, 0, 0]
+OLD, NO_STORES = 165, [b""] * 5
 LIMITS = (limits.CELL_COUNT, limits.FRAME_COUNT, limits.COST_LIMIT)
 
 
@@ -23,17 +24,6 @@ def rows(path):
     opened = open(path, encoding="utf8") if os.path.isfile(path) else lzma.open(path + ".xz", "rt", encoding="utf8")
     with opened as table:
         return [line.rstrip("\n").split("\t") for line in table if not line.startswith("#")]
-
-
-def number32(n):
-    return n.to_bytes(4, "big")
-
-
-# A number below 254 is a byte; 254 stands before one of 2 bytes, 255 before one of 4.
-def short_number(n):
-    if n < 254:
-        return bytes([n])
-    return b"\xfe" + n.to_bytes(2, "big") if n < 1 << 16 else b"\xff" + number32(n)
 
 
 def from_hex(text):
@@ -67,19 +57,14 @@ def bounds(column):
     return [0, int(words[1]), int(words[3]), int(words[5])]
 
 
-def record(numbers, parts):
-    body = b"".join(map(number32, numbers + [len(part) for part in parts])) + b"".join(parts)
-    return number32(len(body)) + body
-
-
-# A case with its answer and bounds.
+# A case with its answer and bounds, in the largest stores.
 def plain(name, said, bound, output, dossier):
-    return record(said + bound, [name.encode(), dossier, output])
+    return record(said + bound + [OLD] + LARGEST, [name.encode(), dossier, output] + NO_STORES)
 
 
 # A case in lent stores: their old contents, their sizes and what is told of them afterwards.
 def lent(name, said, fill, sizes, output, dossier, stores):
-    return record(said + [fill] + sizes, [name.encode(), dossier, output] + stores)
+    return record(said + NO_BOUNDS + [fill] + sizes, [name.encode(), dossier, output] + stores)
 
 
 def edge(row):
@@ -105,7 +90,7 @@ def output(row):
     name, line, _, zeros, ones, dossier = row
     said, bits = answer(line)
     if zeros == "*":
-        return [lent(name, said, 165, LARGEST, bits, from_hex(dossier), [b""] * 5)]
+        return [lent(name, said, OLD, LARGEST, bits, from_hex(dossier), NO_STORES)]
     made = []
     for fill, cells in ((0, from_hex(zeros)), (255, from_hex(ones))):
         sizes = LARGEST[:2] + [len(cells)] + LARGEST[3:]
@@ -125,23 +110,24 @@ def bound(row):
 
 
 FILES = {
-    "cases": (("edges", edge, "replay"), ("random", edge, "replay"), ("stores", with_stores, "stores_test")),
-    "original": (("bounds", bound, "replay"), ("outputs", output, "stores_test")),
+    "cases": (("edges", edge), ("random", edge), ("stores", with_stores)),
+    "original": (("bounds", bound), ("outputs", output)),
 }
 
 
-def main(kind, source, crates):
-    for name, packed, crate in FILES[kind]:
+def main(kind, source, out):
+    for name, packed in FILES[kind]:
         made = [one for row in rows(f"{source}/{name}.tsv") for one in packed(row)]
-        write_parts(f"{crates}/{crate}/data/{name}", made)
+        write_parts(f"{out}/{name}", made)
         print(len(made), name, sum(map(len, made)), "bytes")
 
 
 def everything():
     root = os.path.dirname(os.path.dirname(os.path.abspath(__file__)))
-    main("cases", f"{root}/vectors/cases", f"{root}/crates")
-    main("original", f"{root}/vectors/original", f"{root}/crates")
-    subprocess.run([sys.executable, f"{root}/crates/replay/make_known.py", f"{root}/crates"], check=True)
+    crate = f"{root}/crates/replay_test"
+    main("cases", f"{root}/vectors/cases", f"{crate}/data")
+    main("original", f"{root}/vectors/original", f"{crate}/data")
+    subprocess.run([sys.executable, f"{crate}/make_known.py", f"{crate}/data"], check=True)
 
 
 if __name__ == "__main__":

@@ -1,7 +1,25 @@
-"""Packed records in files that a program can hold whole: at most 64 KiB each, a record never cut. Their names end in 0, 1 and so on."""
+"""Packed records, and files of them that a program can hold whole: at most 64 KiB each, a record never cut. Their names end in 0, 1 and so on."""
 import os
 
 LARGEST = 65536
+
+
+def number32(n):
+    """A number of 32 bits, big-endian."""
+    return n.to_bytes(4, "big")
+
+
+def short_number(n):
+    """A number of a packed list: below 254 it is a byte; 254 stands before one of 2 bytes, 255 before one of 4."""
+    if n < 254:
+        return bytes([n])
+    return b"\xfe" + n.to_bytes(2, "big") if n < 1 << 16 else b"\xff" + number32(n)
+
+
+def record(numbers, parts, end=b""):
+    """The count of the other bytes, the numbers, the sizes of the parts, the parts, and what follows them."""
+    body = b"".join(map(number32, [*numbers] + [len(part) for part in parts])) + b"".join(parts) + end
+    return number32(len(body)) + body
 
 
 def write_parts(path, records):

@@ -1,6 +1,10 @@
 # make_reads.py VECTORS OUT: writes data/reads from the original's answers, naturals.tsv and tables.tsv of the folder VECTORS.
 # The bit position of a hash or of a fail node's bytes is where those bits stand in the program: a program in which they stand twice is left out.
+import os
 import sys
+
+sys.path.append(os.path.join(os.path.dirname(os.path.abspath(__file__)), "../../tools"))
+from parts import record
 
 ANSWERS = {"value": 0, "ended": 1, "long": 2, "over": 3}
 
@@ -15,16 +19,14 @@ def data(text):
     return b"" if text == "-" else bytes.fromhex(text)
 
 
-def record(kind, stream, at, answer=0, bound=0, value=0, following=0, read=b""):
-    head = bytes([kind]) + len(stream).to_bytes(2, "big") + at.to_bytes(2, "big") + bytes([answer])
-    numbers = bound.to_bytes(4, "big") + value.to_bytes(4, "big") + following.to_bytes(2, "big")
-    return head + numbers + bytes([len(read)]) + read + stream
+def read_record(kind, stream, at, answer=0, bound=0, value=0, following=0, read=b""):
+    return record([kind, at, answer, bound, value, following], [read, stream])
 
 
 def naturals(folder):
     for _, answer, value, following, bound, start, stream in rows(folder + "/naturals.tsv"):
         number = int(value) if answer == "value" else 0
-        yield record(0, data(stream), int(start), ANSWERS[answer], int(bound), number, int(following))
+        yield read_record(0, data(stream), int(start), ANSWERS[answer], int(bound), number, int(following))
 
 
 def whole_bytes(folder):
@@ -38,16 +40,16 @@ def whole_bytes(folder):
             read = hashes[place:place + (64 if kind == 10 else 32)]
             wanted = "".join(f"{b:08b}" for b in read)
             if bits.find(wanted) == bits.rfind(wanted):
-                yield record(1, program, bits.find(wanted), following=bits.find(wanted) + 8 * len(read), read=read)
+                yield read_record(1, program, bits.find(wanted), following=bits.find(wanted) + 8 * len(read), read=read)
 
 
 def closings(folder):
     for _, mark, answer, _, _, read, program, _, _ in rows(folder + "/tables.tsv"):
         if mark == "all" and answer in ("0", "10"):
-            yield record(2, data(program), int(read), int(answer != "0"))
+            yield read_record(2, data(program), int(read), int(answer != "0"))
 
 
 if __name__ == "__main__":
     made = [*naturals(sys.argv[1]), *whole_bytes(sys.argv[1]), *closings(sys.argv[1])]
     open(sys.argv[2], "wb").write(b"".join(made))
-    print({k: sum(r[0] == k for r in made) for k in range(3)}, sum(map(len, made)), "bytes")
+    print({k: sum(r[7] == k for r in made) for k in range(3)}, sum(map(len, made)), "bytes")

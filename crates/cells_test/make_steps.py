@@ -1,7 +1,11 @@
 # make_steps.py OUT: writes data/steps, steps on packed cells with what each leaves, by a list of bits that knows nothing of bytes.
 # A cell past the end reads as 0 and is not written; a copy goes bit by bit from the first cell on, each from the list as it then is.
+import os
 import random
 import sys
+
+sys.path.append(os.path.join(os.path.dirname(os.path.abspath(__file__)), "../../tools"))
+from parts import record
 
 READ, WRITE, COPY, ZERO, PUT = range(5)
 
@@ -42,11 +46,10 @@ def step(bits, op, x, y, z):
     return 0
 
 
-def record(data, op, x, y, z):
+def step_record(data, op, x, y, z):
     bits = unpacked(data)
     answer = step(bits, op, x, y, z)
-    numbers = b"".join(n.to_bytes(4, "big") for n in (x, y, z))
-    return bytes([len(data), op]) + numbers + bytes([answer]) + data + packed(bits)
+    return record([op, x, y, z, answer], [data], packed(bits))
 
 
 def place(rng, cells):
@@ -63,28 +66,28 @@ def made(rng):
         op = rng.choice((READ, WRITE, COPY, COPY, ZERO))
         x = place(rng, cells)
         y = {WRITE: rng.randrange(256), COPY: place(rng, cells), ZERO: count(rng, cells)}.get(op, 0)
-        yield record(data, op, x, y, count(rng, cells) if op == COPY else 0)
+        yield step_record(data, op, x, y, count(rng, cells) if op == COPY else 0)
 
 
 # Copies to every place in a byte, from up to nine cells before the target to nine behind it.
 def near(rng):
     for to in range(16, 24):
         for apart in range(-9, 10):
-            yield record(rng.randbytes(6), COPY, to - apart, to, 8 + rng.randrange(17))
+            yield step_record(rng.randbytes(6), COPY, to - apart, to, 8 + rng.randrange(17))
 
 
 # Bits put from every place in a byte to every place in a byte, and from and to any place.
 def puts(rng):
     for x in range(8):
         for y in range(8, 16):
-            yield record(rng.randbytes(6), PUT, x, y, 8 + rng.randrange(33))
+            yield step_record(rng.randbytes(6), PUT, x, y, 8 + rng.randrange(33))
     for n in list(range(13)) * 10:
         cells = 8 * n
-        yield record(rng.randbytes(n), PUT, place(rng, cells), place(rng, cells), count(rng, cells))
+        yield step_record(rng.randbytes(n), PUT, place(rng, cells), place(rng, cells), count(rng, cells))
 
 
 if __name__ == "__main__":
     rng = random.Random(1)
     steps = [*made(rng), *near(rng), *puts(rng)]
     open(sys.argv[1], "wb").write(b"".join(steps))
-    print({op: sum(s[1] == op for s in steps) for op in range(5)}, sum(map(len, steps)), "bytes")
+    print({op: sum(s[7] == op for s in steps) for op in range(5)}, sum(map(len, steps)), "bytes")

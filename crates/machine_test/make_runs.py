@@ -5,7 +5,7 @@ import sys
 import threading
 
 sys.path.append(os.path.join(os.path.dirname(os.path.abspath(__file__)), "../../tools"))
-from parts import write_parts
+from parts import record, short_number, write_parts
 
 COMP, CASE, PAIR, DISCONNECT, INJL, INJR, TAKE, DROP, IDEN, UNIT, FAIL, DISCONNECT1, WITNESS, HIDDEN, WORD = range(15)
 FILLS = (0x00, 0xFF, 0xA5)
@@ -310,17 +310,7 @@ def runs(numbers):
     return text
 
 
-def number32(n):
-    return n.to_bytes(4, "big")
-
-
-def short_number(n):
-    if n < 254:
-        return bytes([n])
-    return b"\xfe" + n.to_bytes(2, "big") if n < 1 << 16 else b"\xff" + number32(n)
-
-
-def record(name, p, given, fill, sizes):
+def run_record(name, p, given, fill, sizes):
     parts = [
         name.encode(),
         b"".join(bytes([t]) + a.to_bytes(2, "big") + b.to_bytes(2, "big") for t, a, b in p.records),
@@ -328,9 +318,7 @@ def record(name, p, given, fill, sizes):
         b"".join(n.to_bytes(2, "big") for arrow in p.arrows for n in arrow),
         bytes_of(p.word_bits), p.hashes, p.given, bytes_of(p.witness), bytes_of(given),
     ]
-    numbers = [len(p.witness), len(given), fill, *sizes] + [len(part) for part in parts]
-    body = b"".join(map(number32, numbers)) + b"".join(parts)
-    return number32(len(body)) + body
+    return record([len(p.witness), len(given), fill, *sizes], parts)
 
 
 # Widths 1, 2, 8 and a sum that pads: 1 + 2^8.
@@ -487,7 +475,7 @@ def main():
         for name, p, given in group():
             for fill, sizes in trials(p, small):
                 said, cells, frames, answer = outcome(p, given, fill, sizes)
-                made.append(record(name, p, given, fill, sizes))
+                made.append(run_record(name, p, given, fill, sizes))
                 lines += f"{name}, filled with {fill:x}: {said}; cells{runs(cells)}; frames{runs(frames)}; answer{runs(answer)}\n"
     folder = os.path.dirname(os.path.abspath(__file__))
     write_parts(folder + "/data/runs", made)

@@ -6,7 +6,7 @@ import random
 import sys
 
 sys.path.append(os.path.join(os.path.dirname(os.path.abspath(__file__)), "../../tools"))
-from parts import read_parts, write_parts
+from parts import read_parts, record, short_number, write_parts
 
 COMP, CASE, PAIR, DISCONNECT, INJL, INJR, TAKE, DROP, IDEN, UNIT, FAIL, DISCONNECT1, WITNESS, HIDDEN, WORD = range(15)
 TWO, ONE, NONE = (COMP, CASE, PAIR, DISCONNECT), (INJL, INJR, TAKE, DROP, DISCONNECT1), (IDEN, UNIT, WITNESS)
@@ -89,23 +89,8 @@ def lent_answer(numbers, program_bytes, hashes):
     return 0, 0
 
 
-def number32(n):
-    return n.to_bytes(4, "big")
-
-
-def short_number(n):
-    if n < 254:
-        return bytes([n])
-    return b"\xfe" + n.to_bytes(2, "big") if n < 1 << 16 else b"\xff" + number32(n)
-
-
 def packed(numbers):
     return b"".join(map(short_number, numbers))
-
-
-def record(values, parts):
-    body = b"".join(map(number32, [*values] + [len(part) for part in parts])) + b"".join(parts)
-    return number32(len(body)) + body
 
 
 # A hash store of zeros is told by its size alone.
@@ -399,18 +384,18 @@ def unpacked(path, numbers, parts):
 
 # The programs of the cases with stores, where the run comes to them.
 def cases(folder):
-    for values, parts in unpacked(folder + "/stores", 8, 8):
+    for values, parts in unpacked(folder + "/stores", 12, 8):
         name, dossier, _, nodes, hashes = parts[:5]
-        answer = tuple(values[:2])
+        answer, node_numbers, hash_bytes = tuple(values[:2]), *values[7:9]
         if answer[0] in (1, 2):
             continue
         size, start = (int.from_bytes(dossier[k:k + 4], "big") for k in (12, 16))
-        made, found, table, data = program_record(dossier[start:start + size], values[3], values[4])
+        made, found, table, data = program_record(dossier[start:start + size], node_numbers, hash_bytes)
         if answer[0] <= 10 and answer[0] or answer in ((17, 3), (17, 4)):
             same(answer, found, name)
         if answer[0] not in (11, 12, 13):
-            same(number_list(nodes), sum(table, []) + [0] * (values[3] - 4 * len(table)), name)
-            same(hashes, data + bytes(values[4] - len(data)), name)
+            same(number_list(nodes), sum(table, []) + [0] * (node_numbers - 4 * len(table)), name)
+            same(hashes, data + bytes(hash_bytes - len(data)), name)
         yield made
 
 

@@ -1,22 +1,16 @@
 # make_values.py VECTORS OUT: writes `values` into the folder OUT from the original's answers, values.tsv of the folder VECTORS, and `tables`.
 # What a table's check says, its widths and its entries are worked out here from the rules, record by record.
-#
-# A record is 13 numbers of 16 bits and four parts; the last four numbers are the sizes of the parts.
-# A table: the refusal's number and its place, or 0 and the count of records. Parts: the table; width and entry of each good record.
-# A value: what comes of it (0 read, 1 too few bits, 2 too few cells, 3 more bits than count), type index, first bit, the bit after those
-# that count, the bit after the value, first cell, first bit in the answer, the byte that fills both stores, width.
-# Parts: table, stream, cells and answer as they are left.
+# data/README.md says what stands in a record.
+import os
 import random
 import sys
+
+sys.path.append(os.path.join(os.path.dirname(os.path.abspath(__file__)), "../../tools"))
+from parts import record, write_parts
 
 UNIT, SUM, PRODUCT = range(3)
 MOST_TYPES, MOST_WIDTH = 1024, 32768
 UNPADDED = 65535
-
-
-def record(numbers, parts):
-    numbers = [*numbers] + [0] * (9 - len(numbers)) + [len(p) for p in parts]
-    return b"".join(n.to_bytes(2, "big") for n in numbers) + b"".join(parts)
 
 
 def packed_table(table):
@@ -77,7 +71,7 @@ def check(data):
 def table_record(data):
     answer, widths, entries = check(data)
     arrays = b"".join(w.to_bytes(2, "big") + n.to_bytes(2, "big") for w, n in zip(widths, entries))
-    return record(answer, [data, arrays, b"", b""])
+    return record([*answer] + [0] * 7, [data, arrays, b"", b""])
 
 
 # How many of the bits a value of the type takes, or None where there are too few.
@@ -185,5 +179,5 @@ if __name__ == "__main__":
     rng = random.Random(1)
     made = {"tables": [table_record(t) for t in tables(rng)], "values": [*originals(rng, sys.argv[1]), *timed(rng)]}
     for name, records in made.items():
-        open(f"{sys.argv[2]}/{name}", "wb").write(b"".join(records))
+        write_parts(f"{sys.argv[2]}/{name}", records)
         print(len(records), name, sum(map(len, records)), "bytes")

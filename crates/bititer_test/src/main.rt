@@ -11,8 +11,25 @@ ghost use mathlib.Core.Path.{_≡_};
 ghost use Prim.Native.Nat.{_<_, _≤_};
 ghost use lib.ListN.{length};
 
-// The bytes of a record before what was read and the stream.
-const HEAD: usize = 17;
+// The numbers of a record: the kind of read, its bit position, its answer, a natural's bound and the natural, and the next position.
+const KIND: u32 = 0;
+
+const POSITION: u32 = 1;
+
+const SAID: u32 = 2;
+
+const BOUND: u32 = 3;
+
+const NATURAL: u32 = 4;
+
+const NEXT: u32 = 5;
+
+// The parts of a record, each by the number that is its size, and how many numbers a record has.
+const READ: u32 = 6;
+
+const STREAM: u32 = 7;
+
+const HEAD: u32 = 8;
 
 // The longest stream, with a byte for the offset.
 const MOST: usize = 512;
@@ -24,64 +41,35 @@ const AT: usize = 3;
 
 const ROOM: usize = 80;
 
-// The fields of a record.
-fn kind(record: &[u8]) -> u8 {
-    common::byte_at(record, 0)
+// A part of a record.
+fn part(record: &[u8], k: u32) -> &[u8] {
+    packed::part(record, READ, HEAD, k)
 }
 
-fn stream_bytes(record: &[u8]) -> usize
-    ensures { λ r. ⌜ r < 4294967296 ⌝ }
+// Number k of a record, moved along.
+fn moved_number(record: &[u8], k: u32, offset: u32) -> usize
+    requires { ⌜ offset < 8 ⌝ }
 {
-    common::half_at(record, 1) as usize
-}
-
-fn position(record: &[u8]) -> usize
-    ensures { λ r. ⌜ r < 4294967296 ⌝ }
-{
-    common::half_at(record, 3) as usize
-}
-
-fn answer(record: &[u8]) -> u8 {
-    common::byte_at(record, 5)
-}
-
-fn next_position(record: &[u8]) -> usize
-    ensures { λ r. ⌜ r < 4294967296 ⌝ }
-{
-    common::half_at(record, 14) as usize
-}
-
-fn read_bytes(record: &[u8]) -> usize
-    ensures { λ r. ⌜ r < 256 ⌝ }
-{
-    common::byte_at(record, 16) as usize
-}
-
-// How many bytes the record has.
-fn long(record: &[u8]) -> usize
-    ensures { λ r. ⌜ 0 < r ⌝ }
-{
-    HEAD + read_bytes(record) + stream_bytes(record)
+    packed::number(record, k) as usize + offset as usize
 }
 
 // The byte at i, with room for another before it.
-fn wide_byte(record: &[u8], i: usize) -> u32
+fn wide_byte(bytes: &[u8], i: usize) -> u32
     ensures { λ r. ⌜ r < 256 ⌝ }
 {
-    common::byte_at(record, i) as u32
+    common::byte_at(bytes, i) as u32
 }
 
-// The record's stream with `offset` zeros before it.
-fn moved(record: &[u8], offset: u32) -> [u8; MOST]
+// The bytes with `offset` zeros before them.
+fn moved(bytes: &[u8], offset: u32) -> [u8; MOST]
     requires { ⌜ offset < 8 ⌝ }
     ensures { λ r. ⌜ 512 ≡ length r ⌝ }
 {
     let mut stream = [0u8; MOST];
-    let start = HEAD + read_bytes(record);
     let mut before: u32 = 0;
     let mut i: usize = 0;
     while i < MOST {
-        let here = wide_byte(record, start + i);
+        let here = wide_byte(bytes, i);
         stream[i] = (((before * 256 + here) >> offset) % 256) as u8;
         before = here;
         i += 1;
@@ -89,13 +77,13 @@ fn moved(record: &[u8], offset: u32) -> [u8; MOST]
     stream
 }
 
-// How many bytes that stream has.
-fn moved_bytes(record: &[u8], offset: u32) -> usize {
-    let n = stream_bytes(record);
+// How many bytes they are then.
+fn moved_bytes(bytes: &[u8], offset: u32) -> usize {
+    let n = bytes.len();
     if offset == 0 { n } else { n + 1 }
 }
 
-fn fault_number(fault: NaturalFault) -> u8 {
+fn fault_number(fault: NaturalFault) -> u32 {
     match fault {
         NaturalFault::Ended => 1,
         NaturalFault::TooLong => 2,
@@ -104,41 +92,32 @@ fn fault_number(fault: NaturalFault) -> u8 {
 }
 
 // Whether a natural is read as the record says.
-fn natural_right(record: &[u8], offset: u32) -> bool
+fn natural_right(record: &[u8], stream: &[u8], offset: u32) -> bool
     requires { ⌜ offset < 8 ⌝ }
 {
-    let stream = moved(record, offset);
-    let size = moved_bytes(record, offset);
-    let moves = offset as usize;
-    let p = position(record) + moves;
-    match bititer::natural(
-        packed::front(&stream, size),
-        p,
-        common::number_at(record, 6),
-    ) {
+    let p = moved_number(record, POSITION, offset);
+    match bititer::natural(stream, p, packed::number(record, BOUND)) {
         NaturalRead::Read(n, next) => {
-            answer(record) == 0
-                && n == common::number_at(record, 10)
-                && next == next_position(record) + moves
+            packed::number(record, SAID) == 0
+                && n == packed::number(record, NATURAL)
+                && next == moved_number(record, NEXT, offset)
         }
-        NaturalRead::Fault(fault) => answer(record) == fault_number(fault),
+        NaturalRead::Fault(fault) => packed::number(record, SAID) == fault_number(fault),
     }
 }
 
-// Whether the store holds the bytes that the record says were read, and else what it held.
-fn holds(store: &[u8], record: &[u8], count: usize) -> bool {
+// Whether the store holds the bytes that were read, and else what it held.
+fn holds(store: &[u8], read: &[u8]) -> bool {
     let old = [OLD; ROOM];
-    let read = packed::from(store, AT);
+    let count = read.len();
+    let written = packed::from(store, AT);
     if !check::same(packed::front(store, AT), packed::front(&old, AT)) {
         return false;
     }
-    if !check::same(
-        packed::front(read, count),
-        packed::front(packed::from(record, HEAD), count),
-    ) {
+    if !check::same(packed::front(written, count), read) {
         return false;
     }
-    let after = packed::from(read, count);
+    let after = packed::from(written, count);
     check::same(after, packed::front(&old, after.len()))
 }
 
@@ -151,55 +130,58 @@ fn asked(s: &[u8], p: usize, store: &mut [u8], count: usize) -> BytesRead {
 }
 
 // Whether whole bytes are read as the record says.
-fn bytes_right(record: &[u8], offset: u32) -> bool
+fn bytes_right(record: &[u8], stream: &[u8], offset: u32) -> bool
     requires { ⌜ offset < 8 ⌝ }
 {
-    let stream = moved(record, offset);
-    let size = moved_bytes(record, offset);
-    let count = read_bytes(record);
+    let read = part(record, READ);
+    let p = moved_number(record, POSITION, offset);
     let mut store = [OLD; ROOM];
-    let read = asked(
-        packed::front(&stream, size),
-        position(record) + offset as usize,
-        &mut store,
-        count,
-    );
-    let BytesRead::Read(next) = read else {
+    let BytesRead::Read(next) = asked(stream, p, &mut store, read.len()) else {
         return false;
     };
-    if next != next_position(record) + offset as usize {
+    if next != moved_number(record, NEXT, offset) {
         return false;
     }
-    holds(&store, record, count)
+    holds(&store, read)
 }
 
 // Whether the stream closes as the record says.
-fn closing_right(record: &[u8]) -> bool {
-    let stream = moved(record, 0);
-    let size = moved_bytes(record, 0);
-    bititer::closes(packed::front(&stream, size), position(record)) == (answer(record) == 0)
+fn closing_right(record: &[u8], stream: &[u8]) -> bool {
+    let closes = bititer::closes(stream, packed::number(record, POSITION) as usize);
+    closes == (packed::number(record, SAID) == 0)
 }
 
-// Whether the read is made as the record says. One that is cut off is wrong.
+// Whether the read is made as the record says.
+fn read_right(record: &[u8], stream: &[u8], offset: u32) -> bool
+    requires { ⌜ offset < 8 ⌝ }
+{
+    match packed::number(record, KIND) {
+        0 => natural_right(record, stream, offset),
+        1 => bytes_right(record, stream, offset),
+        _ => closing_right(record, stream),
+    }
+}
+
+// The same on the record's stream, moved along.
 fn right(record: &[u8], offset: u32) -> bool
     requires { ⌜ offset < 8 ⌝ }
 {
-    if record.len() < long(record) {
-        return false;
-    }
-    match kind(record) {
-        0 => natural_right(record, offset),
-        1 => bytes_right(record, offset),
-        _ => closing_right(record),
-    }
+    let bytes = part(record, STREAM);
+    let stream = moved(bytes, offset);
+    let size = moved_bytes(bytes, offset);
+    read_right(record, packed::front(&stream, size), offset)
 }
 
 // At how many offsets the read is made: at one where its answer rests on the end of the stream.
 fn offsets(record: &[u8]) -> u32
     ensures { λ r. ⌜ r ≤ 8 ⌝ }
 {
-    match kind(record) {
-        0 => if answer(record) == 1 { 1 } else { 8 },
+    match packed::number(record, KIND) {
+        0 => if packed::number(record, SAID) == 1 {
+            1
+        } else {
+            8
+        },
         1 => 8,
         _ => 1,
     }
@@ -217,21 +199,21 @@ fn replayed(t: Tally, record: &[u8]) -> Tally {
     tally
 }
 
-// The read of the record at the start of some bytes, if it is of a kind.
-fn replayed_of(t: Tally, record: &[u8], wanted: u8) -> Tally {
-    if kind(record) != wanted {
+// The same, if the record is of a kind.
+fn replayed_of(t: Tally, record: &[u8], wanted: u32) -> Tally {
+    if packed::number(record, KIND) != wanted {
         return t;
     }
-    replayed(t, packed::front(record, long(record)))
+    replayed(t, record)
 }
 
 // All reads of a kind.
-fn replay(file: &[u8], wanted: u8) -> Tally {
+fn replay(file: &[u8], wanted: u32) -> Tally {
     let mut t = Tally { count: 0, wrong: 0 };
     let mut rest = file;
     while 0 < rest.len() {
-        t = replayed_of(t, rest, wanted);
-        let next = packed::from(rest, long(rest));
+        t = replayed_of(t, packed::first_record(rest), wanted);
+        let next = packed::after_first(rest);
         rest = next;
     }
     t

@@ -1,37 +1,36 @@
 // Makes steps on packed cells, and prints how many there were and how many left something else than the file `steps` says.
-// A record has a length n, the step, three numbers, the answer, then n bytes before the step and n after it (data/README.md).
+// data/README.md says what stands in a record, and how the file was made.
 use packed::Tally;
 ghost use mathlib.Core.Path.{_≡_};
-ghost use Prim.Native.Nat.{_<_};
 ghost use lib.ListN.{length};
 
-// The bytes of a record before the cells, and the most bytes of cells.
-const HEAD: usize = 15;
+// The numbers of a record: the step, what it is told, and what a read answers.
+const STEP: u32 = 0;
 
+const X: u32 = 1;
+
+const Y: u32 = 2;
+
+const Z: u32 = 3;
+
+const READ: u32 = 4;
+
+// The size of the cells before the step, which are the first part, and how many numbers a record has. The cells after the step are its end.
+const BEFORE: u32 = 5;
+
+const HEAD: u32 = 6;
+
+// The most bytes of cells.
 const MOST: usize = 16;
 
-// How many bytes of cells the record has.
-fn size(record: &[u8]) -> usize
-    ensures { λ r. ⌜ r < 256 ⌝ }
-{
-    common::byte_at(record, 0) as usize
-}
-
-// How many bytes the record has.
-fn long(record: &[u8]) -> usize
-    ensures { λ r. ⌜ 0 < r ⌝ }
-{
-    HEAD + 2 * size(record)
-}
-
-// The cells before the step.
-fn before(record: &[u8]) -> [u8; MOST]
+// The cells before the step, in an array.
+fn before(old: &[u8]) -> [u8; MOST]
     ensures { λ r. ⌜ 16 ≡ length r ⌝ }
 {
     let mut cells = [0u8; MOST];
     let mut i: usize = 0;
     while i < MOST {
-        cells[i] = common::byte_at(record, HEAD + i);
+        cells[i] = common::byte_at(old, i);
         i += 1;
     }
     cells
@@ -39,16 +38,16 @@ fn before(record: &[u8]) -> [u8; MOST]
 
 // The step, with the cells as they were before it to put bits from, and its answer: 0 where it has none.
 fn step(record: &[u8], old: &[u8], cells: &mut [u8]) -> u8 {
-    let x = common::number_at(record, 2);
-    let y = common::number_at(record, 6);
-    match common::byte_at(record, 1) {
+    let x = packed::number(record, X);
+    let y = packed::number(record, Y);
+    match packed::number(record, STEP) {
         0 => cells::read_cell(cells, x),
         1 => {
             cells::write_cell(cells, x, (y % 256) as u8);
             0
         }
         2 => {
-            cells::copy_cells(cells, x, y, common::number_at(record, 10));
+            cells::copy_cells(cells, x, y, packed::number(record, Z));
             0
         }
         3 => {
@@ -56,7 +55,7 @@ fn step(record: &[u8], old: &[u8], cells: &mut [u8]) -> u8 {
             0
         }
         _ => {
-            cells::put_bits(old, x, common::number_at(record, 10), cells, y);
+            cells::put_bits(old, x, packed::number(record, Z), cells, y);
             0
         }
     }
@@ -64,33 +63,33 @@ fn step(record: &[u8], old: &[u8], cells: &mut [u8]) -> u8 {
 
 // Whether the step answers and leaves what the record says.
 fn step_right(record: &[u8], old: &[u8], cells: &mut [u8]) -> bool {
-    if step(record, old, cells) != common::byte_at(record, 14) {
+    if step(record, old, cells) as u32 != packed::number(record, READ) {
         return false;
     }
-    let n = size(record);
-    check::same(cells, packed::front(packed::from(record, HEAD + n), n))
+    check::same(cells, packed::from(packed::from(record, 24), old.len()))
 }
 
-// The same of a record at the start of some bytes. One that is cut off is wrong.
+// The same on the record's cells. A record that is cut off is wrong.
 fn right(record: &[u8]) -> bool {
-    let n = size(record);
+    let old = packed::part(record, BEFORE, HEAD, BEFORE);
+    let n = old.len();
+    if record.len() == 0 {
+        return false;
+    }
     if MOST < n {
         return false;
     }
-    if record.len() < long(record) {
-        return false;
-    }
-    let old = before(record);
-    let mut cells = before(record);
-    step_right(record, &old[0..n], &mut cells[0..n])
+    let mut cells = before(old);
+    step_right(record, old, &mut cells[0..n])
 }
 
+// The records of a file, counted.
 fn replay(file: &[u8]) -> Tally {
     let mut t = Tally { count: 0, wrong: 0 };
     let mut rest = file;
     while 0 < rest.len() {
-        t = packed::counted(t, right(rest));
-        let next = packed::from(rest, long(rest));
+        t = packed::counted(t, right(packed::first_record(rest)));
+        let next = packed::after_first(rest);
         rest = next;
     }
     t

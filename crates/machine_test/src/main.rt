@@ -75,29 +75,24 @@ fn row_after(row: Row, number: u32) -> Row {
     }
 }
 
-// Prints the bytes of a store, row by row.
-fn print_bytes(v: &[u8]) {
-    let mut row = Row {
-        number: 0,
-        count: 0,
-    };
-    let mut i: usize = 0;
-    while i < v.len() {
-        row = row_after(row, common::byte_at(v, i) as u32);
-        i += 1;
+// Entry i of some bytes and, after them, numbers.
+fn entry(bytes: &[u8], numbers: &[u32], i: usize) -> u32 {
+    let n = bytes.len();
+    if i < n {
+        return common::byte_at(bytes, i) as u32;
     }
-    print_row(row);
+    common::entry_at(numbers, i - n)
 }
 
-// Prints the numbers of a store, row by row.
-fn print_numbers(v: &[u32]) {
+// Prints a store row by row: bytes, or numbers, where there are none of the other.
+fn print_rows(bytes: &[u8], numbers: &[u32]) {
     let mut row = Row {
         number: 0,
         count: 0,
     };
     let mut i: usize = 0;
-    while i < v.len() {
-        row = row_after(row, v[i]);
+    while i < bytes.len() + numbers.len() {
+        row = row_after(row, entry(bytes, numbers, i));
         i += 1;
     }
     print_row(row);
@@ -120,11 +115,11 @@ fn print_answer(said: Answer) {
 
 fn print_stores(cells: &[u8], frames: &[u32], answer: &[u8]) {
     io::write_all(STDOUT_FILENO, b"; cells");
-    print_bytes(cells);
+    print_rows(cells, packed::front_numbers(frames, 0));
     io::write_all(STDOUT_FILENO, b"; frames");
-    print_numbers(frames);
+    print_rows(packed::front(cells, 0), frames);
     io::write_all(STDOUT_FILENO, b"; answer");
-    print_bytes(answer);
+    print_rows(answer, packed::front_numbers(frames, 0));
     io::write_all(STDOUT_FILENO, b"\n");
 }
 

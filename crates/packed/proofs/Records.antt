@@ -31,9 +31,6 @@ module _ (v : List ℕ) where
       let e : k - j ≡ 0 = omega arith in
       ap (λ (n : ℕ). afterParts v j n rest) e
 
-  -- a file that has a byte is longer than what comes after some bytes, as after its first record
-  pub shorter-after : (n : ℕ) (rest : List ℕ) → rest ≡ drop n v → 0 < n → 0 < length v → length rest < length v
-  shorter-after n rest e g h = rw (e, length-drop) (omega arith)
-
+  -- a file that has a byte is longer than what comes after its first record
   pub shorter : (rest : List ℕ) → rest ≡ afterFirst v → 0 < length v → length rest < length v
-  shorter rest e h = shorter-after (4 + number v 0) rest e (omega arith) h
+  shorter rest e h = rw (e, length-drop) (omega arith)
