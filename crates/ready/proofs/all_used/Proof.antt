@@ -12,13 +12,19 @@ wide-requires : tie.Need-wide-requires
 wide-requires c κs = search needs
 
 returns : tie.Need-returns
-returns c = used-short (streamOf (c .before .before .before .args .s .now)) (c .before .before .before .args .end) (c .before .before .before .args .count) (omega arith)
+returns c =
+    used-short (streamOf (c .before .before .before .args .s .now)) (c .before .before .before .args .end)
+    (c .before .before .before .args .count) (omega arith)
 
 closes-requires : tie.Need-closes-requires
 closes-requires c κs = search needs
 
 returns-2 : tie.Need-returns-2
-returns-2 c = c .closes .ensures ∙ ap (closes (streamOf (c .before .before .before .before .args .s .now))) (c .before .before .wide .ensures .0) ∙ used-all (streamOf (c .before .before .before .before .args .s .now)) (c .before .before .before .before .args .end) (c .before .before .before .before .args .count) (omega arith)
+returns-2 c =
+    let start = c .before .before .before .before in
+    c .closes .ensures
+    ∙ ap (closes (streamOf (start .args .s .now))) (c .before .before .wide .ensures .0)
+    ∙ used-all (streamOf (start .args .s .now)) (start .args .end) (start .args .count) (omega arith)
 
 pub all-used-spec : {M : Type 1} → statement M
 all-used-spec = tie.close (tie.spec wide-requires returns closes-requires returns-2)

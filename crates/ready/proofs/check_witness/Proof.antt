@@ -30,7 +30,15 @@ cast-n : tie.Need-cast-n Inv-loop μ-loop
 cast-n c = let m = length-records (c .before .before .before .before .before .before .args .nodes .now) in search needs
 
 loop-holds : tie.Need-loop-holds Inv-loop μ-loop
-loop-holds c = (λ bits hashes. come-start (typeRecords (c .before .before .before .before .before .before .args .types .now)) (nodesOf bits hashes (nodeRecords (c .before .before .before .before .before .before .args .nodes .now))) (arrowRecords (c .before .before .before .before .before .before .args .arrows .now)) (c .before .before .before .before .before .before .args .witness .now) (c .before .before .before .before .before .before .args .count), omega arith, refl, omega arith, length-replicate {A = ℕ} nodeCount 0)
+loop-holds c =
+    let start = c .before .before .before .before .before .before in (
+      λ bits hashes. come-start (typeRecords (start .args .types .now)) (nodesOf bits hashes (nodeRecords (start .args .nodes .now)))
+          (arrowRecords (start .args .arrows .now)) (start .args .witness .now) (start .args .count),
+      omega arith,
+      refl,
+      omega arith,
+      length-replicate {A = ℕ} nodeCount 0,
+    )
 
 node-end-requires : tie.Need-node-end-requires Inv-loop μ-loop
 node-end-requires c κs = (c .before .before .before .before .before .before .before .before .pre .0, c .before .loop .inv .3)
@@ -45,12 +53,21 @@ unread-requires : tie.Need-unread-requires Inv-loop μ-loop
 unread-requires c κs = search needs
 
 returns : tie.Need-returns Inv-loop μ-loop
-returns c = λ bits hashes. (let m = length-records (c .before .before .before .before .before .before .before .before .before .before .before .before .args .nodes .now) in
-    let l = length-nodes bits hashes (nodeRecords (c .before .before .before .before .before .before .before .before .before .before .before .before .args .nodes .now)) in
-    c .unread .ensures ∙ come-short (typeRecords (c .before .before .before .before .before .before .before .before .before .before .before .before .args .types .now)) (nodesOf bits hashes (nodeRecords (c .before .before .before .before .before .before .before .before .before .before .before .before .args .nodes .now))) (arrowRecords (c .before .before .before .before .before .before .before .before .before .before .before .before .args .arrows .now)) (c .before .before .before .before .before .before .before .before .before .before .before .before .args .witness .now) (c .before .before .before .before .before .before .before .before .before .before .before .before .args .count) (c .before .before .before .before .before .loop .i) (c .before .before .before .before .before .loop .p) (c .before .before .before .before .before .loop .positions) (c .before .before .before .before .before .loop .inv .0 bits hashes) (omega arith) (sym (c .before .enum-told .given .1) ∙ c .before .before .before .node-end .ensures bits hashes))
+returns c =
+    let start = c .before .before .before .before .before .before .before .before .before .before .before .before in
+    λ bits hashes. (let m = length-records (start .args .nodes .now) in
+    let l = length-nodes bits hashes (nodeRecords (start .args .nodes .now)) in
+    c .unread .ensures ∙ come-short (typeRecords (start .args .types .now)) (nodesOf bits hashes (nodeRecords (start .args .nodes .now)))
+    (arrowRecords (start .args .arrows .now)) (start .args .witness .now) (start .args .count)
+    (c .before .before .before .before .before .loop .i) (c .before .before .before .before .before .loop .p)
+    (c .before .before .before .before .before .loop .positions) (c .before .before .before .before .before .loop .inv .0 bits hashes)
+    (omega arith) (sym (c .before .enum-told .given .1) ∙ c .before .before .before .node-end .ensures bits hashes))
 
 cast-positions : tie.Need-cast-positions Inv-loop μ-loop
-cast-positions c = let h : c .before .before .before .before .before .loop .p ≤ c .before .before .before .before .before .before .before .before .before .before .before .before .args .count = c .before .before .before .before .before .loop .inv .3 in search needs
+cast-positions c =
+    let h : c .before .before .before .before .before .loop .p
+    ≤ c .before .before .before .before .before .before .before .before .before .before .before .before .args .count =
+    c .before .before .before .before .before .loop .inv .3 in search needs
 
 wide-requires : tie.Need-wide-requires Inv-loop μ-loop
 wide-requires c κs = search needs
@@ -59,24 +76,45 @@ mul-positions : tie.Need-mul-positions Inv-loop μ-loop
 mul-positions c = search needs
 
 array-write-positions : tie.Need-array-write-positions Inv-loop μ-loop
-array-write-positions c = let m = length-records (c .before .before .before .before .before .before .before .before .before .before .before .before .before .args .nodes .now) in omega (arith, c .wide .ensures .0)
+array-write-positions c =
+    let m =
+    length-records (c .before .before .before .before .before .before .before .before .before .before .before .before .before .args .nodes .now) in
+    omega (arith, c .wide .ensures .0)
 
 add-i : tie.Need-add-i Inv-loop μ-loop
-add-i c = let m = length-records (c .before .before .before .before .before .before .before .before .before .before .before .before .before .args .nodes .now) in search needs
+add-i c =
+    let m =
+    length-records (c .before .before .before .before .before .before .before .before .before .before .before .before .before .args .nodes .now) in
+    search needs
 
 loop-less : tie.Need-loop-less Inv-loop μ-loop
 loop-less c = omega arith
 
 loop-again : tie.Need-loop-again Inv-loop μ-loop
-loop-again c = let a = c .before .before .before .before .before .before .before .before .before .before .before .before .before .args in
+loop-again c =
+    let start = c .before .before .before .before .before .before .before .before .before .before .before .before .before in
+    let node-end-call = c .before .before .before .before .node-end in
+    let a = c .before .before .before .before .before .before .before .before .before .before .before .before .before .args in
     let l = c .before .before .before .before .before .before .loop in (
       (λ bits hashes. (let m = length-records (a .nodes .now) in
           let n = length-nodes bits hashes (nodeRecords (a .nodes .now)) in
-          subst (λ (k : ℕ). Come (typeRecords (a .types .now)) (nodesOf bits hashes (nodeRecords (a .nodes .now))) (arrowRecords (a .arrows .now)) (a .witness .now) (a .count) (l .i + 1) (c .before .before .end .given .0 .0) (set (l .positions) k (l .p)))
-          (sym (c .wide .ensures .0)) (come-on (typeRecords (c .before .before .before .before .before .before .before .before .before .before .before .before .before .args .types .now)) (nodesOf bits hashes (nodeRecords (c .before .before .before .before .before .before .before .before .before .before .before .before .before .args .nodes .now))) (arrowRecords (c .before .before .before .before .before .before .before .before .before .before .before .before .before .args .arrows .now)) (c .before .before .before .before .before .before .before .before .before .before .before .before .before .args .witness .now) (c .before .before .before .before .before .before .before .before .before .before .before .before .before .args .count) (c .before .before .before .before .before .before .loop .i) (c .before .before .before .before .before .before .loop .p) (c .before .before .before .before .before .before .loop .positions) (c .before .before .before .before .before .before .loop .inv .0 bits hashes) (c .before .before .end .given .0 .0) (omega arith) (omega arith) (sym (c .before .before .end .given .1) ∙ c .before .before .before .before .node-end .ensures bits hashes)))),
+          subst
+          (λ (k : ℕ). Come (typeRecords (a .types .now)) (nodesOf bits hashes (nodeRecords (a .nodes .now))) (arrowRecords (a .arrows .now))
+          (a .witness .now) (a .count) (l .i + 1) (c .before .before .end .given .0 .0) (set (l .positions) k (l .p)))
+          (sym (c .wide .ensures .0)) (come-on (typeRecords (start .args .types .now))
+          (nodesOf bits hashes (nodeRecords (start .args .nodes .now))) (arrowRecords (start .args .arrows .now))
+          (start .args .witness .now) (start .args .count) (c .before .before .before .before .before .before .loop .i)
+          (c .before .before .before .before .before .before .loop .p) (c .before .before .before .before .before .before .loop .positions)
+          (c .before .before .before .before .before .before .loop .inv .0 bits hashes) (c .before .before .end .given .0 .0)
+          (omega arith) (omega arith) (sym (c .before .before .end .given .1) ∙ node-end-call .ensures bits hashes)))),
       omega arith,
       l .inv .2,
-      (let bits : List ℕ = [] in let hashes : List ℕ = [] in come-inside (typeRecords (c .before .before .before .before .before .before .before .before .before .before .before .before .before .args .types .now)) (nodesOf bits hashes (nodeRecords (c .before .before .before .before .before .before .before .before .before .before .before .before .before .args .nodes .now))) (arrowRecords (c .before .before .before .before .before .before .before .before .before .before .before .before .before .args .arrows .now)) (c .before .before .before .before .before .before .before .before .before .before .before .before .before .args .witness .now) (c .before .before .before .before .before .before .before .before .before .before .before .before .before .args .count) (c .before .before .before .before .before .before .loop .i) (c .before .before .before .before .before .before .loop .p) (c .before .before .before .before .before .before .loop .positions) (c .before .before .before .before .before .before .loop .inv .0 bits hashes) (c .before .before .end .given .0 .0) (l .inv .3) (sym (c .before .before .end .given .1) ∙ c .before .before .before .before .node-end .ensures [] [])),
+      (let bits : List ℕ = [] in let hashes : List ℕ = [] in come-inside (typeRecords (start .args .types .now))
+          (nodesOf bits hashes (nodeRecords (start .args .nodes .now))) (arrowRecords (start .args .arrows .now))
+          (start .args .witness .now) (start .args .count) (c .before .before .before .before .before .before .loop .i)
+          (c .before .before .before .before .before .before .loop .p) (c .before .before .before .before .before .before .loop .positions)
+          (c .before .before .before .before .before .before .loop .inv .0 bits hashes) (c .before .before .end .given .0 .0) (l .inv .3)
+          (sym (c .before .before .end .given .1) ∙ node-end-call .ensures [] [])),
       length-set (l .positions) (c .wide .result) (l .p) ∙ l .inv .4,
     )
 
@@ -87,14 +125,25 @@ unread-requires-2 : tie.Need-unread-requires-2 Inv-loop μ-loop
 unread-requires-2 c κs = search needs
 
 returns-2 : tie.Need-returns-2 Inv-loop μ-loop
-returns-2 c = λ bits hashes. (let m = length-records (c .before .before .before .before .before .before .before .before .before .before .before .args .nodes .now) in
-    let l = length-nodes bits hashes (nodeRecords (c .before .before .before .before .before .before .before .before .before .before .before .args .nodes .now)) in
-    c .unread2 .ensures ∙ come-unused (typeRecords (c .before .before .before .before .before .before .before .before .before .before .before .args .types .now)) (nodesOf bits hashes (nodeRecords (c .before .before .before .before .before .before .before .before .before .before .before .args .nodes .now))) (arrowRecords (c .before .before .before .before .before .before .before .before .before .before .before .args .arrows .now)) (c .before .before .before .before .before .before .before .before .before .before .before .args .witness .now) (c .before .before .before .before .before .before .before .before .before .before .before .args .count) (c .before .before .before .before .loop .i) (c .before .before .before .before .loop .p) (c .before .before .before .before .loop .positions) (c .before .before .before .before .loop .inv .0 bits hashes) _ (omega arith) (omega arith) (sym (c .before .before .all-used .ensures) ∙ not-true _ (c .before .if1 .taken)))
+returns-2 c =
+    let start = c .before .before .before .before .before .before .before .before .before .before .before in
+    λ bits hashes. (let m = length-records (start .args .nodes .now) in
+    let l = length-nodes bits hashes (nodeRecords (start .args .nodes .now)) in
+    c .unread2 .ensures ∙ come-unused (typeRecords (start .args .types .now)) (nodesOf bits hashes (nodeRecords (start .args .nodes .now)))
+    (arrowRecords (start .args .arrows .now)) (start .args .witness .now) (start .args .count)
+    (c .before .before .before .before .loop .i) (c .before .before .before .before .loop .p)
+    (c .before .before .before .before .loop .positions) (c .before .before .before .before .loop .inv .0 bits hashes) _ (omega arith)
+    (omega arith) (sym (c .before .before .all-used .ensures) ∙ not-true _ (c .before .if1 .taken)))
 
 returns-3 : tie.Need-returns-3 Inv-loop μ-loop
-returns-3 c = λ bits hashes. (let m = length-records (c .before .before .before .before .before .before .before .before .before .before .args .nodes .now) in
-    let l = length-nodes bits hashes (nodeRecords (c .before .before .before .before .before .before .before .before .before .before .args .nodes .now)) in
-    come-used (typeRecords (c .before .before .before .before .before .before .before .before .before .before .args .types .now)) (nodesOf bits hashes (nodeRecords (c .before .before .before .before .before .before .before .before .before .before .args .nodes .now))) (arrowRecords (c .before .before .before .before .before .before .before .before .before .before .args .arrows .now)) (c .before .before .before .before .before .before .before .before .before .before .args .witness .now) (c .before .before .before .before .before .before .before .before .before .before .args .count) (c .before .before .before .loop .i) (c .before .before .before .loop .p) (c .before .before .before .loop .positions) (c .before .before .before .loop .inv .0 bits hashes) (omega arith) (sym (c .before .all-used .ensures) ∙ not-false _ (c .if1 .left)))
+returns-3 c =
+    let start = c .before .before .before .before .before .before .before .before .before .before in
+    λ bits hashes. (let m = length-records (start .args .nodes .now) in
+    let l = length-nodes bits hashes (nodeRecords (start .args .nodes .now)) in
+    come-used (typeRecords (start .args .types .now)) (nodesOf bits hashes (nodeRecords (start .args .nodes .now)))
+    (arrowRecords (start .args .arrows .now)) (start .args .witness .now) (start .args .count) (c .before .before .before .loop .i)
+    (c .before .before .before .loop .p) (c .before .before .before .loop .positions)
+    (c .before .before .before .loop .inv .0 bits hashes) (omega arith) (sym (c .before .all-used .ensures) ∙ not-false _ (c .if1 .left)))
 
 pub check-witness-spec : {M : Type 1} → statement M
 check-witness-spec =
