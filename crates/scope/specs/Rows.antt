@@ -2,7 +2,7 @@
 -- Bytes and numbers are written as one long hexadecimal number, the first byte highest, as a dossier's own numbers are.
 use mathlib.Core.Bool.{Bool, true, false}
 use mathlib.Core.List.{List, [], _∷_}
-use Prim.Native.Nat.{ℕ, zero, suc, _*_, _/_, _%_, _^_}
+use Prim.Native.Nat.{ℕ, zero, suc, _+_, _*_, _/_, _%_, _^_}
 use lib.ListN.{length, replicate}
 use Rattle.limits.specs.Limits.{nodeNumbers, frameNumbers}
 use Rattle.refusal.specs.declared.Answer.{Answer}
@@ -24,6 +24,10 @@ bytes k n = digits 256 k n
 
 abbrev pub numbers : (k n : ℕ) → List ℕ
 numbers k n = digits 4294967296 k n
+
+-- a long number in two parts, the second of k bytes
+abbrev pub joined : (high k low : ℕ) → ℕ
+joined high k low = high * 256 ^ k + low
 
 -- the stores that are lent, in records and bytes, all filled with one byte
 pub record Lent : Type 0 where
@@ -48,7 +52,8 @@ pub record Stores : Type 0 where
 abbrev pub left : (nodes hashes cells frames answer : ℕ) → Stores
 left n h c f a = record { nodes = n; hashes = h; cells = c; frames = f; answer = a }
 
--- `size` bytes of a dossier; what is said: 0 and the count of bits, or a refusal's number and place; cells, frames and cost, or nothing where they are refused or not reached
+-- `size` bytes of a dossier; what is said: 0 and the count of bits, or a refusal's number and place; cells, frames and cost, or nothing
+-- where they are refused or not reached
 pub record Row : Type 0 where
   pub size : ℕ
   pub dossier : ℕ
@@ -87,7 +92,8 @@ holds r =
     let d = bytes (r .size) (r .dossier) in
     let nodes = replicate (nodeNumbers * s .nodes) (s .fill * 0x01010101) in
     let hashes = replicate (s .hashes) (s .fill) in
-    let e = run d nodes hashes (replicate (s .cells) (s .fill)) (replicate (frameNumbers * s .frames) (s .fill * 0x01010101)) (replicate (s .answer) (s .fill)) in
+    let e = run d nodes hashes (replicate (s .cells) (s .fill))
+    (replicate (frameNumbers * s .frames) (s .fill * 0x01010101)) (replicate (s .answer) (s .fill)) in
     every (same (said (e .says)) (r .says)
     ∷ same (needed (programIn d nodes hashes)) (r .needs)
     ∷ same (e .nodes) (numbers (nodeNumbers * s .nodes) (l .nodes))

@@ -19,16 +19,28 @@ enum-known-verdict-2 c = search needs
 
 run-ready-requires : tie.Need-run-ready-requires
 run-ready-requires c κs =
-    let start = c .before .before .before .before .before .before .before .before .before .before .before .before .before .before .before .before .before .before .before .before .before .before .before .before .before in
+    let start = c .before .before .before .before .before .before .before .before .before .before .before .before .before .before .before
+    .before .before .before .before .before .before .before .before .before .before in
     let check-run-call = c .before .before .before .before .before .before .before .before .before .before .before .before .before .check-run in
-    let verdict2-there = c .before .before .before .before .before .before .before .before .before .before .before .verdict2 in
-    (begun-shown (start .args .types .now) (start .args .nodes .now) (start .args .arrows .now) (start .args .program .now) (start .args .hashes .now) (start .args .given .now) (start .args .witness .now) _ (start .args .input .now) _ (start .args .cells .now) (start .args .frames .now) (start .args .answer .now) (check-run-call .result) (check-run-call .ensures) _ _ (verdict2-there .given .1), begun-ok (start .args .types .now) (start .args .nodes .now) (start .args .arrows .now) (start .args .program .now) (start .args .hashes .now) (start .args .given .now) (start .args .witness .now) _ (start .args .input .now) _ (start .args .cells .now) (start .args .frames .now) (start .args .answer .now) (check-run-call .result) (check-run-call .ensures) _ _ (verdict2-there .given .1))
+    let verdict2-there = c .before .before .before .before .before .before .before .before .before .before .before .verdict2 in (
+      begun-shown (start .args .types .now) (start .args .nodes .now) (start .args .arrows .now) (start .args .program .now)
+          (start .args .hashes .now) (start .args .given .now) (start .args .witness .now) _ (start .args .input .now) _
+          (start .args .cells .now) (start .args .frames .now) (start .args .answer .now) (check-run-call .result)
+          (check-run-call .ensures) _ _ (verdict2-there .given .1),
+      begun-ok (start .args .types .now) (start .args .nodes .now) (start .args .arrows .now) (start .args .program .now)
+          (start .args .hashes .now) (start .args .given .now) (start .args .witness .now) _ (start .args .input .now) _
+          (start .args .cells .now) (start .args .frames .now) (start .args .answer .now) (check-run-call .result)
+          (check-run-call .ensures) _ _ (verdict2-there .given .1),
+    )
 
 returns : tie.Need-returns
 returns c =
     let start = c .before .before .before .before .before .before .before .before .before .before .before .before .before .before .before in
     let check-run-call = c .before .before .before .check-run in
-    not-begun (start .args .types .now) (start .args .nodes .now) (start .args .arrows .now) (start .args .program .now) (start .args .hashes .now) (start .args .given .now) (start .args .witness .now) _ (start .args .input .now) _ (start .args .cells .now) (start .args .frames .now) (start .args .answer .now) (check-run-call .result) (check-run-call .ensures) _ (c .before .verdict .given .1)
+    not-begun (start .args .types .now) (start .args .nodes .now) (start .args .arrows .now) (start .args .program .now)
+    (start .args .hashes .now) (start .args .given .now) (start .args .witness .now) _ (start .args .input .now) _
+    (start .args .cells .now) (start .args .frames .now) (start .args .answer .now) (check-run-call .result) (check-run-call .ensures) _
+    (c .before .verdict .given .1)
 
 same-length : tie.Need-same-length
 same-length c = search needs
@@ -41,9 +53,17 @@ same-length-3 c = search needs
 
 returns-2 : tie.Need-returns-2
 returns-2 c =
-    let start = c .before .before .before .before .before .before .before .before .before .before .before .before .before .before .before .before .before .before .before .before .before .before .before .before .before .before .before .before .before .before .before .before in
-    let check-run-call = c .before .before .before .before .before .before .before .before .before .before .before .before .before .before .before .before .before .before .before .before .check-run in
-    begun-ran (start .args .types .now) (start .args .nodes .now) (start .args .arrows .now) (start .args .program .now) (start .args .hashes .now) (start .args .given .now) (start .args .witness .now) _ (start .args .input .now) _ (start .args .cells .now) (start .args .frames .now) (start .args .answer .now) (check-run-call .result) (check-run-call .ensures) _ _ (c .before .before .before .before .before .before .before .before .before .before .before .before .before .before .before .before .before .before .verdict2 .given .1) _ (c .before .before .before .before .before .before .run-ready .ensures)
+    let verdict2-found = c .before .before .before .before .before .before .before .before .before .before .before .before .before .before
+    .before .before .before .before .verdict2 in
+    let start =
+    c .before .before .before .before .before .before .before .before .before .before .before .before .before .before .before .before
+    .before .before .before .before .before .before .before .before .before .before .before .before .before .before .before .before in
+    let check-run-call = c .before .before .before .before .before .before .before .before .before .before .before .before .before .before
+    .before .before .before .before .before .before .check-run in
+    begun-ran (start .args .types .now) (start .args .nodes .now) (start .args .arrows .now) (start .args .program .now)
+    (start .args .hashes .now) (start .args .given .now) (start .args .witness .now) _ (start .args .input .now) _
+    (start .args .cells .now) (start .args .frames .now) (start .args .answer .now) (check-run-call .result)
+    (check-run-call .ensures) _ _ (verdict2-found .given .1) _ (c .before .before .before .before .before .before .run-ready .ensures)
 
 pub run-stage-spec : {M : Type 1} → statement M
 run-stage-spec =

@@ -30,7 +30,10 @@ types-hold-requires : tie.Need-types-hold-requires
 types-hold-requires c κs = search needs
 
 returns-2 : tie.Need-returns-2
-returns-2 c = front-types _ (c .before .before .before .before .check-header .result) (c .before .before .before .before .check-header .ensures) (c .before .before .enum-told .given .1) (c .types-hold .result) (c .types-hold .ensures ∙ ap countedTypes (section-holds _ _ _ (c .before .section .ensures)))
+returns-2 c =
+    let check-header-call = c .before .before .before .before .check-header in
+    front-types _ (check-header-call .result) (check-header-call .ensures) (c .before .before .enum-told .given .1) (c .types-hold .result)
+    (c .types-hold .ensures ∙ ap countedTypes (section-holds _ _ _ (c .before .section .ensures)))
 
 pub check-front-spec : {M : Type 1} → statement M
 check-front-spec =

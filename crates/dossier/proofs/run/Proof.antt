@@ -43,7 +43,17 @@ same-length-2 : tie.Need-same-length-2
 same-length-2 c = search needs
 
 returns : tie.Need-returns
-returns c = ends-front (c .before .before .before .before .before .before .before .before .before .before .before .before .before .before .before .before .before .before .args .dossier .now) (c .before .before .before .before .before .before .before .before .before .before .before .before .before .before .before .before .before .before .args .nodes .now) (c .before .before .before .before .before .before .before .before .before .before .before .before .before .before .before .before .before .before .args .hashes .now) (c .before .before .before .before .before .before .before .before .before .before .before .before .before .before .before .before .before .before .args .cells .now) (c .before .before .before .before .before .before .before .before .before .before .before .before .before .before .before .before .before .before .args .frames .now) (c .before .before .before .before .before .before .before .before .before .before .before .before .before .before .before .before .before .before .args .answer .now) (c .before .before .before .before .before .before .before .before .before .before .before .check-front .result) (c .before .before .before .before .before .before .before .before .before .before .before .check-front .ensures) _ (c .before .before .before .before .before .before .before .before .before .enum-told2 .given .1) (c .answer-of .result) (c .answer-of .ensures) (c .before .before .before .before .before .before .before .clear-numbers .last .0) (c .before .before .before .clear-bytes .last .0) (c .before .before .before .before .before .before .before .clear-numbers .ensures) (c .before .before .before .clear-bytes .ensures)
+returns c =
+    let start =
+    c .before .before .before .before .before .before .before .before .before .before .before .before .before .before .before .before .before .before in
+    let check-front-call = c .before .before .before .before .before .before .before .before .before .before .before .check-front in
+    let enum-told2-found = c .before .before .before .before .before .before .before .before .before .enum-told2 in
+    let clear-numbers-call = c .before .before .before .before .before .before .before .clear-numbers in
+    let clear-bytes-call = c .before .before .before .clear-bytes in
+    ends-front (start .args .dossier .now) (start .args .nodes .now) (start .args .hashes .now) (start .args .cells .now)
+    (start .args .frames .now) (start .args .answer .now) (check-front-call .result) (check-front-call .ensures) _
+    (enum-told2-found .given .1) (c .answer-of .result) (c .answer-of .ensures) (clear-numbers-call .last .0)
+    (clear-bytes-call .last .0) (clear-numbers-call .ensures) (clear-bytes-call .ensures)
 
 section-requires : tie.Need-section-requires
 section-requires c κs = search needs
@@ -67,7 +77,17 @@ same-length-4 : tie.Need-same-length-4
 same-length-4 c = search needs
 
 returns-2 : tie.Need-returns-2
-returns-2 c = ends-undecoded (c .before .before .before .before .before .before .before .before .before .before .before .before .before .before .before .before .before .before .before .before .args .dossier .now) (c .before .before .before .before .before .before .before .before .before .before .before .before .before .before .before .before .before .before .before .before .args .nodes .now) (c .before .before .before .before .before .before .before .before .before .before .before .before .before .before .before .before .before .before .before .before .args .hashes .now) (c .before .before .before .before .before .before .before .before .before .before .before .before .before .before .before .before .before .before .before .before .args .cells .now) (c .before .before .before .before .before .before .before .before .before .before .before .before .before .before .before .before .before .before .before .before .args .frames .now) (c .before .before .before .before .before .before .before .before .before .before .before .before .before .before .before .before .before .before .before .before .args .answer .now) (c .before .before .before .before .before .before .before .before .before .before .before .before .before .check-front .result) (c .before .before .before .before .before .before .before .before .before .before .before .before .before .check-front .ensures) (c .before .before .before .before .before .before .before .before .before .before .before .enum-told .given .1) (c .before .before .before .before .before .before .before .before .before .before .section .result .now) (section-holds _ _ _ (c .before .before .before .before .before .before .before .before .before .before .section .ensures)) (c .before .before .before .before .before .before .before .decode .result) (c .before .before .before .before .before .before .before .decode .last .1 .0) (c .before .before .before .before .before .before .before .decode .last .1 .1 .0) (c .before .before .before .before .before .before .before .decode .ensures) _ (c .before .enum-told3 .given .1) (c .undecoded .result) (c .undecoded .ensures)
+returns-2 c =
+    let start = c .before .before .before .before .before .before .before .before .before .before .before .before .before .before .before
+    .before .before .before .before .before in
+    let check-front-call = c .before .before .before .before .before .before .before .before .before .before .before .before .before .check-front in
+    let enum-told-found = c .before .before .before .before .before .before .before .before .before .before .before .enum-told in
+    let section-call = c .before .before .before .before .before .before .before .before .before .before .section in
+    let decode-call = c .before .before .before .before .before .before .before .decode in
+    ends-undecoded (start .args .dossier .now) (start .args .nodes .now) (start .args .hashes .now) (start .args .cells .now)
+    (start .args .frames .now) (start .args .answer .now) (check-front-call .result) (check-front-call .ensures) (enum-told-found .given .1)
+    (section-call .result .now) (section-holds _ _ _ (section-call .ensures)) (decode-call .result) (decode-call .last .1 .0)
+    (decode-call .last .1 .1 .0) (decode-call .ensures) _ (c .before .enum-told3 .given .1) (c .undecoded .result) (c .undecoded .ensures)
 
 cast-records : tie.Need-cast-records
 cast-records c = search needs
@@ -76,19 +96,66 @@ mul-records : tie.Need-mul-records
 mul-records c = search needs
 
 slice-reshare-prefix-records : tie.Need-slice-reshare-prefix-records
-slice-reshare-prefix-records c = nodes-within (c .before .before .before .before .before .before .before .before .before .before .before .before .before .before .before .before .before .before .before .before .before .args .dossier .now) (c .before .before .before .before .before .before .before .before .before .before .before .before .before .before .before .before .before .before .before .before .before .args .nodes .now) (c .before .before .before .before .before .before .before .before .before .before .before .before .before .before .before .before .before .before .before .before .before .args .hashes .now) (c .before .before .before .before .before .before .before .before .before .before .before .before .before .before .before .before .before .before .before .before .before .args .cells .now) (c .before .before .before .before .before .before .before .before .before .before .before .before .before .before .before .before .before .before .before .before .before .args .frames .now) (c .before .before .before .before .before .before .before .before .before .before .before .before .before .before .before .before .before .before .before .before .before .args .answer .now) (c .before .before .before .before .before .before .before .before .before .before .before .before .before .before .check-front .result) (c .before .before .before .before .before .before .before .before .before .before .before .before .before .before .check-front .ensures) (c .before .before .before .before .before .before .before .before .before .before .before .before .enum-told .given .1) (c .before .before .before .before .before .before .before .before .before .before .before .section .result .now) (section-holds _ _ _ (c .before .before .before .before .before .before .before .before .before .before .before .section .ensures)) (c .before .before .before .before .before .before .before .before .decode .result) (c .before .before .before .before .before .before .before .before .decode .last .1 .0) (c .before .before .before .before .before .before .before .before .decode .last .1 .1 .0) (c .before .before .before .before .before .before .before .before .decode .ensures) (c .before .before .decoded .given .0 .0) (c .before .before .decoded .given .1)
+slice-reshare-prefix-records c =
+    let start = c .before .before .before .before .before .before .before .before .before .before .before .before .before .before .before
+    .before .before .before .before .before .before in
+    let check-front-call = c .before .before .before .before .before .before .before .before .before .before .before .before .before .before .check-front in
+    let enum-told-found = c .before .before .before .before .before .before .before .before .before .before .before .before .enum-told in
+    let section-call = c .before .before .before .before .before .before .before .before .before .before .before .section in
+    let decode-call = c .before .before .before .before .before .before .before .before .decode in
+    nodes-within (start .args .dossier .now) (start .args .nodes .now) (start .args .hashes .now) (start .args .cells .now)
+    (start .args .frames .now) (start .args .answer .now) (check-front-call .result) (check-front-call .ensures) (enum-told-found .given .1)
+    (section-call .result .now) (section-holds _ _ _ (section-call .ensures)) (decode-call .result) (decode-call .last .1 .0)
+    (decode-call .last .1 .1 .0) (decode-call .ensures) (c .before .before .decoded .given .0 .0) (c .before .before .decoded .given .1)
 
 slice-aggregate-records : tie.Need-slice-aggregate-records
-slice-aggregate-records c = sym (length-take-le _ _ (nodes-within (c .before .before .before .before .before .before .before .before .before .before .before .before .before .before .before .before .before .before .before .before .before .before .args .dossier .now) (c .before .before .before .before .before .before .before .before .before .before .before .before .before .before .before .before .before .before .before .before .before .before .args .nodes .now) (c .before .before .before .before .before .before .before .before .before .before .before .before .before .before .before .before .before .before .before .before .before .before .args .hashes .now) (c .before .before .before .before .before .before .before .before .before .before .before .before .before .before .before .before .before .before .before .before .before .before .args .cells .now) (c .before .before .before .before .before .before .before .before .before .before .before .before .before .before .before .before .before .before .before .before .before .before .args .frames .now) (c .before .before .before .before .before .before .before .before .before .before .before .before .before .before .before .before .before .before .before .before .before .before .args .answer .now) (c .before .before .before .before .before .before .before .before .before .before .before .before .before .before .before .check-front .result) (c .before .before .before .before .before .before .before .before .before .before .before .before .before .before .before .check-front .ensures) (c .before .before .before .before .before .before .before .before .before .before .before .before .before .enum-told .given .1) (c .before .before .before .before .before .before .before .before .before .before .before .before .section .result .now) (section-holds _ _ _ (c .before .before .before .before .before .before .before .before .before .before .before .before .section .ensures)) (c .before .before .before .before .before .before .before .before .before .decode .result) (c .before .before .before .before .before .before .before .before .before .decode .last .1 .0) (c .before .before .before .before .before .before .before .before .before .decode .last .1 .1 .0) (c .before .before .before .before .before .before .before .before .before .decode .ensures) (c .before .before .before .decoded .given .0 .0) (c .before .before .before .decoded .given .1)))
+slice-aggregate-records c =
+    let start = c .before .before .before .before .before .before .before .before .before .before .before .before .before .before .before
+    .before .before .before .before .before .before .before in
+    let check-front-call =
+    c .before .before .before .before .before .before .before .before .before .before .before .before .before .before .before .check-front in
+    let enum-told-found = c .before .before .before .before .before .before .before .before .before .before .before .before .before .enum-told in
+    let section-call = c .before .before .before .before .before .before .before .before .before .before .before .before .section in
+    let decode-call = c .before .before .before .before .before .before .before .before .before .decode in
+    let decoded-found = c .before .before .before .decoded in
+    sym (length-take-le _ _ (nodes-within (start .args .dossier .now) (start .args .nodes .now) (start .args .hashes .now)
+    (start .args .cells .now) (start .args .frames .now) (start .args .answer .now) (check-front-call .result) (check-front-call .ensures)
+    (enum-told-found .given .1) (section-call .result .now) (section-holds _ _ _ (section-call .ensures)) (decode-call .result)
+    (decode-call .last .1 .0) (decode-call .last .1 .1 .0) (decode-call .ensures) (decoded-found .given .0 .0) (decoded-found .given .1)))
 
 cast-run-decoded : tie.Need-cast-run-decoded
 cast-run-decoded c = search needs
 
 slice-reshare-prefix-run-decoded : tie.Need-slice-reshare-prefix-run-decoded
-slice-reshare-prefix-run-decoded c = hashes-within (c .before .before .before .before .before .before .before .before .before .before .before .before .before .before .before .before .before .before .before .before .before .before .before .args .dossier .now) (c .before .before .before .before .before .before .before .before .before .before .before .before .before .before .before .before .before .before .before .before .before .before .before .args .nodes .now) (c .before .before .before .before .before .before .before .before .before .before .before .before .before .before .before .before .before .before .before .before .before .before .before .args .hashes .now) (c .before .before .before .before .before .before .before .before .before .before .before .before .before .before .before .before .before .before .before .before .before .before .before .args .cells .now) (c .before .before .before .before .before .before .before .before .before .before .before .before .before .before .before .before .before .before .before .before .before .before .before .args .frames .now) (c .before .before .before .before .before .before .before .before .before .before .before .before .before .before .before .before .before .before .before .before .before .before .before .args .answer .now) (c .before .before .before .before .before .before .before .before .before .before .before .before .before .before .before .before .check-front .result) (c .before .before .before .before .before .before .before .before .before .before .before .before .before .before .before .before .check-front .ensures) (c .before .before .before .before .before .before .before .before .before .before .before .before .before .before .enum-told .given .1) (c .before .before .before .before .before .before .before .before .before .before .before .before .before .section .result .now) (section-holds _ _ _ (c .before .before .before .before .before .before .before .before .before .before .before .before .before .section .ensures)) (c .before .before .before .before .before .before .before .before .before .before .decode .result) (c .before .before .before .before .before .before .before .before .before .before .decode .last .1 .0) (c .before .before .before .before .before .before .before .before .before .before .decode .last .1 .1 .0) (c .before .before .before .before .before .before .before .before .before .before .decode .ensures) (c .before .before .before .before .decoded .given .0 .0) (c .before .before .before .before .decoded .given .1)
+slice-reshare-prefix-run-decoded c =
+    let start = c .before .before .before .before .before .before .before .before .before .before .before .before .before .before .before
+    .before .before .before .before .before .before .before .before in
+    let check-front-call =
+    c .before .before .before .before .before .before .before .before .before .before .before .before .before .before .before .before .check-front in
+    let enum-told-found = c .before .before .before .before .before .before .before .before .before .before .before .before .before .before .enum-told in
+    let section-call = c .before .before .before .before .before .before .before .before .before .before .before .before .before .section in
+    let decode-call = c .before .before .before .before .before .before .before .before .before .before .decode in
+    let decoded-found = c .before .before .before .before .decoded in
+    hashes-within (start .args .dossier .now) (start .args .nodes .now) (start .args .hashes .now) (start .args .cells .now)
+    (start .args .frames .now) (start .args .answer .now) (check-front-call .result) (check-front-call .ensures)
+    (enum-told-found .given .1) (section-call .result .now) (section-holds _ _ _ (section-call .ensures)) (decode-call .result)
+    (decode-call .last .1 .0) (decode-call .last .1 .1 .0) (decode-call .ensures) (decoded-found .given .0 .0) (decoded-found .given .1)
 
 slice-aggregate-run-decoded : tie.Need-slice-aggregate-run-decoded
-slice-aggregate-run-decoded c = sym (length-take-le _ _ (hashes-within (c .before .before .before .before .before .before .before .before .before .before .before .before .before .before .before .before .before .before .before .before .before .before .before .before .args .dossier .now) (c .before .before .before .before .before .before .before .before .before .before .before .before .before .before .before .before .before .before .before .before .before .before .before .before .args .nodes .now) (c .before .before .before .before .before .before .before .before .before .before .before .before .before .before .before .before .before .before .before .before .before .before .before .before .args .hashes .now) (c .before .before .before .before .before .before .before .before .before .before .before .before .before .before .before .before .before .before .before .before .before .before .before .before .args .cells .now) (c .before .before .before .before .before .before .before .before .before .before .before .before .before .before .before .before .before .before .before .before .before .before .before .before .args .frames .now) (c .before .before .before .before .before .before .before .before .before .before .before .before .before .before .before .before .before .before .before .before .before .before .before .before .args .answer .now) (c .before .before .before .before .before .before .before .before .before .before .before .before .before .before .before .before .before .check-front .result) (c .before .before .before .before .before .before .before .before .before .before .before .before .before .before .before .before .before .check-front .ensures) (c .before .before .before .before .before .before .before .before .before .before .before .before .before .before .before .enum-told .given .1) (c .before .before .before .before .before .before .before .before .before .before .before .before .before .before .section .result .now) (section-holds _ _ _ (c .before .before .before .before .before .before .before .before .before .before .before .before .before .before .section .ensures)) (c .before .before .before .before .before .before .before .before .before .before .before .decode .result) (c .before .before .before .before .before .before .before .before .before .before .before .decode .last .1 .0) (c .before .before .before .before .before .before .before .before .before .before .before .decode .last .1 .1 .0) (c .before .before .before .before .before .before .before .before .before .before .before .decode .ensures) (c .before .before .before .before .before .decoded .given .0 .0) (c .before .before .before .before .before .decoded .given .1)))
+slice-aggregate-run-decoded c =
+    let start = c .before .before .before .before .before .before .before .before .before .before .before .before .before .before .before
+    .before .before .before .before .before .before .before .before .before in
+    let check-front-call = c .before .before .before .before .before .before .before .before .before .before .before .before .before .before
+    .before .before .before .check-front in
+    let enum-told-found =
+    c .before .before .before .before .before .before .before .before .before .before .before .before .before .before .before .enum-told in
+    let section-call = c .before .before .before .before .before .before .before .before .before .before .before .before .before .before .section in
+    let decode-call = c .before .before .before .before .before .before .before .before .before .before .before .decode in
+    let decoded-found = c .before .before .before .before .before .decoded in
+    sym (length-take-le _ _ (hashes-within (start .args .dossier .now) (start .args .nodes .now) (start .args .hashes .now)
+    (start .args .cells .now) (start .args .frames .now) (start .args .answer .now) (check-front-call .result) (check-front-call .ensures)
+    (enum-told-found .given .1) (section-call .result .now) (section-holds _ _ _ (section-call .ensures)) (decode-call .result)
+    (decode-call .last .1 .0) (decode-call .last .1 .1 .0) (decode-call .ensures) (decoded-found .given .0 .0) (decoded-found .given .1)))
 
 run-decoded-requires : tie.Need-run-decoded-requires
 run-decoded-requires c κs = search needs
@@ -112,7 +179,31 @@ same-length-9 : tie.Need-same-length-9
 same-length-9 c = search needs
 
 returns-3 : tie.Need-returns-3
-returns-3 c = ends-settled (c .before .before .before .before .before .before .before .before .before .before .before .before .before .before .before .before .before .before .before .before .before .before .before .before .before .before .before .before .before .before .before .before .before .before .before .before .before .before .before .before .before .args .dossier .now) (c .before .before .before .before .before .before .before .before .before .before .before .before .before .before .before .before .before .before .before .before .before .before .before .before .before .before .before .before .before .before .before .before .before .before .before .before .before .before .before .before .before .args .nodes .now) (c .before .before .before .before .before .before .before .before .before .before .before .before .before .before .before .before .before .before .before .before .before .before .before .before .before .before .before .before .before .before .before .before .before .before .before .before .before .before .before .before .before .args .hashes .now) (c .before .before .before .before .before .before .before .before .before .before .before .before .before .before .before .before .before .before .before .before .before .before .before .before .before .before .before .before .before .before .before .before .before .before .before .before .before .before .before .before .before .args .cells .now) (c .before .before .before .before .before .before .before .before .before .before .before .before .before .before .before .before .before .before .before .before .before .before .before .before .before .before .before .before .before .before .before .before .before .before .before .before .before .before .before .before .before .args .frames .now) (c .before .before .before .before .before .before .before .before .before .before .before .before .before .before .before .before .before .before .before .before .before .before .before .before .before .before .before .before .before .before .before .before .before .before .before .before .before .before .before .before .before .args .answer .now) (c .before .before .before .before .before .before .before .before .before .before .before .before .before .before .before .before .before .before .before .before .before .before .before .before .before .before .before .before .before .before .before .before .before .before .check-front .result) (c .before .before .before .before .before .before .before .before .before .before .before .before .before .before .before .before .before .before .before .before .before .before .before .before .before .before .before .before .before .before .before .before .before .before .check-front .ensures) (c .before .before .before .before .before .before .before .before .before .before .before .before .before .before .before .before .before .before .before .before .before .before .before .before .before .before .before .before .before .before .before .before .enum-told .given .1) (c .before .before .before .before .before .before .before .before .before .before .before .before .before .before .before .before .before .before .before .before .before .before .before .before .before .before .before .before .before .before .before .section .result .now) (section-holds _ _ _ (c .before .before .before .before .before .before .before .before .before .before .before .before .before .before .before .before .before .before .before .before .before .before .before .before .before .before .before .before .before .before .before .section .ensures)) (c .before .before .before .before .before .before .before .before .before .before .before .before .before .before .before .before .before .before .before .before .before .before .before .before .before .before .before .before .decode .result) (c .before .before .before .before .before .before .before .before .before .before .before .before .before .before .before .before .before .before .before .before .before .before .before .before .before .before .before .before .decode .last .1 .0) (c .before .before .before .before .before .before .before .before .before .before .before .before .before .before .before .before .before .before .before .before .before .before .before .before .before .before .before .before .decode .last .1 .1 .0) (c .before .before .before .before .before .before .before .before .before .before .before .before .before .before .before .before .before .before .before .before .before .before .before .before .before .before .before .before .decode .ensures) (c .before .before .before .before .before .before .before .before .before .before .before .before .before .before .before .before .before .before .before .before .before .before .decoded .given .0 .0) (c .before .before .before .before .before .before .before .before .before .before .before .before .before .before .before .before .before .before .before .before .before .before .decoded .given .1) (c .before .before .before .before .before .before .before .before .before .before .before .before .before .run-decoded .result) (c .before .before .before .before .before .before .before .before .before .before .before .before .before .run-decoded .last .1 .1 .1 .0) (c .before .before .before .before .before .before .before .before .before .before .before .before .before .run-decoded .last .1 .1 .1 .1 .0) (c .before .before .before .before .before .before .before .before .before .before .before .before .before .run-decoded .last .1 .1 .1 .1 .1 .0) (c .before .before .before .before .before .before .before .before .before .before .before .before .before .run-decoded .ensures) (c .before .before .before .before .settle .last .1 .0) (c .before .before .before .before .settle .last .1 .1 .0) (c .before .before .before .before .settle .ensures .0) (c .before .before .before .before .settle .ensures .1)
+returns-3 c =
+    let start = c .before .before .before .before .before .before .before .before .before .before .before .before .before .before .before
+    .before .before .before .before .before .before .before .before .before .before .before .before .before .before .before .before
+    .before .before .before .before .before .before .before .before .before .before in
+    let check-front-call = c .before .before .before .before .before .before .before .before .before .before .before .before .before .before
+    .before .before .before .before .before .before .before .before .before .before .before .before .before .before .before .before
+    .before .before .before .before .check-front in
+    let enum-told-found =
+    c .before .before .before .before .before .before .before .before .before .before .before .before .before .before .before .before .before
+    .before .before .before .before .before .before .before .before .before .before .before .before .before .before .before .enum-told in
+    let section-call =
+    c .before .before .before .before .before .before .before .before .before .before .before .before .before .before .before .before
+    .before .before .before .before .before .before .before .before .before .before .before .before .before .before .before .section in
+    let decode-call = c .before .before .before .before .before .before .before .before .before .before .before .before .before .before
+    .before .before .before .before .before .before .before .before .before .before .before .before .before .before .decode in
+    let decoded-found = c .before .before .before .before .before .before .before .before .before .before .before .before .before .before
+    .before .before .before .before .before .before .before .before .decoded in
+    let run-decoded-call = c .before .before .before .before .before .before .before .before .before .before .before .before .before .run-decoded in
+    let settle-call = c .before .before .before .before .settle in
+    ends-settled (start .args .dossier .now) (start .args .nodes .now) (start .args .hashes .now) (start .args .cells .now)
+    (start .args .frames .now) (start .args .answer .now) (check-front-call .result) (check-front-call .ensures) (enum-told-found .given .1)
+    (section-call .result .now) (section-holds _ _ _ (section-call .ensures)) (decode-call .result) (decode-call .last .1 .0)
+    (decode-call .last .1 .1 .0) (decode-call .ensures) (decoded-found .given .0 .0) (decoded-found .given .1) (run-decoded-call .result)
+    (run-decoded-call .last .1 .1 .1 .0) (run-decoded-call .last .1 .1 .1 .1 .0) (run-decoded-call .last .1 .1 .1 .1 .1 .0)
+    (run-decoded-call .ensures) (settle-call .last .1 .0) (settle-call .last .1 .1 .0) (settle-call .ensures .0) (settle-call .ensures .1)
 
 pub run-spec : {M : Type 1} → statement M
 run-spec =

@@ -48,7 +48,25 @@ same-length-3 : tie.Need-same-length-3
 same-length-3 c = search needs
 
 returns : tie.Need-returns
-returns c = c .before .before .before .before .before .before .run-stage .ensures ∙ sections-run (c .before .before .before .before .before .before .before .before .before .before .before .before .before .before .before .before .before .before .before .before .before .before .before .before .args .dossier .now) (c .before .before .before .before .before .before .before .before .before .before .before .before .before .before .before .before .before .before .before .before .before .before .before .before .args .nodes .now) (c .before .before .before .before .before .before .before .before .before .before .before .before .before .before .before .before .before .before .before .before .before .before .before .before .args .hashes .now) (c .before .before .before .before .before .before .before .before .before .before .before .before .before .before .before .before .before .before .before .before .before .before .before .before .args .cells .now) (c .before .before .before .before .before .before .before .before .before .before .before .before .before .before .before .before .before .before .before .before .before .before .before .before .args .frames .now) (c .before .before .before .before .before .before .before .before .before .before .before .before .before .before .before .before .before .before .before .before .before .before .before .before .args .answer .now) _ _ _ _ _ _ _ _ (section-holds _ _ _ (c .before .before .before .before .before .before .before .before .before .before .before .before .before .before .before .before .before .section .ensures)) (section-holds _ _ _ (c .before .before .before .before .before .before .before .before .before .before .before .before .before .before .before .before .section2 .ensures)) (section-holds _ _ _ (c .before .before .before .before .before .before .before .before .before .before .before .before .before .before .before .section3 .ensures)) (section-holds _ _ _ (c .before .before .before .before .before .before .before .before .before .before .before .before .before .before .section4 .ensures)) (section-holds _ _ _ (c .before .before .before .before .before .before .before .before .before .before .before .before .before .section5 .ensures)) (c .before .before .before .before .before .before .before .before .before .before .before .before .count .ensures) (section-holds _ _ _ (c .before .before .before .before .before .before .before .before .before .before .before .section6 .ensures)) (c .before .before .before .before .before .before .before .before .before .before .count2 .ensures)
+returns c =
+    let start = c .before .before .before .before .before .before .before .before .before .before .before .before .before .before .before
+    .before .before .before .before .before .before .before .before .before in
+    let section-call =
+    c .before .before .before .before .before .before .before .before .before .before .before .before .before .before .before .before .before .section in
+    let section2-call =
+    c .before .before .before .before .before .before .before .before .before .before .before .before .before .before .before .before .section2 in
+    let section3-call = c .before .before .before .before .before .before .before .before .before .before .before .before .before .before .before .section3 in
+    let section4-call = c .before .before .before .before .before .before .before .before .before .before .before .before .before .before .section4 in
+    let section5-call = c .before .before .before .before .before .before .before .before .before .before .before .before .before .section5 in
+    let count-call = c .before .before .before .before .before .before .before .before .before .before .before .before .count in
+    let section6-call = c .before .before .before .before .before .before .before .before .before .before .before .section6 in
+    let count2-call = c .before .before .before .before .before .before .before .before .before .before .count2 in
+    c .before .before .before .before .before .before .run-stage .ensures
+    ∙ sections-run (start .args .dossier .now) (start .args .nodes .now) (start .args .hashes .now) (start .args .cells .now)
+    (start .args .frames .now) (start .args .answer .now) _ _ _ _ _ _ _ _ (section-holds _ _ _ (section-call .ensures))
+    (section-holds _ _ _ (section2-call .ensures)) (section-holds _ _ _ (section3-call .ensures))
+    (section-holds _ _ _ (section4-call .ensures)) (section-holds _ _ _ (section5-call .ensures)) (count-call .ensures)
+    (section-holds _ _ _ (section6-call .ensures)) (count2-call .ensures)
 
 pub run-decoded-spec : {M : Type 1} → statement M
 run-decoded-spec =

@@ -29,7 +29,13 @@ same-length-2 : tie.Need-same-length-2
 same-length-2 c = search needs
 
 returns-2 : tie.Need-returns-2
-returns-2 c = (c .before .before .before .before .before .before .clear-numbers .ensures ∙ settled-cleared _ _ (sym (c .before .before .before .before .before .before .before .before .if1 .left) ∙ c .before .before .before .before .before .before .before .before .before .keeps .ensures), c .before .before .clear-bytes .ensures ∙ settled-cleared _ _ (sym (c .before .before .before .before .before .before .before .before .if1 .left) ∙ c .before .before .before .before .before .before .before .before .before .keeps .ensures))
+returns-2 c =
+    let keeps-call = c .before .before .before .before .before .before .before .before .before .keeps in
+    let if1-found = c .before .before .before .before .before .before .before .before .if1 in (
+      c .before .before .before .before .before .before .clear-numbers .ensures
+          ∙ settled-cleared _ _ (sym (if1-found .left) ∙ keeps-call .ensures),
+      c .before .before .clear-bytes .ensures ∙ settled-cleared _ _ (sym (if1-found .left) ∙ keeps-call .ensures),
+    )
 
 pub settle-spec : {M : Type 1} → statement M
 settle-spec =

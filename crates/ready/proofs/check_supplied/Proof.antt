@@ -26,7 +26,9 @@ enum-told-2 c = search needs
 returns : tie.Need-returns
 returns c = λ bits hashes. (let a = c .before .before .before .before .before .before .before .before .before .before .args in
     let N = nodesOf bits hashes (nodeRecords (a .nodes .now)) in
-    read-refused (typeRecords (a .types .now)) N (arrowRecords (a .arrows .now)) (a .witness .now) (a .witness-bits) (a .input .now) (a .input-bits) (a .cell-bound) (a .frame-bound) (a .cells) (a .frames) (a .answer) (c .before .before .check-witness .result) (c .before .before .check-witness .ensures bits hashes) _ (c .enum-told2 .given .1))
+    read-refused (typeRecords (a .types .now)) N (arrowRecords (a .arrows .now)) (a .witness .now) (a .witness-bits) (a .input .now)
+    (a .input-bits) (a .cell-bound) (a .frame-bound) (a .cells) (a .frames) (a .answer) (c .before .before .check-witness .result)
+    (c .before .before .check-witness .ensures bits hashes) _ (c .enum-told2 .given .1))
 
 last-node-requires : tie.Need-last-node-requires
 last-node-requires c κs = search needs
@@ -47,11 +49,22 @@ unread-requires : tie.Need-unread-requires
 unread-requires c κs = search needs
 
 returns-2 : tie.Need-returns-2
-returns-2 c = λ bits hashes. (let a = c .before .before .before .before .before .before .before .before .before .before .before .before .before .before .before .before .args in
+returns-2 c =
+    let check-witness-call = c .before .before .before .before .before .before .before .before .check-witness in
+    let arrow-at-call = c .before .before .before .before .arrow-at in
+    λ bits hashes.
+    (let a = c .before .before .before .before .before .before .before .before .before .before .before .before .before .before .before .before .args in
     let N = nodesOf bits hashes (nodeRecords (a .nodes .now)) in
-    let own : arrowOf (c .before .before .before .before .arrow-at .result) ≡ getD (arrowRecords (a .arrows .now)) (length N - 1) noArrow =
-    c .before .before .before .before .arrow-at .ensures ∙ ap (λ (k : ℕ). getD (arrowRecords (a .arrows .now)) k noArrow) (c .before .before .before .before .before .last-node .ensures ∙ ap (λ (n : ℕ). n - 1) (sym (length-nodes bits hashes (nodeRecords (a .nodes .now))))) in
-    c .unread .ensures ∙ ap unreadWith (c .before .enum-told4 .given .1) ∙ input-refused (typeRecords (a .types .now)) N (arrowRecords (a .arrows .now)) (a .witness .now) (a .witness-bits) (a .input .now) (a .input-bits) (a .cell-bound) (a .frame-bound) (a .cells) (a .frames) (a .answer) (c .before .before .before .before .before .before .before .before .check-witness .result) (c .before .before .before .before .before .before .before .before .check-witness .ensures bits hashes) (c .before .before .before .before .before .before .enum-told .given .1) (arrowOf (c .before .before .before .before .arrow-at .result)) own _ (sym (c .before .enum-told4 .given .1) ∙ c .before .before .before .check-input .ensures))
+    let own : arrowOf (arrow-at-call .result) ≡ getD (arrowRecords (a .arrows .now)) (length N - 1) noArrow =
+    arrow-at-call .ensures
+    ∙ ap (λ (k : ℕ). getD (arrowRecords (a .arrows .now)) k noArrow)
+    (c .before .before .before .before .before .last-node .ensures
+    ∙ ap (λ (n : ℕ). n - 1) (sym (length-nodes bits hashes (nodeRecords (a .nodes .now))))) in
+    c .unread .ensures ∙ ap unreadWith (c .before .enum-told4 .given .1)
+    ∙ input-refused (typeRecords (a .types .now)) N (arrowRecords (a .arrows .now)) (a .witness .now) (a .witness-bits) (a .input .now)
+    (a .input-bits) (a .cell-bound) (a .frame-bound) (a .cells) (a .frames) (a .answer) (check-witness-call .result)
+    (check-witness-call .ensures bits hashes) (c .before .before .before .before .before .before .enum-told .given .1)
+    (arrowOf (arrow-at-call .result)) own _ (sym (c .before .enum-told4 .given .1) ∙ c .before .before .before .check-input .ensures))
 
 width-at-requires : tie.Need-width-at-requires
 width-at-requires c κs = search needs
@@ -69,18 +82,53 @@ unread-requires-2 : tie.Need-unread-requires-2
 unread-requires-2 c κs = search needs
 
 returns-3 : tie.Need-returns-3
-returns-3 c = λ bits hashes. (let a = c .before .before .before .before .before .before .before .before .before .before .before .before .before .before .before .before .before .before .before .before .args in
+returns-3 c =
+    let start = c .before .before .before .before .before .before .before .before .before .before .before .before .before .before .before
+    .before .before .before .before .before in
+    let check-witness-call = c .before .before .before .before .before .before .before .before .before .before .before .before .check-witness in
+    let enum-told-found = c .before .before .before .before .before .before .before .before .before .before .enum-told in
+    let last-node-call = c .before .before .before .before .before .before .before .before .before .last-node in
+    let arrow-at-call = c .before .before .before .before .before .before .before .before .arrow-at in
+    let width-at-call = c .before .before .before .before .width-at in
+    λ bits hashes.
+    (let a = c .before .before .before .before .before .before .before .before .before .before .before .before .before .before .before
+    .before .before .before .before .before .args in
     let N = nodesOf bits hashes (nodeRecords (a .nodes .now)) in
-    let own : arrowOf (c .before .before .before .before .before .before .before .before .arrow-at .result) ≡ getD (arrowRecords (a .arrows .now)) (length N - 1) noArrow =
-    c .before .before .before .before .before .before .before .before .arrow-at .ensures ∙ ap (λ (k : ℕ). getD (arrowRecords (a .arrows .now)) k noArrow) (c .before .before .before .before .before .before .before .before .before .last-node .ensures ∙ ap (λ (n : ℕ). n - 1) (sym (length-nodes bits hashes (nodeRecords (a .nodes .now))))) in
-    c .unread2 .ensures ∙ ap unreadWith (c .before .enum-told6 .given .1) ∙ stores-refused (typeRecords (a .types .now)) N (arrowRecords (a .arrows .now)) (a .witness .now) (a .witness-bits) (a .input .now) (a .input-bits) (a .cell-bound) (a .frame-bound) (a .cells) (a .frames) (a .answer) (c .before .before .before .before .before .before .before .before .before .before .before .before .check-witness .result) (c .before .before .before .before .before .before .before .before .before .before .before .before .check-witness .ensures bits hashes) (c .before .before .before .before .before .before .before .before .before .before .enum-told .given .1) (arrowOf (c .before .before .before .before .before .before .before .before .arrow-at .result)) own (sym (c .before .before .before .before .before .enum-told3 .given .1) ∙ c .before .before .before .before .before .before .before .check-input .ensures) (c .before .before .before .before .width-at .result) (c .before .before .before .before .width-at .ensures ∙ width-shown (a .types .now) (a .widths .now) (a .next .now) (c .before .before .before .before .before .before .before .before .before .before .before .before .before .before .before .before .before .before .before .before .pre .0) (c .before .before .before .before .before .before .before .before .arrow-at .result .target)) _ (sym (c .before .enum-told6 .given .1) ∙ c .before .before .before .check-stores .ensures))
+    let own : arrowOf (arrow-at-call .result) ≡ getD (arrowRecords (a .arrows .now)) (length N - 1) noArrow =
+    arrow-at-call .ensures
+    ∙ ap (λ (k : ℕ). getD (arrowRecords (a .arrows .now)) k noArrow)
+    (last-node-call .ensures ∙ ap (λ (n : ℕ). n - 1) (sym (length-nodes bits hashes (nodeRecords (a .nodes .now))))) in
+    c .unread2 .ensures ∙ ap unreadWith (c .before .enum-told6 .given .1) ∙ stores-refused (typeRecords (a .types .now)) N
+    (arrowRecords (a .arrows .now)) (a .witness .now) (a .witness-bits) (a .input .now) (a .input-bits) (a .cell-bound) (a .frame-bound)
+    (a .cells) (a .frames) (a .answer) (check-witness-call .result) (check-witness-call .ensures bits hashes) (enum-told-found .given .1)
+    (arrowOf (arrow-at-call .result)) own (sym (c .before .before .before .before .before .enum-told3 .given .1)
+    ∙ c .before .before .before .before .before .before .before .check-input .ensures) (width-at-call .result)
+    (width-at-call .ensures ∙ width-shown (a .types .now) (a .widths .now) (a .next .now) (start .pre .0) (arrow-at-call .result .target)) _
+    (sym (c .before .enum-told6 .given .1) ∙ c .before .before .before .check-stores .ensures))
 
 returns-4 : tie.Need-returns-4
-returns-4 c = λ bits hashes. (let a = c .before .before .before .before .before .before .before .before .before .before .before .before .before .before .before .before .before .before .before .args in
+returns-4 c =
+    let start = c .before .before .before .before .before .before .before .before .before .before .before .before .before .before .before
+    .before .before .before .before in
+    let check-witness-call = c .before .before .before .before .before .before .before .before .before .before .before .check-witness in
+    let enum-told-found = c .before .before .before .before .before .before .before .before .before .enum-told in
+    let last-node-call = c .before .before .before .before .before .before .before .before .last-node in
+    let arrow-at-call = c .before .before .before .before .before .before .before .arrow-at in
+    let width-at-call = c .before .before .before .width-at in
+    λ bits hashes.
+    (let a = c .before .before .before .before .before .before .before .before .before .before .before .before .before .before .before
+    .before .before .before .before .args in
     let N = nodesOf bits hashes (nodeRecords (a .nodes .now)) in
-    let own : arrowOf (c .before .before .before .before .before .before .before .arrow-at .result) ≡ getD (arrowRecords (a .arrows .now)) (length N - 1) noArrow =
-    c .before .before .before .before .before .before .before .arrow-at .ensures ∙ ap (λ (k : ℕ). getD (arrowRecords (a .arrows .now)) k noArrow) (c .before .before .before .before .before .before .before .before .last-node .ensures ∙ ap (λ (n : ℕ). n - 1) (sym (length-nodes bits hashes (nodeRecords (a .nodes .now))))) in
-    all-passed (typeRecords (a .types .now)) N (arrowRecords (a .arrows .now)) (a .witness .now) (a .witness-bits) (a .input .now) (a .input-bits) (a .cell-bound) (a .frame-bound) (a .cells) (a .frames) (a .answer) (c .before .before .before .before .before .before .before .before .before .before .before .check-witness .result) (c .before .before .before .before .before .before .before .before .before .before .before .check-witness .ensures bits hashes) (c .before .before .before .before .before .before .before .before .before .enum-told .given .1) (arrowOf (c .before .before .before .before .before .before .before .arrow-at .result)) own (sym (c .before .before .before .before .enum-told3 .given .1) ∙ c .before .before .before .before .before .before .check-input .ensures) (c .before .before .before .width-at .result) (c .before .before .before .width-at .ensures ∙ width-shown (a .types .now) (a .widths .now) (a .next .now) (c .before .before .before .before .before .before .before .before .before .before .before .before .before .before .before .before .before .before .before .pre .0) (c .before .before .before .before .before .before .before .arrow-at .result .target)) (sym (c .enum-told5 .given .1) ∙ c .before .before .check-stores .ensures))
+    let own : arrowOf (arrow-at-call .result) ≡ getD (arrowRecords (a .arrows .now)) (length N - 1) noArrow =
+    arrow-at-call .ensures
+    ∙ ap (λ (k : ℕ). getD (arrowRecords (a .arrows .now)) k noArrow)
+    (last-node-call .ensures ∙ ap (λ (n : ℕ). n - 1) (sym (length-nodes bits hashes (nodeRecords (a .nodes .now))))) in
+    all-passed (typeRecords (a .types .now)) N (arrowRecords (a .arrows .now)) (a .witness .now) (a .witness-bits) (a .input .now)
+    (a .input-bits) (a .cell-bound) (a .frame-bound) (a .cells) (a .frames) (a .answer) (check-witness-call .result)
+    (check-witness-call .ensures bits hashes) (enum-told-found .given .1) (arrowOf (arrow-at-call .result)) own
+    (sym (c .before .before .before .before .enum-told3 .given .1) ∙ c .before .before .before .before .before .before .check-input .ensures)
+    (width-at-call .result) (width-at-call .ensures ∙ width-shown (a .types .now) (a .widths .now) (a .next .now) (start .pre .0)
+    (arrow-at-call .result .target)) (sym (c .enum-told5 .given .1) ∙ c .before .before .check-stores .ensures))
 
 pub check-supplied-spec : {M : Type 1} → statement M
 check-supplied-spec =

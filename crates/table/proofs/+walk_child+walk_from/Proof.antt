@@ -45,7 +45,18 @@ abbrev walk-child-calls : ℕ → walk-child-lts.Claims
 walk-child-calls t = (walk-from-below t, walk-from.Post)
 
 abbrev walk-from-calls : ℕ → walk-from-lts.Claims
-walk-from-calls t = (record-at-reads.Asked, record-at-reads.Learnt, left-child-reads.Asked, left-child-reads.Learnt, walk-child-below t, walk-child.Post, right-child-reads.Asked, right-child-reads.Learnt, arrive-reads.Asked, arrive-reads.Learnt)
+walk-from-calls t = (
+  record-at-reads.Asked,
+  record-at-reads.Learnt,
+  left-child-reads.Asked,
+  left-child-reads.Learnt,
+  walk-child-below t,
+  walk-child.Post,
+  right-child-reads.Asked,
+  right-child-reads.Learnt,
+  arrive-reads.Asked,
+  arrive-reads.Learnt,
+)
 
 walk-child-returns :
     (t : ℕ) →
@@ -67,7 +78,9 @@ walk-child-returns-2 :
 walk-child-returns-2 t c = c .walk-from .ensures ∙ sym (child-below _ _ _ _ (c .before .if1 .left))
 
 walk-from-returns : (t : ℕ) → walk-from-lts.Need-returns (walk-from-calls t) (walk-from-at t) walk-from.Post
-walk-from-returns t c = walk-done (c .before .before .before .args .hashes .now) (c .before .before .before .args .nodes .now) (c .before .before .before .args .i) _ refl _ (c .before .before .before .pre .1 .0) (c .if1 .taken)
+walk-from-returns t c =
+    walk-done (c .before .before .before .args .hashes .now) (c .before .before .before .args .nodes .now)
+    (c .before .before .before .args .i) _ refl _ (c .before .before .before .pre .1 .0) (c .if1 .taken)
 
 walk-from-record-at-requires : (t : ℕ) → walk-from-lts.Need-record-at-requires (walk-from-calls t) (walk-from-at t) walk-from.Post
 walk-from-record-at-requires t c κs = search needs
@@ -86,8 +99,12 @@ walk-from-enum-told t c = search needs
 
 walk-from-returns-2 : (t : ℕ) → walk-from-lts.Need-returns-2 (walk-from-calls t) (walk-from-at t) walk-from.Post
 walk-from-returns-2 t c =
+    let start = c .before .before .before .before .before .before .before .before in
     let told = c .enum-told .given .1 in
-    ap walkedOf told ∙ left-stops _ _ _ _ (c .before .before .before .before .record-at .ensures) _ (c .before .before .before .before .before .before .before .before .pre .1 .0) (c .before .before .before .before .before .if1 .left) _ _ (c .before .before .before .left-child .ensures) (sym (c .before .before .walk-child .ensures) ∙ ap walkedOf told)
+    ap walkedOf told
+    ∙ left-stops _ _ _ _ (c .before .before .before .before .record-at .ensures) _ (start .pre .1 .0)
+    (c .before .before .before .before .before .if1 .left) _ _ (c .before .before .before .left-child .ensures)
+    (sym (c .before .before .walk-child .ensures) ∙ ap walkedOf told)
 
 walk-from-right-child-requires : (t : ℕ) → walk-from-lts.Need-right-child-requires (walk-from-calls t) (walk-from-at t) walk-from.Post
 walk-from-right-child-requires t c κs = search needs
@@ -103,9 +120,15 @@ walk-from-enum-told-2 t c = search needs
 
 walk-from-returns-3 : (t : ℕ) → walk-from-lts.Need-returns-3 (walk-from-calls t) (walk-from-at t) walk-from.Post
 walk-from-returns-3 t c =
+    let start = c .before .before .before .before .before .before .before .before .before .before .before .before .before in
+    let if1-found = c .before .before .before .before .before .before .before .before .before .before .if1 in
+    let record-at-call = c .before .before .before .before .before .before .before .before .before .record-at in
+    let left-child-call = c .before .before .before .before .before .before .before .before .left-child in
     let told = c .enum-told2 .given .1 in
     ap walkedOf told
-    ∙ right-stops _ _ _ _ (c .before .before .before .before .before .before .before .before .before .record-at .ensures) _ (c .before .before .before .before .before .before .before .before .before .before .before .before .before .pre .1 .0) (c .before .before .before .before .before .before .before .before .before .before .if1 .left) _ _ _ _ (c .before .before .before .before .before .before .before .before .left-child .ensures) (sym (c .before .before .before .before .before .before .before .walk-child .ensures) ∙ ap walkedOf (c .before .before .before .before .before .left .given .1))
+    ∙ right-stops _ _ _ _ (record-at-call .ensures) _ (start .pre .1 .0) (if1-found .left) _ _ _ _ (left-child-call .ensures)
+    (sym (c .before .before .before .before .before .before .before .walk-child .ensures)
+    ∙ ap walkedOf (c .before .before .before .before .before .left .given .1))
     (c .before .before .before .right-child .ensures) (sym (c .before .before .walk-child2 .ensures) ∙ ap walkedOf told)
 
 walk-from-arrive-requires : (t : ℕ) → walk-from-lts.Need-arrive-requires (walk-from-calls t) (walk-from-at t) walk-from.Post
@@ -113,9 +136,16 @@ walk-from-arrive-requires t c κs = search needs
 
 walk-from-returns-4 : (t : ℕ) → walk-from-lts.Need-returns-4 (walk-from-calls t) (walk-from-at t) walk-from.Post
 walk-from-returns-4 t c =
+    let start = c .before .before .before .before .before .before .before .before .before .before .before .before .before .before .before in
+    let if1-found = c .before .before .before .before .before .before .before .before .before .before .before .before .if1 in
+    let record-at-call = c .before .before .before .before .before .before .before .before .before .before .before .record-at in
+    let left-child-call = c .before .before .before .before .before .before .before .before .before .before .left-child in
+    let walk-child-call = c .before .before .before .before .before .before .before .before .before .walk-child in
     c .arrive .ensures
-    ∙ both-pass _ _ _ _ (c .before .before .before .before .before .before .before .before .before .before .before .record-at .ensures) _ (c .before .before .before .before .before .before .before .before .before .before .before .before .before .before .before .pre .1 .0) (c .before .before .before .before .before .before .before .before .before .before .before .before .if1 .left) _ _ _ _ (c .before .before .before .before .before .before .before .before .before .before .left-child .ensures) (sym (c .before .before .before .before .before .before .before .before .before .walk-child .ensures) ∙ ap walkedOf (c .before .before .before .before .before .before .before .left .given .1))
-    (c .before .before .before .before .before .right-child .ensures) (sym (c .before .before .before .before .walk-child2 .ensures) ∙ ap walkedOf (c .before .before .right .given .1))
+    ∙ both-pass _ _ _ _ (record-at-call .ensures) _ (start .pre .1 .0) (if1-found .left) _ _ _ _ (left-child-call .ensures)
+    (sym (walk-child-call .ensures) ∙ ap walkedOf (c .before .before .before .before .before .before .before .left .given .1))
+    (c .before .before .before .before .before .right-child .ensures)
+    (sym (c .before .before .before .before .walk-child2 .ensures) ∙ ap walkedOf (c .before .before .right .given .1))
 
 pub +walk-child+walk-from-spec : {M : Type 1} → statement M
 +walk-child+walk-from-spec = close μ-walk-child μ-walk-from (λ t. walk-child-lts.spec (walk-child-calls t)

@@ -15,7 +15,9 @@ not-repeated-requires : tie.Need-not-repeated-requires
 not-repeated-requires c κs = search needs
 
 returns : tie.Need-returns
-returns c = c .not-repeated .ensures ∙ sym (asks-hidden _ _ _ _ (c .before .before .before .record-at .ensures) (sym (c .before .before .is-hidden .ensures) ∙ c .before .if1 .taken))
+returns c =
+    c .not-repeated .ensures
+    ∙ sym (asks-hidden _ _ _ _ (c .before .before .before .record-at .ensures) (sym (c .before .before .is-hidden .ensures) ∙ c .before .if1 .taken))
 
 left-child-requires : tie.Need-left-child-requires
 left-child-requires c κs = search needs
@@ -34,16 +36,24 @@ one-hidden-requires c κs = search needs
 
 returns-2 : tie.Need-returns-2
 returns-2 c =
+    let record-at-call = c .before .before .before .before .before .before .before .before .before .record-at in
     c .one-hidden .ensures
-    ∙ sym (asks-case _ _ _ _ (c .before .before .before .before .before .before .before .before .before .record-at .ensures) _ _ _ _ (c .before .before .before .before .before .before .left-child .ensures) (c .before .before .before .before .right-child .ensures) (c .before .before .before .before .before .hidden-at .ensures) (c .before .before .before .hidden-at2 .ensures) (c .before .if2 .taken))
+    ∙ sym (asks-case _ _ _ _ (record-at-call .ensures) _ _ _ _ (c .before .before .before .before .before .before .left-child .ensures)
+    (c .before .before .before .before .right-child .ensures) (c .before .before .before .before .before .hidden-at .ensures)
+    (c .before .before .before .hidden-at2 .ensures) (c .before .if2 .taken))
 
 none-hidden-requires : tie.Need-none-hidden-requires
 none-hidden-requires c κs = search needs
 
 returns-3 : tie.Need-returns-3
 returns-3 c =
+    let record-at-call = c .before .before .before .before .before .before .before .before .before .record-at in
+    let is-hidden-call = c .before .before .before .before .before .before .before .before .is-hidden in
     c .none-hidden .ensures
-    ∙ sym (asks-other _ _ _ _ (c .before .before .before .before .before .before .before .before .before .record-at .ensures) _ _ _ _ (c .before .before .before .before .before .before .left-child .ensures) (c .before .before .before .before .right-child .ensures) (c .before .before .before .before .before .hidden-at .ensures) (c .before .before .before .hidden-at2 .ensures) (c .before .if2 .left) (sym (c .before .before .before .before .before .before .before .before .is-hidden .ensures) ∙ c .before .before .before .before .before .before .before .if1 .left))
+    ∙ sym (asks-other _ _ _ _ (record-at-call .ensures) _ _ _ _ (c .before .before .before .before .before .before .left-child .ensures)
+    (c .before .before .before .before .right-child .ensures) (c .before .before .before .before .before .hidden-at .ensures)
+    (c .before .before .before .hidden-at2 .ensures) (c .before .if2 .left)
+    (sym (is-hidden-call .ensures) ∙ c .before .before .before .before .before .before .before .if1 .left))
 
 pub allowed-spec : {M : Type 1} → statement M
 allowed-spec =

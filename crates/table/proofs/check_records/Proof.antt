@@ -33,7 +33,8 @@ returns c = count-refuses _ _ _ _ _ (c .before .before .check-count .ensures) (c
 
 cast-n : tie.Need-cast-n Inv-loop μ-loop
 cast-n c =
-    let some = fine-records (c .before .before .before .before .before .before .args .nodes .now) (sym (c .before .before .check-count .ensures) ∙ ap checkOf (c .enum-told .given .1)) in record { fits = omega arith }
+    let some = fine-records (c .before .before .before .before .before .before .args .nodes .now)
+    (sym (c .before .before .check-count .ensures) ∙ ap checkOf (c .enum-told .given .1)) in record { fits = omega arith }
 
 loop-holds : tie.Need-loop-holds Inv-loop μ-loop
 loop-holds c = pass-start _ _
@@ -46,25 +47,39 @@ record-holds-requires c κs = search needs
 
 returns-2 : tie.Need-returns-2 Inv-loop μ-loop
 returns-2 c =
-    let breaks = sym (rule-is (c .before .before .before .before .before .before .before .before .before .before .before .args .program .now) (c .before .before .before .before .before .before .before .before .before .before .before .args .hashes .now) (c .before .before .before .before .before .before .before .before .before .before .before .args .nodes .now) (c .before .before .before .before .loop .i) _ (c .before .before .record-at .ensures)) ∙ sym (c .before .record-holds .ensures) ∙ not-true _ (c .if1 .taken) in
-    record-breaks (c .before .before .before .before .before .before .before .before .before .before .before .args .program .now) (c .before .before .before .before .before .before .before .before .before .before .before .args .hashes .now) (c .before .before .before .before .before .before .before .before .before .before .before .args .nodes .now) (sym (c .before .before .before .before .before .before .before .check-count .ensures) ∙ ap checkOf (c .before .before .before .before .before .enum-told .given .1)) (c .before .before .before .before .loop .i)
-    (first-failed _ _ _ (c .before .before .before .loop-test .taken) breaks (c .before .before .before .before .loop .inv)) (c .before .before .before .loop-test .taken)
+    let start = c .before .before .before .before .before .before .before .before .before .before .before in
+    let loop-test-found = c .before .before .before .loop-test in
+    let breaks = sym (rule-is (start .args .program .now) (start .args .hashes .now) (start .args .nodes .now)
+    (c .before .before .before .before .loop .i) _ (c .before .before .record-at .ensures)) ∙ sym (c .before .record-holds .ensures)
+    ∙ not-true _ (c .if1 .taken) in
+    record-breaks (start .args .program .now) (start .args .hashes .now) (start .args .nodes .now)
+    (sym (c .before .before .before .before .before .before .before .check-count .ensures)
+    ∙ ap checkOf (c .before .before .before .before .before .enum-told .given .1)) (c .before .before .before .before .loop .i)
+    (first-failed _ _ _ (loop-test-found .taken) breaks (c .before .before .before .before .loop .inv)) (loop-test-found .taken)
 
 add-i : tie.Need-add-i Inv-loop μ-loop
 add-i c =
-    let some = fine-records (c .before .before .before .before .before .before .before .before .before .before .before .args .nodes .now) (sym (c .before .before .before .before .before .before .before .check-count .ensures) ∙ ap checkOf (c .before .before .before .before .before .enum-told .given .1)) in record { fits = omega arith }
+    let start = c .before .before .before .before .before .before .before .before .before .before .before in
+    let some = fine-records (start .args .nodes .now)
+    (sym (c .before .before .before .before .before .before .before .check-count .ensures)
+    ∙ ap checkOf (c .before .before .before .before .before .enum-told .given .1)) in record { fits = omega arith }
 
 loop-less : tie.Need-loop-less Inv-loop μ-loop
 loop-less c = search needs
 
 loop-again : tie.Need-loop-again Inv-loop μ-loop
 loop-again c =
-    let holds = sym (rule-is (c .before .before .before .before .before .before .before .before .before .before .before .args .program .now) (c .before .before .before .before .before .before .before .before .before .before .before .args .hashes .now) (c .before .before .before .before .before .before .before .before .before .before .before .args .nodes .now) (c .before .before .before .before .loop .i) _ (c .before .before .record-at .ensures)) ∙ sym (c .before .record-holds .ensures) ∙ not-false _ (c .if1 .left) in
+    let start = c .before .before .before .before .before .before .before .before .before .before .before in
+    let holds = sym (rule-is (start .args .program .now) (start .args .hashes .now) (start .args .nodes .now)
+    (c .before .before .before .before .loop .i) _ (c .before .before .record-at .ensures)) ∙ sym (c .before .record-holds .ensures)
+    ∙ not-false _ (c .if1 .left) in
     pass-more _ _ _ (c .before .before .before .loop-test .taken) holds (c .before .before .before .before .loop .inv)
 
 returns-3 : tie.Need-returns-3 Inv-loop μ-loop
 returns-3 c =
-    records-hold (c .before .before .before .before .before .before .before .before .args .program .now) (c .before .before .before .before .before .before .before .before .args .hashes .now) (c .before .before .before .before .before .before .before .before .args .nodes .now) (sym (c .before .before .before .before .check-count .ensures) ∙ ap checkOf (c .before .before .enum-told .given .1))
+    let start = c .before .before .before .before .before .before .before .before in
+    records-hold (start .args .program .now) (start .args .hashes .now) (start .args .nodes .now)
+    (sym (c .before .before .before .before .check-count .ensures) ∙ ap checkOf (c .before .before .enum-told .given .1))
     (none-failed _ _ (c .before .loop .i) (c .loop-test .left) (c .before .loop .inv))
 
 pub check-records-spec : {M : Type 1} → statement M

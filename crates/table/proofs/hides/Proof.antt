@@ -22,7 +22,8 @@ is-hidden-requires c κs = search needs
 
 returns : tie.Need-returns
 returns c =
-    let e : hiddenKind (getD (nodeRecords (c .before .before .before .before .before .before .args .nodes .now)) (c .before .before .before .before .before .before .args .j) noRecord .kind) ≡ false =
+    let e : hiddenKind (getD (nodeRecords (c .before .before .before .before .before .before .args .nodes .now))
+    (c .before .before .before .before .before .before .args .j) noRecord .kind) ≡ false =
     sym (c .before .is-hidden .ensures ∙ ap (λ (x : NodeRecord). hiddenKind (x .kind)) (c .before .before .record-at .ensures)) ∙ not-true _ (c .if1 .taken) in
     rw (hides-kind, e)
 
@@ -34,10 +35,14 @@ same-bytes-requires c κs = search needs
 
 returns-2 : tie.Need-returns-2
 returns-2 c =
-    let e : hiddenKind (getD (nodeRecords (c .before .before .before .before .before .before .before .before .args .nodes .now)) (c .before .before .before .before .before .before .before .before .args .j) noRecord .kind) ≡ true =
-    sym (c .before .before .before .is-hidden .ensures ∙ ap (λ (x : NodeRecord). hiddenKind (x .kind)) (c .before .before .before .before .record-at .ensures)) ∙ not-false _ (c .before .before .if1 .left) in
+    let start = c .before .before .before .before .before .before .before .before in
+    let record-at-call = c .before .before .before .before .record-at in
+    let e : hiddenKind (getD (nodeRecords (start .args .nodes .now)) (start .args .j) noRecord .kind) ≡ true =
+    sym (c .before .before .before .is-hidden .ensures ∙ ap (λ (x : NodeRecord). hiddenKind (x .kind)) (record-at-call .ensures))
+    ∙ not-false _ (c .before .before .if1 .left) in
     rw (hides-kind, e)
-    (c .same-bytes .ensures ∙ ap (λ (x : List ℕ). same x (c .before .before .before .before .before .before .before .before .args .hash .now)) (c .before .hash-of .ensures ∙ ap (λ (x : NodeRecord). hashIs (nodeIs (c .before .before .before .before .before .before .before .before .args .hashes .now) x)) (c .before .before .before .before .record-at .ensures)))
+    (c .same-bytes .ensures ∙ ap (λ (x : List ℕ). same x (start .args .hash .now))
+    (c .before .hash-of .ensures ∙ ap (λ (x : NodeRecord). hashIs (nodeIs (start .args .hashes .now) x)) (record-at-call .ensures)))
 
 pub hides-spec : {M : Type 1} → statement M
 hides-spec =

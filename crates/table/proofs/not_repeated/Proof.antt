@@ -20,13 +20,17 @@ hidden-before-requires c κs = search needs
 returns : tie.Need-returns
 unfolding repeatRule require
 returns c =
-    let e = sym (c .before .hidden-before .ensures ∙ ap (λ (x : List ℕ). anyBelow (c .before .before .before .before .before .args .i) (hides (lentNodes (c .before .before .before .before .before .args .hashes .now) (c .before .before .before .before .before .args .nodes .now)) x)) (c .before .before .hash-of .ensures)) ∙ c .if1 .taken in
+    let start = c .before .before .before .before .before in
+    let e = sym (c .before .hidden-before .ensures ∙ ap (λ (x : List ℕ). anyBelow (start .args .i)
+    (hides (lentNodes (start .args .hashes .now) (start .args .nodes .now)) x)) (c .before .before .hash-of .ensures)) ∙ c .if1 .taken in
     rw e
 
 returns-2 : tie.Need-returns-2
 unfolding repeatRule require
 returns-2 c =
-    let e = sym (c .before .hidden-before .ensures ∙ ap (λ (x : List ℕ). anyBelow (c .before .before .before .before .before .args .i) (hides (lentNodes (c .before .before .before .before .before .args .hashes .now) (c .before .before .before .before .before .args .nodes .now)) x)) (c .before .before .hash-of .ensures)) ∙ c .if1 .left in
+    let start = c .before .before .before .before .before in
+    let e = sym (c .before .hidden-before .ensures ∙ ap (λ (x : List ℕ). anyBelow (start .args .i)
+    (hides (lentNodes (start .args .hashes .now) (start .args .nodes .now)) x)) (c .before .before .hash-of .ensures)) ∙ c .if1 .left in
     rw e
 
 pub not-repeated-spec : {M : Type 1} → statement M

@@ -34,9 +34,11 @@ padding-at-requires c κs = search needs
 
 peek-requires : tie.Need-peek-requires
 peek-requires c κs =
-    let start = c .before .before .before .before .before .before .before .before .before .before .before .before .before .before .before .before .before .before in
+    let start =
+    c .before .before .before .before .before .before .before .before .before .before .before .before .before .before .before .before .before .before in
     let record-at-call = c .before .before .before .before .before .record-at in
-    ByKind.case-look (start .pre .0) (start .args .i) (recordOf (record-at-call .result)) (record-at-call .ensures) _ (start .pre .1 .1 .0) ((ap (λ (r : NodeRecord). r .kind) (record-at-call .ensures)) ∙ (start .pre .1 .1 .1))
+    ByKind.case-look (start .pre .0) (start .args .i) (recordOf (record-at-call .result)) (record-at-call .ensures) _ (start .pre .1 .1 .0)
+    ((ap (λ (r : NodeRecord). r .kind) (record-at-call .ensures)) ∙ (start .pre .1 .1 .1))
 
 hidden-at-requires : tie.Need-hidden-at-requires
 hidden-at-requires c κs = search needs
@@ -49,22 +51,41 @@ same-length-2 c = search needs
 
 returns : tie.Need-returns
 returns c =
-    let start = c .before .before .before .before .before .before .before .before .before .before .before .before .before .before .before .before .before .before .before .before .before .before in
+    let start = c .before .before .before .before .before .before .before .before .before .before .before .before .before .before .before
+    .before .before .before .before .before .before .before in
     let record-at-call = c .before .before .before .before .before .before .before .before .before .record-at in
-    ByKind.left-pruned (start .pre .0) (start .args .i) (recordOf (record-at-call .result)) (record-at-call .ensures) _ (start .pre .1 .1 .0) ((ap (λ (r : NodeRecord). r .kind) (record-at-call .ensures)) ∙ (start .pre .1 .1 .1)) (sym (c .before .before .before .peek .ensures) ∙ c .before .before .if1 .taken) _ (c .before .hidden-at .ensures) (c .if2 .taken)
+    ByKind.left-pruned (start .pre .0) (start .args .i) (recordOf (record-at-call .result)) (record-at-call .ensures) _
+    (start .pre .1 .1 .0) ((ap (λ (r : NodeRecord). r .kind) (record-at-call .ensures)) ∙ (start .pre .1 .1 .1))
+    (sym (c .before .before .before .peek .ensures) ∙ c .before .before .if1 .taken) _ (c .before .hidden-at .ensures) (c .if2 .taken)
 
 add-n : tie.Need-add-n
 add-n c =
-    let start = c .before .before .before .before .before .before .before .before .before .before .before .before .before .before .before .before .before .before .before .before .before .before .before in
+    let source-at-call = c .before .before .before .before .before .before .before .before .before .source-at in
+    let left-of-call = c .before .before .before .before .before .before .before .before .left-of in
+    let start = c .before .before .before .before .before .before .before .before .before .before .before .before .before .before .before
+    .before .before .before .before .before .before .before .before in
     let record-at-call = c .before .before .before .before .before .before .before .before .before .before .record-at in
-    let h = ByKind.left-need (start .pre .0) (start .args .i) (recordOf (record-at-call .result)) (record-at-call .ensures) _ (start .pre .1 .1 .0) ((ap (λ (r : NodeRecord). r .kind) (record-at-call .ensures)) ∙ (start .pre .1 .1 .1)) (sym (c .before .before .before .before .peek .ensures) ∙ c .before .before .before .if1 .taken) _ (c .before .before .hidden-at .ensures) (c .before .if2 .left) _ (rw (c .before .before .before .before .before .before .before .before .left-of .ensures, c .before .before .before .before .before .before .before .before .before .source-at .ensures) at (ap (λ (p : Padding). p .left) (c .before .before .before .before .before .before .before .padding-at .ensures))) (omega arith) .fits in
+    let h = ByKind.left-need (start .pre .0) (start .args .i) (recordOf (record-at-call .result)) (record-at-call .ensures) _
+    (start .pre .1 .1 .0) ((ap (λ (r : NodeRecord). r .kind) (record-at-call .ensures)) ∙ (start .pre .1 .1 .1))
+    (sym (c .before .before .before .before .peek .ensures) ∙ c .before .before .before .if1 .taken) _
+    (c .before .before .hidden-at .ensures) (c .before .if2 .left) _ (rw (left-of-call .ensures, source-at-call .ensures) at (ap
+    (λ (p : Padding). p .left) (c .before .before .before .before .before .before .before .padding-at .ensures))) (omega arith) .fits in
     omega (arith, fed-bits (within-fed (start .pre .1 .0)))
 
 forward-requires : tie.Need-forward-requires
 forward-requires c κs =
-    let start = c .before .before .before .before .before .before .before .before .before .before .before .before .before .before .before .before .before .before .before .before .before .before .before .before in
+    let source-at-call = c .before .before .before .before .before .before .before .before .before .before .source-at in
+    let left-of-call = c .before .before .before .before .before .before .before .before .before .left-of in
+    let padding-at-call = c .before .before .before .before .before .before .before .before .padding-at in
+    let start = c .before .before .before .before .before .before .before .before .before .before .before .before .before .before .before
+    .before .before .before .before .before .before .before .before .before in
     let record-at-call = c .before .before .before .before .before .before .before .before .before .before .before .record-at in
-    λ pos. read-over [] (fed-bits (within-fed (start .pre .1 .0))) (ByKind.left-need (start .pre .0) (start .args .i) (recordOf (record-at-call .result)) (record-at-call .ensures) _ (start .pre .1 .1 .0) ((ap (λ (r : NodeRecord). r .kind) (record-at-call .ensures)) ∙ (start .pre .1 .1 .1)) (sym (c .before .before .before .before .before .peek .ensures) ∙ c .before .before .before .before .if1 .taken) _ (c .before .before .before .hidden-at .ensures) (c .before .before .if2 .left) _ (rw (c .before .before .before .before .before .before .before .before .before .left-of .ensures, c .before .before .before .before .before .before .before .before .before .before .source-at .ensures) at (ap (λ (p : Padding). p .left) (c .before .before .before .before .before .before .before .before .padding-at .ensures))) pos)
+    λ pos. read-over [] (fed-bits (within-fed (start .pre .1 .0)))
+    (ByKind.left-need (start .pre .0) (start .args .i) (recordOf (record-at-call .result)) (record-at-call .ensures) _
+    (start .pre .1 .1 .0) ((ap (λ (r : NodeRecord). r .kind) (record-at-call .ensures)) ∙ (start .pre .1 .1 .1))
+    (sym (c .before .before .before .before .before .peek .ensures) ∙ c .before .before .before .before .if1 .taken) _
+    (c .before .before .before .hidden-at .ensures) (c .before .before .if2 .left) _
+    (rw (left-of-call .ensures, source-at-call .ensures) at (ap (λ (p : Padding). p .left) (padding-at-call .ensures))) pos)
 
 same-length-3 : tie.Need-same-length-3
 same-length-3 c = search needs
@@ -74,9 +95,19 @@ same-length-4 c = search needs
 
 returns-2 : tie.Need-returns-2
 returns-2 c =
-    let start = c .before .before .before .before .before .before .before .before .before .before .before .before .before .before .before .before .before .before .before .before .before .before .before .before .before .before .before in
+    let source-at-call = c .before .before .before .before .before .before .before .before .before .before .before .before .before .source-at in
+    let left-of-call = c .before .before .before .before .before .before .before .before .before .before .before .before .left-of in
+    let padding-at-call = c .before .before .before .before .before .before .before .before .before .before .before .padding-at in
+    let peek-call = c .before .before .before .before .before .before .before .before .peek in
+    let start = c .before .before .before .before .before .before .before .before .before .before .before .before .before .before .before
+    .before .before .before .before .before .before .before .before .before .before .before .before in
     let record-at-call = c .before .before .before .before .before .before .before .before .before .before .before .before .before .before .record-at in
-    ByKind.left-one (start .pre .0) (start .args .i) (recordOf (record-at-call .result)) (record-at-call .ensures) _ (start .pre .1 .1 .0) ((ap (λ (r : NodeRecord). r .kind) (record-at-call .ensures)) ∙ (start .pre .1 .1 .1)) (sym (c .before .before .before .before .before .before .before .before .peek .ensures) ∙ c .before .before .before .before .before .before .before .if1 .taken) _ (c .before .before .before .before .before .before .hidden-at .ensures) (c .before .before .before .before .before .if2 .left) _ (rw (c .before .before .before .before .before .before .before .before .before .before .before .before .left-of .ensures, c .before .before .before .before .before .before .before .before .before .before .before .before .before .source-at .ensures) at (ap (λ (p : Padding). p .left) (c .before .before .before .before .before .before .before .before .before .before .before .padding-at .ensures))) _ (c .before .before .forward .ensures _)
+    ByKind.left-one (start .pre .0) (start .args .i) (recordOf (record-at-call .result)) (record-at-call .ensures) _ (start .pre .1 .1 .0)
+    ((ap (λ (r : NodeRecord). r .kind) (record-at-call .ensures)) ∙ (start .pre .1 .1 .1))
+    (sym (peek-call .ensures) ∙ c .before .before .before .before .before .before .before .if1 .taken) _
+    (c .before .before .before .before .before .before .hidden-at .ensures) (c .before .before .before .before .before .if2 .left) _
+    (rw (left-of-call .ensures, source-at-call .ensures) at (ap (λ (p : Padding). p .left) (padding-at-call .ensures))) _
+    (c .before .before .forward .ensures _)
 
 hidden-at-requires-2 : tie.Need-hidden-at-requires-2
 hidden-at-requires-2 c κs = search needs
@@ -89,22 +120,41 @@ same-length-6 c = search needs
 
 returns-3 : tie.Need-returns-3
 returns-3 c =
-    let start = c .before .before .before .before .before .before .before .before .before .before .before .before .before .before .before .before .before .before .before .before .before .before in
+    let start = c .before .before .before .before .before .before .before .before .before .before .before .before .before .before .before
+    .before .before .before .before .before .before .before in
     let record-at-call = c .before .before .before .before .before .before .before .before .before .record-at in
-    ByKind.right-pruned (start .pre .0) (start .args .i) (recordOf (record-at-call .result)) (record-at-call .ensures) _ (start .pre .1 .1 .0) ((ap (λ (r : NodeRecord). r .kind) (record-at-call .ensures)) ∙ (start .pre .1 .1 .1)) (λ z. c .before .before .if1 .left (c .before .before .before .peek .ensures ∙ z)) _ (c .before .hidden-at2 .ensures) (c .if3 .taken)
+    ByKind.right-pruned (start .pre .0) (start .args .i) (recordOf (record-at-call .result)) (record-at-call .ensures) _
+    (start .pre .1 .1 .0) ((ap (λ (r : NodeRecord). r .kind) (record-at-call .ensures)) ∙ (start .pre .1 .1 .1))
+    (λ z. c .before .before .if1 .left (c .before .before .before .peek .ensures ∙ z)) _ (c .before .hidden-at2 .ensures) (c .if3 .taken)
 
 add-n-2 : tie.Need-add-n-2
 add-n-2 c =
-    let start = c .before .before .before .before .before .before .before .before .before .before .before .before .before .before .before .before .before .before .before .before .before .before .before in
+    let source-at-call = c .before .before .before .before .before .before .before .before .before .source-at in
+    let left-of-call = c .before .before .before .before .before .before .before .before .left-of in
+    let start = c .before .before .before .before .before .before .before .before .before .before .before .before .before .before .before
+    .before .before .before .before .before .before .before .before in
     let record-at-call = c .before .before .before .before .before .before .before .before .before .before .record-at in
-    let h = ByKind.right-need (start .pre .0) (start .args .i) (recordOf (record-at-call .result)) (record-at-call .ensures) _ (start .pre .1 .1 .0) ((ap (λ (r : NodeRecord). r .kind) (record-at-call .ensures)) ∙ (start .pre .1 .1 .1)) (λ z. c .before .before .before .if1 .left (c .before .before .before .before .peek .ensures ∙ z)) _ (c .before .before .hidden-at2 .ensures) (c .before .if3 .left) _ (rw (c .before .before .before .before .before .before .before .before .left-of .ensures, c .before .before .before .before .before .before .before .before .before .source-at .ensures) at (ap (λ (p : Padding). p .right) (c .before .before .before .before .before .before .before .padding-at .ensures))) (omega arith) .fits in
+    let h = ByKind.right-need (start .pre .0) (start .args .i) (recordOf (record-at-call .result)) (record-at-call .ensures) _
+    (start .pre .1 .1 .0) ((ap (λ (r : NodeRecord). r .kind) (record-at-call .ensures)) ∙ (start .pre .1 .1 .1))
+    (λ z. c .before .before .before .if1 .left (c .before .before .before .before .peek .ensures ∙ z)) _
+    (c .before .before .hidden-at2 .ensures) (c .before .if3 .left) _ (rw (left-of-call .ensures, source-at-call .ensures) at (ap
+    (λ (p : Padding). p .right) (c .before .before .before .before .before .before .before .padding-at .ensures))) (omega arith) .fits in
     omega (arith, fed-bits (within-fed (start .pre .1 .0)))
 
 forward-requires-2 : tie.Need-forward-requires-2
 forward-requires-2 c κs =
-    let start = c .before .before .before .before .before .before .before .before .before .before .before .before .before .before .before .before .before .before .before .before .before .before .before .before in
+    let source-at-call = c .before .before .before .before .before .before .before .before .before .before .source-at in
+    let left-of-call = c .before .before .before .before .before .before .before .before .before .left-of in
+    let padding-at-call = c .before .before .before .before .before .before .before .before .padding-at in
+    let start = c .before .before .before .before .before .before .before .before .before .before .before .before .before .before .before
+    .before .before .before .before .before .before .before .before .before in
     let record-at-call = c .before .before .before .before .before .before .before .before .before .before .before .record-at in
-    λ pos. read-over [] (fed-bits (within-fed (start .pre .1 .0))) (ByKind.right-need (start .pre .0) (start .args .i) (recordOf (record-at-call .result)) (record-at-call .ensures) _ (start .pre .1 .1 .0) ((ap (λ (r : NodeRecord). r .kind) (record-at-call .ensures)) ∙ (start .pre .1 .1 .1)) (λ z. c .before .before .before .before .if1 .left (c .before .before .before .before .before .peek .ensures ∙ z)) _ (c .before .before .before .hidden-at2 .ensures) (c .before .before .if3 .left) _ (rw (c .before .before .before .before .before .before .before .before .before .left-of .ensures, c .before .before .before .before .before .before .before .before .before .before .source-at .ensures) at (ap (λ (p : Padding). p .right) (c .before .before .before .before .before .before .before .before .padding-at .ensures))) pos)
+    λ pos. read-over [] (fed-bits (within-fed (start .pre .1 .0)))
+    (ByKind.right-need (start .pre .0) (start .args .i) (recordOf (record-at-call .result)) (record-at-call .ensures) _
+    (start .pre .1 .1 .0) ((ap (λ (r : NodeRecord). r .kind) (record-at-call .ensures)) ∙ (start .pre .1 .1 .1))
+    (λ z. c .before .before .before .before .if1 .left (c .before .before .before .before .before .peek .ensures ∙ z)) _
+    (c .before .before .before .hidden-at2 .ensures) (c .before .before .if3 .left) _
+    (rw (left-of-call .ensures, source-at-call .ensures) at (ap (λ (p : Padding). p .right) (padding-at-call .ensures))) pos)
 
 same-length-7 : tie.Need-same-length-7
 same-length-7 c = search needs
@@ -114,9 +164,19 @@ same-length-8 c = search needs
 
 returns-4 : tie.Need-returns-4
 returns-4 c =
-    let start = c .before .before .before .before .before .before .before .before .before .before .before .before .before .before .before .before .before .before .before .before .before .before .before .before .before .before .before in
+    let source-at-call = c .before .before .before .before .before .before .before .before .before .before .before .before .before .source-at in
+    let left-of-call = c .before .before .before .before .before .before .before .before .before .before .before .before .left-of in
+    let padding-at-call = c .before .before .before .before .before .before .before .before .before .before .before .padding-at in
+    let peek-call = c .before .before .before .before .before .before .before .before .peek in
+    let start = c .before .before .before .before .before .before .before .before .before .before .before .before .before .before .before
+    .before .before .before .before .before .before .before .before .before .before .before .before in
     let record-at-call = c .before .before .before .before .before .before .before .before .before .before .before .before .before .before .record-at in
-    ByKind.right-one (start .pre .0) (start .args .i) (recordOf (record-at-call .result)) (record-at-call .ensures) _ (start .pre .1 .1 .0) ((ap (λ (r : NodeRecord). r .kind) (record-at-call .ensures)) ∙ (start .pre .1 .1 .1)) (λ z. c .before .before .before .before .before .before .before .if1 .left (c .before .before .before .before .before .before .before .before .peek .ensures ∙ z)) _ (c .before .before .before .before .before .before .hidden-at2 .ensures) (c .before .before .before .before .before .if3 .left) _ (rw (c .before .before .before .before .before .before .before .before .before .before .before .before .left-of .ensures, c .before .before .before .before .before .before .before .before .before .before .before .before .before .source-at .ensures) at (ap (λ (p : Padding). p .right) (c .before .before .before .before .before .before .before .before .before .before .before .padding-at .ensures))) _ (c .before .before .forward2 .ensures _)
+    ByKind.right-one (start .pre .0) (start .args .i) (recordOf (record-at-call .result)) (record-at-call .ensures) _ (start .pre .1 .1 .0)
+    ((ap (λ (r : NodeRecord). r .kind) (record-at-call .ensures)) ∙ (start .pre .1 .1 .1))
+    (λ z. c .before .before .before .before .before .before .before .if1 .left (peek-call .ensures ∙ z)) _
+    (c .before .before .before .before .before .before .hidden-at2 .ensures) (c .before .before .before .before .before .if3 .left) _
+    (rw (left-of-call .ensures, source-at-call .ensures) at (ap (λ (p : Padding). p .right) (padding-at-call .ensures))) _
+    (c .before .before .forward2 .ensures _)
 
 pub branch-spec : {M : Type 1} → statement M
 branch-spec =

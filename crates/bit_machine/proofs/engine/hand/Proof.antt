@@ -42,22 +42,37 @@ write-hash-requires c κs =
 
 copy-requires : tie.Need-copy-requires
 copy-requires c κs =
-    let start = c .before .before .before .before .before .before .before .before .before .before .before .before .before .before .before .before .before .before in
+    let start =
+    c .before .before .before .before .before .before .before .before .before .before .before .before .before .before .before .before .before .before in
     let new-write-frame-call = c .before .before .before .before .before .before .before .before .before .before .before .new-write-frame in
     let write-hash-call = c .before .before .before .before .before .before .write-hash in (
       fed-kept (start .pre .0) (write-hash-call .kept .1 .1 .1 .1 .0) (write-hash-call .kept .1 .1 .1 .1 .1 .0 ∙ new-write-frame-call .kept .0),
-      λ pos. copy-as (write-hash-call .ensures ∙ ap (bitsWritten _) (hash-pushed _ _ (new-write-frame-call .ensures _))) (bits-kept _ _ (write-hash-call .kept .1 .1 .1 .1 .0)) ((start .pre .1) .copy pos),
+      λ pos. copy-as (write-hash-call .ensures ∙ ap (bitsWritten _) (hash-pushed _ _ (new-write-frame-call .ensures _)))
+          (bits-kept _ _ (write-hash-call .kept .1 .1 .1 .1 .0)) ((start .pre .1) .copy pos),
     )
 
 move-to-read-requires : tie.Need-move-to-read-requires
 move-to-read-requires c κs =
-    let start = c .before .before .before .before .before .before .before .before .before .before .before .before .before .before .before .before .before .before .before .before .before .before .before .before in
-    move-need (c .before .before .before .before .before .copy .ensures ∙ ap (copied (start .args .source)) (c .before .before .before .before .before .before .before .before .before .before .before .before .write-hash .ensures ∙ ap (bitsWritten _) (hash-pushed _ _ (c .before .before .before .before .before .before .before .before .before .before .before .before .before .before .before .before .before .new-write-frame .ensures _)))) ((start .pre .1) .move)
+    let new-write-frame-call = c .before .before .before .before .before .before .before .before .before .before .before .before .before
+    .before .before .before .before .new-write-frame in
+    let write-hash-call = c .before .before .before .before .before .before .before .before .before .before .before .before .write-hash in
+    let start = c .before .before .before .before .before .before .before .before .before .before .before .before .before .before .before
+    .before .before .before .before .before .before .before .before .before in
+    move-need (c .before .before .before .before .before .copy .ensures ∙ ap (copied (start .args .source))
+    (write-hash-call .ensures ∙ ap (bitsWritten _) (hash-pushed _ _ (new-write-frame-call .ensures _)))) ((start .pre .1) .move)
 
 new-write-frame-requires-2 : tie.Need-new-write-frame-requires-2
 new-write-frame-requires-2 c κs =
-    let start = c .before .before .before .before .before .before .before .before .before .before .before .before .before .before .before .before .before .before .before .before .before .before .before .before .before .before .before .before in
-    push-need (c .before .before .before .move-to-read .ensures _ ∙ ap moved (c .before .before .before .before .before .before .before .before .before .copy .ensures ∙ ap (copied (start .args .source)) (c .before .before .before .before .before .before .before .before .before .before .before .before .before .before .before .before .write-hash .ensures ∙ ap (bitsWritten _) (hash-pushed _ _ (c .before .before .before .before .before .before .before .before .before .before .before .before .before .before .before .before .before .before .before .before .before .new-write-frame .ensures _))))) (fed-bits (start .pre .0)) ((start .pre .1) .last)
+    let new-write-frame-call = c .before .before .before .before .before .before .before .before .before .before .before .before .before
+    .before .before .before .before .before .before .before .before .new-write-frame in
+    let write-hash-call =
+    c .before .before .before .before .before .before .before .before .before .before .before .before .before .before .before .before .write-hash in
+    let copy-call = c .before .before .before .before .before .before .before .before .before .copy in
+    let start = c .before .before .before .before .before .before .before .before .before .before .before .before .before .before .before
+    .before .before .before .before .before .before .before .before .before .before .before .before .before in
+    push-need (c .before .before .before .move-to-read .ensures _ ∙ ap moved (copy-call .ensures ∙ ap (copied (start .args .source))
+    (write-hash-call .ensures ∙ ap (bitsWritten _) (hash-pushed _ _ (new-write-frame-call .ensures _))))) (fed-bits (start .pre .0))
+    ((start .pre .1) .last)
 
 same-length : tie.Need-same-length
 same-length c = search needs
@@ -67,8 +82,17 @@ same-length-2 c = search needs
 
 returns : tie.Need-returns
 returns c =
-    let start = c .before .before .before .before .before .before .before .before .before .before .before .before .before .before .before .before .before .before .before .before .before .before .before .before .before .before .before .before .before .before .before in
-    c .before .before .new-write-frame2 .ensures _ ∙ ap (pushed (start .args .target)) (c .before .before .before .before .before .before .move-to-read .ensures _ ∙ ap moved (c .before .before .before .before .before .before .before .before .before .before .before .before .copy .ensures ∙ ap (copied (start .args .source)) (c .before .before .before .before .before .before .before .before .before .before .before .before .before .before .before .before .before .before .before .write-hash .ensures ∙ ap (bitsWritten _) (hash-pushed _ _ (c .before .before .before .before .before .before .before .before .before .before .before .before .before .before .before .before .before .before .before .before .before .before .before .before .new-write-frame .ensures _)))))
+    let new-write-frame-call = c .before .before .before .before .before .before .before .before .before .before .before .before .before
+    .before .before .before .before .before .before .before .before .before .before .before .new-write-frame in
+    let write-hash-call = c .before .before .before .before .before .before .before .before .before .before .before .before .before .before
+    .before .before .before .before .before .write-hash in
+    let copy-call = c .before .before .before .before .before .before .before .before .before .before .before .before .copy in
+    let start = c .before .before .before .before .before .before .before .before .before .before .before .before .before .before .before
+    .before .before .before .before .before .before .before .before .before .before .before .before .before .before .before .before in
+    c .before .before .new-write-frame2 .ensures _
+    ∙ ap (pushed (start .args .target))
+    (c .before .before .before .before .before .before .move-to-read .ensures _ ∙ ap moved (copy-call .ensures ∙ ap
+    (copied (start .args .source)) (write-hash-call .ensures ∙ ap (bitsWritten _) (hash-pushed _ _ (new-write-frame-call .ensures _)))))
 
 pub hand-spec : {M : Type 1} → statement M
 hand-spec =

@@ -26,22 +26,26 @@ enum-known-around : tie.Need-enum-known-around
 enum-known-around c = search needs
 
 move-to-read-requires-2 : tie.Need-move-to-read-requires-2
-move-to-read-requires-2 c κs = move-over [] ((second-needs [] _ (c .before .before .around .given .1) (c .before .before .before .before .before .before .pre .1)) .move)
+move-to-read-requires-2 c κs =
+    move-over [] ((second-needs [] _ (c .before .before .around .given .1) (c .before .before .before .before .before .before .pre .1)) .move)
 
 copy-requires : tie.Need-copy-requires
 copy-requires c κs =
     let start = c .before .before .before .before .before .before .before .before .before .before .before in
     let move-to-read2-call = c .before .before .before .before .move-to-read2 in (
       fed-kept (start .pre .0) refl (move-to-read2-call .kept .0),
-      λ pos. copy-as (move-to-read2-call .ensures _) refl ((second-needs [] _ (c .before .before .before .before .before .before .before .around .given .1) (start .pre .1)) .copy pos),
+      λ pos. copy-as (move-to-read2-call .ensures _) refl
+          ((second-needs [] _ (c .before .before .before .before .before .before .before .around .given .1) (start .pre .1)) .copy pos),
     )
 
 forward-requires : tie.Need-forward-requires
 forward-requires c κs =
+    let move-to-read2-call = c .before .before .before .before .before .before .before .before .before .before .move-to-read2 in
     let start = c .before .before .before .before .before .before .before .before .before .before .before .before .before .before .before .before .before in
     let around-there = c .before .before .before .before .before .before .before .before .before .before .before .before .before .around in
     λ pos.
-    read-need (c .before .before .before .before .before .copy .ensures ∙ ap (copied (around-there .given .0 .1 .0)) (c .before .before .before .before .before .before .before .before .before .before .move-to-read2 .ensures _)) (fed-bits (start .pre .0)) ((second-needs [] _ (around-there .given .1) (start .pre .1)) .pass pos)
+    read-need (c .before .before .before .before .before .copy .ensures ∙ ap (copied (around-there .given .0 .1 .0)) (move-to-read2-call .ensures _))
+    (fed-bits (start .pre .0)) ((second-needs [] _ (around-there .given .1) (start .pre .1)) .pass pos)
 
 returns : tie.Need-returns
 returns c = λ hash. sym (second-pair hash _ (c .enum-told .given .1))
@@ -60,9 +64,15 @@ same-length-3 c = search needs
 
 returns-3 : tie.Need-returns-3
 returns-3 c =
-    let around-there = c .before .before .before .before .before .before .before .before .before .before .before .before .before .before .before .before .around in
+    let move-to-read2-call = c .before .before .before .before .before .before .before .before .before .before .before .before .before .move-to-read2 in
+    let copy-call = c .before .before .before .before .before .before .before .before .copy in
+    let around-there =
+    c .before .before .before .before .before .before .before .before .before .before .before .before .before .before .before .before .around in
     λ hash.
-    c .before .before .forward .ensures _ ∙ ap (forwarded (around-there .given .0 .1 .0)) (c .before .before .before .before .before .before .before .before .copy .ensures ∙ ap (copied (around-there .given .0 .1 .0)) (c .before .before .before .before .before .before .before .before .before .before .before .before .before .move-to-read2 .ensures _)) ∙ sym (second-disconnect hash _ (around-there .given .1))
+    c .before .before .forward .ensures _
+    ∙ ap (forwarded (around-there .given .0 .1 .0))
+    (copy-call .ensures ∙ ap (copied (around-there .given .0 .1 .0)) (move-to-read2-call .ensures _))
+    ∙ sym (second-disconnect hash _ (around-there .given .1))
 
 pub second-spec : {M : Type 1} → statement M
 second-spec =

@@ -35,13 +35,23 @@ write-value-requires c κs =
         within-kept (start .pre .1 .0) refl (new-write-frame-call .kept .0),
         (
           start .pre .1 .1 .0,
-          open-write _ _ (c .before .before .before .before .before .before .before .width-at .ensures) (c .before .before .before .before .before .before .if1 .left) (start .pre .1 .1 .1) (value-long (start .pre .0) (start .args .k) _ 0 (start .pre .1 .1 .0) _ refl) _ (new-write-frame-call .ensures _),
+          open-write _ _ (c .before .before .before .before .before .before .before .width-at .ensures)
+              (c .before .before .before .before .before .before .if1 .left) (start .pre .1 .1 .1)
+              (value-long (start .pre .0) (start .args .k) _ 0 (start .pre .1 .1 .0) _ refl) _ (new-write-frame-call .ensures _),
         ),
       ),
     )
 
 move-to-read-requires : tie.Need-move-to-read-requires
-move-to-read-requires c κs = move-over [] (open-move _ _ (c .before .before .before .before .before .before .before .before .before .before .before .before .before .width-at .ensures) (c .before .before .before .before .before .before .before .before .before .before .before .before .if1 .left) (c .before .before .before .before .before .before .before .before .before .before .before .before .before .before .before .before .before .before .before .before .pre .1 .1 .1) _ _ (c .before .before .before .before .before .before .before .before .before .before .new-write-frame .ensures _) (c .before .before .before .before .before .write-value .ensures))
+move-to-read-requires c κs =
+    let start = c .before .before .before .before .before .before .before .before .before .before .before .before .before .before .before
+    .before .before .before .before .before in
+    let width-at-call = c .before .before .before .before .before .before .before .before .before .before .before .before .before .width-at in
+    let if1-found = c .before .before .before .before .before .before .before .before .before .before .before .before .if1 in
+    let new-write-frame-call = c .before .before .before .before .before .before .before .before .before .before .new-write-frame in
+    move-over []
+    (open-move _ _ (width-at-call .ensures) (if1-found .left) (start .pre .1 .1 .1) _ _ (new-write-frame-call .ensures _)
+    (c .before .before .before .before .before .write-value .ensures))
 
 same-length : tie.Need-same-length
 same-length c = search needs
@@ -50,7 +60,14 @@ same-length-2 : tie.Need-same-length-2
 same-length-2 c = search needs
 
 returns-2 : tie.Need-returns-2
-returns-2 c = opened-is _ _ (c .before .before .before .before .before .before .before .before .before .before .before .before .before .before .before .before .width-at .ensures) (c .before .before .before .before .before .before .before .before .before .before .before .before .before .before .before .if1 .left) _ _ _ (c .before .before .before .before .before .before .before .before .before .before .before .before .before .new-write-frame .ensures _) (c .before .before .before .before .before .before .before .before .write-value .ensures) (c .before .before .move-to-read .ensures _)
+returns-2 c =
+    let width-at-call =
+    c .before .before .before .before .before .before .before .before .before .before .before .before .before .before .before .before .width-at in
+    let if1-found = c .before .before .before .before .before .before .before .before .before .before .before .before .before .before .before .if1 in
+    let new-write-frame-call = c .before .before .before .before .before .before .before .before .before .before .before .before .before .new-write-frame in
+    let write-value-call = c .before .before .before .before .before .before .before .before .write-value in
+    opened-is _ _ (width-at-call .ensures) (if1-found .left) _ _ _ (new-write-frame-call .ensures _) (write-value-call .ensures)
+    (c .before .before .move-to-read .ensures _)
 
 pub open-input-spec : {M : Type 1} → statement M
 open-input-spec =

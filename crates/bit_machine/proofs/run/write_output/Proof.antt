@@ -28,7 +28,8 @@ returns : tie.Need-returns
 returns c =
     let start = c .before .before .before .before .before .before .before .before .before .before .before in
     let unpad-call = c .before .before .before .before .unpad in
-    output-not-short (start .pre .0) (start .args .k) (start .args .cells .now) (start .args .at) (start .args .answer .now) (start .pre .1 .0 .0) (start .pre .1 .0 .1) (start .pre .1 .1) (unpad-call .result) _ (unpad-call .ensures) (c .enum-told .given .1)
+    output-not-short (start .pre .0) (start .args .k) (start .args .cells .now) (start .args .at) (start .args .answer .now)
+    (start .pre .1 .0 .0) (start .pre .1 .0 .1) (start .pre .1 .1) (unpad-call .result) _ (unpad-call .ensures) (c .enum-told .given .1)
 
 bytes-for-requires : tie.Need-bytes-for-requires
 bytes-for-requires c κs = search needs
@@ -40,8 +41,11 @@ mul-filled : tie.Need-mul-filled
 mul-filled c =
     let start = c .before .before .before .before .before .before .before .before .before .before .before .before .before in
     let unpad-call = c .before .before .before .before .before .before .unpad in
-    let n = output-count (start .pre .0) (start .args .k) (start .args .cells .now) (start .args .at) (start .args .answer .now) (start .pre .1 .0 .0) (start .pre .1 .0 .1) (start .pre .1 .1) (unpad-call .result) _ (unpad-call .ensures) _ (c .before .before .n .given .1) in
-    let few = output-short (start .pre .0) (start .args .k) (start .args .cells .now) (start .args .at) (start .args .answer .now) (start .pre .1 .0 .0) (start .pre .1 .0 .1) (start .pre .1 .1) in
+    let n = output-count (start .pre .0) (start .args .k) (start .args .cells .now) (start .args .at) (start .args .answer .now)
+    (start .pre .1 .0 .0) (start .pre .1 .0 .1) (start .pre .1 .1) (unpad-call .result) _ (unpad-call .ensures) _
+    (c .before .before .n .given .1) in
+    let few = output-short (start .pre .0) (start .args .k) (start .args .cells .now) (start .args .at) (start .args .answer .now)
+    (start .pre .1 .0 .0) (start .pre .1 .0 .1) (start .pre .1 .1) in
     omega (arith, c .bytes-for .ensures, start .pre .1 .0 .1)
 
 sub-zero-cells : tie.Need-sub-zero-cells
@@ -55,11 +59,17 @@ same-length-2 c = search needs
 
 returns-2 : tie.Need-returns-2
 returns-2 c =
+    let slice-known-found = c .before .before .before .before .before .before .before .before .before .before .before .before .slice-known in
     let start = c .before .before .before .before .before .before .before .before .before .before .before .before .before .before .before .before .before in
     let unpad-call = c .before .before .before .before .before .before .before .before .before .before .unpad in
     let n-there = c .before .before .before .before .before .before .n in (
-      output-count (start .pre .0) (start .args .k) (start .args .cells .now) (start .args .at) (start .args .answer .now) (start .pre .1 .0 .0) (start .pre .1 .0 .1) (start .pre .1 .1) (unpad-call .result) _ (unpad-call .ensures) _ (n-there .given .1),
-      output-written (start .pre .0) (start .args .k) (start .args .cells .now) (start .args .at) (start .args .answer .now) (start .pre .1 .0 .0) (start .pre .1 .0 .1) (start .pre .1 .1) (unpad-call .result) _ (unpad-call .ensures) _ (n-there .given .1) _ _ (ap (λ (b : ℕ). b * 8 - n-there .given .0 .0) (c .before .before .before .before .bytes-for .ensures .0)) (c .before .before .zero-cells .ensures) (λ j. omega (arith, c .before .before .before .before .before .before .before .before .before .before .before .before .slice-known .given j)) (λ j. omega (arith, c .slice-known3 .given j)) (c .before .before .zero-cells .kept .0 ∙ unpad-call .kept .1 .1 .1 .1 .1 .1 .0),
+      output-count (start .pre .0) (start .args .k) (start .args .cells .now) (start .args .at) (start .args .answer .now)
+          (start .pre .1 .0 .0) (start .pre .1 .0 .1) (start .pre .1 .1) (unpad-call .result) _ (unpad-call .ensures) _ (n-there .given .1),
+      output-written (start .pre .0) (start .args .k) (start .args .cells .now) (start .args .at) (start .args .answer .now)
+          (start .pre .1 .0 .0) (start .pre .1 .0 .1) (start .pre .1 .1) (unpad-call .result) _ (unpad-call .ensures) _
+          (n-there .given .1) _ _ (ap (λ (b : ℕ). b * 8 - n-there .given .0 .0) (c .before .before .before .before .bytes-for .ensures .0))
+          (c .before .before .zero-cells .ensures) (λ j. omega (arith, slice-known-found .given j))
+          (λ j. omega (arith, c .slice-known3 .given j)) (c .before .before .zero-cells .kept .0 ∙ unpad-call .kept .1 .1 .1 .1 .1 .1 .0),
     )
 
 pub write-output-spec : {M : Type 1} → statement M
