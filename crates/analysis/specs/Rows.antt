@@ -34,7 +34,8 @@ module _ (types : List TypeRecord) (widths : List ℕ) (records : List NodeRecor
   rowOf i kCase a b left right = caseBound (hiddenAt (nodesOf [] [] records) a) (hiddenAt (nodesOf [] [] records) b) left right
   rowOf i kPair a b left right = pairRow left right
   rowOf i kDisconnect a b left right =
-      disconnectRow (width (wordTy 8) + sourceWidth widths arrows i) (keptWidth types widths arrows i + sourceWidth widths arrows b) (keptWidth types widths arrows i) left right
+      disconnectRow (width (wordTy 8) + sourceWidth widths arrows i) (keptWidth types widths arrows i + sourceWidth widths arrows b)
+      (keptWidth types widths arrows i) left right
   rowOf i kInjl a b left right = childRow left
   rowOf i kInjr a b left right = childRow left
   rowOf i kTake a b left right = childRow left

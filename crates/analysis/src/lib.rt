@@ -232,7 +232,8 @@ fn two_row(
     right: Bound,
 ) -> Bound
     requires { ⌜ r .kind < 4 ⌝ }
-    ensures { λ b. ⌜ b ≡ held (rowOf (typeRecords (now (types .entry))) (now (widths .entry)) (nodeRecords (now (nodes .entry))) (arrowRecords (now (arrows .entry))) i (kindOf (r .kind)) (r .first) (r .second) (plain left) (plain right)) ⌝ }
+    ensures { λ b. ⌜ b ≡ held (rowOf (typeRecords (now (types .entry))) (now (widths .entry)) (nodeRecords (now (nodes .entry)))
+        (arrowRecords (now (arrows .entry))) i (kindOf (r .kind)) (r .first) (r .second) (plain left) (plain right)) ⌝ }
 {
     let kind = r.kind;
     match kind {
@@ -257,7 +258,8 @@ fn two_row(
 // The nodes with none, and what is never run.
 fn leaf_row(widths: &[u32], arrows: &[u8], kind: u32, i: u32) -> Bound
     requires { ⌜ 7 < kind ⌝ }
-    ensures { λ r. ⌜ ((ts : List TypeRecord) (rs : List ScopeRecord) (a b : ℕ) (x y : ScopeBound) → r ≡ held (rowOf ts (now (widths .entry)) rs (arrowRecords (now (arrows .entry))) i (kindOf kind) a b x y)) ⌝ }
+    ensures { λ r. ⌜ ((ts : List TypeRecord) (rs : List ScopeRecord) (a b : ℕ) (x y : ScopeBound)
+        → r ≡ held (rowOf ts (now (widths .entry)) rs (arrowRecords (now (arrows .entry))) i (kindOf kind) a b x y)) ⌝ }
 {
     match kind {
         table::IDEN => copy_row(lookup::source_width(arrows, widths, i)),
@@ -279,7 +281,8 @@ fn row(
     left: Bound,
     right: Bound,
 ) -> Bound
-    ensures { λ b. ⌜ b ≡ held (rowOf (typeRecords (now (types .entry))) (now (widths .entry)) (nodeRecords (now (nodes .entry))) (arrowRecords (now (arrows .entry))) i (kindOf (r .kind)) (r .first) (r .second) (plain left) (plain right)) ⌝ }
+    ensures { λ b. ⌜ b ≡ held (rowOf (typeRecords (now (types .entry))) (now (widths .entry)) (nodeRecords (now (nodes .entry)))
+        (arrowRecords (now (arrows .entry))) i (kindOf (r .kind)) (r .first) (r .second) (plain left) (plain right)) ⌝ }
 {
     if r.kind <= table::DISCONNECT {
         return two_row(types, widths, nodes, arrows, r, i, left, right);
@@ -320,7 +323,8 @@ pub fn node_rows(
     nodes: &[u32],
     arrows: &[u8],
 ) -> [Bound; limits::NODE_COUNT]
-    ensures { λ r. ⌜ r ≡ tabulate nodeCount (λ i. held (boundAt (typeRecords (now (types .entry))) (now (widths .entry)) (nodeRecords (now (nodes .entry))) (arrowRecords (now (arrows .entry))) i)) ⌝ }
+    ensures { λ r. ⌜ r ≡ tabulate nodeCount (λ i. held (boundAt (typeRecords (now (types .entry))) (now (widths .entry))
+        (nodeRecords (now (nodes .entry))) (arrowRecords (now (arrows .entry))) i)) ⌝ }
 {
     let none = fail_row();
     let mut rows = [none; limits::NODE_COUNT];

@@ -21,7 +21,8 @@ use Rattle.table.proofs.Hashes.{hidden-alike}
 module _ (types : List TypeRecord) (arrows : List Arrow) (nodes nodes′ : List Node) (same : (j : ℕ) → hiddenAt nodes j ≡ hiddenAt nodes′ j) where
   branch-alike : (j part rest to : ℕ) → branchRule types nodes arrows j part rest to ≡ branchRule types nodes′ arrows j part rest to
   unfolding branchRule
-  branch-alike j part rest to = ap (λ h. elim h [ true ↦ true | false ↦ every (isProduct types (source arrows j) part rest ∷ eqb (target arrows j) to ∷ []) ]) (same j)
+  branch-alike j part rest to =
+      ap (λ h. elim h [ true ↦ true | false ↦ every (isProduct types (source arrows j) part rest ∷ eqb (target arrows j) to ∷ []) ]) (same j)
 
   -- node by node, kind by kind
   kind-alike : (bits hashes : List ℕ) (from to : ℕ) (kind : Kind) (a b : ℕ)
@@ -77,7 +78,8 @@ module _ (bits hashes : List ℕ) (rs : List NodeRecord) where
         let e : kindRule types (nodesOf bits hashes rs) arrows (source arrows i) (target arrows i) (nodeAt (nodesOf bits hashes rs) i)
         ≡ kindRule types (nodesOf [] [] rs) arrows (source arrows i) (target arrows i) (nodeAt (nodesOf [] [] rs) i) =
         ap (kindRule types (nodesOf bits hashes rs) arrows (source arrows i) (target arrows i)) (node-at bits hashes rs i)
-        ∙ kind-alike types arrows (nodesOf bits hashes rs) (nodesOf [] [] rs) (hidden-alike bits hashes rs) bits hashes (source arrows i) (target arrows i) (kindOf (r .kind)) (r .first) (r .second)
+        ∙ kind-alike types arrows (nodesOf bits hashes rs) (nodesOf [] [] rs) (hidden-alike bits hashes rs) bits hashes (source arrows i)
+        (target arrows i) (kindOf (r .kind)) (r .first) (r .second)
         ∙ ap (kindRule types (nodesOf [] [] rs) arrows (source arrows i) (target arrows i)) (sym (node-at [] [] rs i)) in
         rw e
 

@@ -27,7 +27,8 @@ length-arrows bytes = length-tabulate (arrowRecord bytes) (length bytes / arrowB
 module _ (types : List TypeRecord) (nodes : List Node) (arrows : List Arrow) where
   -- a branch, by whether it is hidden
   pub branch-by : (j part rest to : ℕ) (b : Bool) → hiddenAt nodes j ≡ b
-      → elim b [ true ↦ true | false ↦ every (isProduct types (source arrows j) part rest ∷ eqb (target arrows j) to ∷ []) ] ≡ branchRule types nodes arrows j part rest to
+      → elim b [ true ↦ true | false ↦ every (isProduct types (source arrows j) part rest ∷ eqb (target arrows j) to ∷ []) ]
+      ≡ branchRule types nodes arrows j part rest to
   unfolding branchRule
   branch-by j part rest to b e =
       ap (λ h. elim h [ true ↦ true | false ↦ every (isProduct types (source arrows j) part rest ∷ eqb (target arrows j) to ∷ []) ]) (sym e)
@@ -102,4 +103,5 @@ module _ (types : List TypeRecord) (nodes : List ℕ) (arrows : List Arrow) (i :
   unfolding arrowRule source target
   arrow-is own count fits p q e =
       ap (λ f. every (ltb (own .source) count ∷ ltb (own .target) count ∷ f ∷ [])) e
-      ∙ (λ k. every (ltb ((p k) .source) (q k) ∷ ltb ((p k) .target) (q k) ∷ kindRule types (lentNodes [] nodes) arrows ((p k) .source) ((p k) .target) (node-is k) ∷ []))
+      ∙ (λ k. every (ltb ((p k) .source) (q k) ∷ ltb ((p k) .target) (q k)
+      ∷ kindRule types (lentNodes [] nodes) arrows ((p k) .source) ((p k) .target) (node-is k) ∷ []))

@@ -94,7 +94,8 @@ fn branch_fits(
     rest: usize,
     to: usize,
 ) -> bool
-    ensures { λ r. ⌜ r ≡ branchRule (typeRecords (now (types .entry))) (lentNodes [] (now (nodes .entry))) (arrowRecords (now (arrows .entry))) j part rest to ⌝ }
+    ensures { λ r. ⌜ r ≡ branchRule (typeRecords (now (types .entry))) (lentNodes [] (now (nodes .entry)))
+        (arrowRecords (now (arrows .entry))) j part rest to ⌝ }
 {
     if table::hidden_at(nodes, j) {
         return true;
@@ -116,7 +117,8 @@ fn case_fits(
     from: usize,
     to: usize,
 ) -> bool
-    ensures { λ r. ⌜ r ≡ kindRule (typeRecords (now (types .entry))) (lentNodes [] (now (nodes .entry))) (arrowRecords (now (arrows .entry))) from to (case s t) ⌝ }
+    ensures { λ r. ⌜ r ≡ kindRule (typeRecords (now (types .entry))) (lentNodes [] (now (nodes .entry)))
+        (arrowRecords (now (arrows .entry))) from to (case s t) ⌝ }
 {
     let sum = types::left_of(types, from);
     let rest = types::right_of(types, from);
@@ -232,7 +234,8 @@ fn two_fits(
     to: usize,
 ) -> bool
     requires { ⌜ r .kind < 4 ⌝ }
-    ensures { λ ok. ⌜ ok ≡ kindRule (typeRecords (now (types .entry))) (lentNodes [] (now (nodes .entry))) (arrowRecords (now (arrows .entry))) from to (nodeIs [] (recordOf r)) ⌝ }
+    ensures { λ ok. ⌜ ok ≡ kindRule (typeRecords (now (types .entry))) (lentNodes [] (now (nodes .entry)))
+        (arrowRecords (now (arrows .entry))) from to (nodeIs [] (recordOf r)) ⌝ }
 {
     let kind = r.kind;
     match kind {
@@ -246,7 +249,8 @@ fn two_fits(
 // The nodes with one child, but for disconnect.
 fn one_fits(types: &[u8], arrows: &[u8], r: NodeRecord, from: usize, to: usize) -> bool
     requires { ⌜ (3 < r .kind) × (r .kind < 8) ⌝ }
-    ensures { λ ok. ⌜ ((ns : List Node) → ok ≡ kindRule (typeRecords (now (types .entry))) ns (arrowRecords (now (arrows .entry))) from to (nodeIs [] (recordOf r))) ⌝ }
+    ensures { λ ok. ⌜ ((ns : List Node)
+        → ok ≡ kindRule (typeRecords (now (types .entry))) ns (arrowRecords (now (arrows .entry))) from to (nodeIs [] (recordOf r))) ⌝ }
 {
     let kind = r.kind;
     match kind {
@@ -282,7 +286,8 @@ fn kind_fits(
     from: usize,
     to: usize,
 ) -> bool
-    ensures { λ ok. ⌜ ok ≡ kindRule (typeRecords (now (types .entry))) (lentNodes [] (now (nodes .entry))) (arrowRecords (now (arrows .entry))) from to (nodeIs [] (recordOf r)) ⌝ }
+    ensures { λ ok. ⌜ ok ≡ kindRule (typeRecords (now (types .entry))) (lentNodes [] (now (nodes .entry)))
+        (arrowRecords (now (arrows .entry))) from to (nodeIs [] (recordOf r)) ⌝ }
 {
     if r.kind <= table::DISCONNECT {
         return two_fits(types, nodes, arrows, r, from, to);

@@ -27,4 +27,5 @@ some-written bits p n m fits some =
     let size : length (drop p bits) ≡ length bits - p = length-drop p bits in
     let long : length (take n (drop p bits)) ≡ n = length-take-le n (drop p bits) (omega arith) in
     bitsWritten-some (take n (drop p bits)) m (λ e. some (sym long ∙ e))
-    ∙ ap (λ (k : ℕ). mach (sets (m .bits) (activeWrite m .cursor) (take n (drop p bits))) (writeMoved (forward k) m) (m .writeFrames) (m .readFrames) (m .next)) long
+    ∙ ap (λ (k : ℕ). mach (sets (m .bits) (activeWrite m .cursor) (take n (drop p bits))) (writeMoved (forward k) m) (m .writeFrames)
+    (m .readFrames) (m .next)) long

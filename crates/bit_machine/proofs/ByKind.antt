@@ -75,7 +75,8 @@ module _ {types widths next nodes arrows program hashes given witnesses position
     unfolding programAt programOf tablesLent
     witness-reads = rw (ek, ep) (shown .witnessHeld i is-witness)
 
-    value-is : padded (tyAt (typeRecords types) k) (valueFrom (tyAt (typeRecords types) k) (drop p (streamOf witnesses))) ≡ padded (targetTy P i) (getD (P .witnesses) i ⟨⟩)
+    value-is : padded (tyAt (typeRecords types) k) (valueFrom (tyAt (typeRecords types) k) (drop p (streamOf witnesses)))
+        ≡ padded (targetTy P i) (getD (P .witnesses) i ⟨⟩)
     unfolding programAt programOf tablesLent targetTy
     value-is = rw (ek, ep) (ap (padded (targetTy P i)) (sym (Lent.witness-is shown i is-witness)))
 
@@ -83,7 +84,8 @@ module _ {types widths next nodes arrows program hashes given witnesses position
     witness-need = subst (λ (n : ℕ). 0 < n → WriteOk (length (m .bits)) n m) (sym (Lent.value-wide shown i k (drop p (streamOf witnesses)) witness-reads))
         (Nodes.need-witness P (Lent.children-below shown i) i m _ is-witness value-is safe)
 
-    pub witness-run : (m′ : Mach) → m′ ≡ bitsWritten (padded (tyAt (typeRecords types) k) (valueFrom (tyAt (typeRecords types) k) (drop p (streamOf witnesses)))) m
+    pub witness-run : (m′ : Mach)
+        → m′ ≡ bitsWritten (padded (tyAt (typeRecords types) k) (valueFrom (tyAt (typeRecords types) k) (drop p (streamOf witnesses)))) m
         → runTerm (termAt P i) m ≡ done m′
     witness-run = Nodes.run-witness P (Lent.children-below shown i) i m _ is-witness value-is
 
@@ -102,7 +104,8 @@ module _ {types widths next nodes arrows program hashes given witnesses position
     pub word-need : 0 < n → WriteOk (length (m .bits)) n m
     word-need =
         let size : length (drop (r .second) (bitsOf program)) ≡ length (bitsOf program) - r .second = length-drop (r .second) (bitsOf program) in
-        let long : length (take n (drop (r .second) (bitsOf program))) ≡ n = length-take-le n (drop (r .second) (bitsOf program)) (omega (arith, word-inside)) in
+        let long : length (take n (drop (r .second) (bitsOf program))) ≡ n =
+        length-take-le n (drop (r .second) (bitsOf program)) (omega (arith, word-inside)) in
         subst (λ (k : ℕ). 0 < k → WriteOk (length (m .bits)) k m) long
         (Nodes.need-word P (Lent.children-below shown i) i m (take n (drop (r .second) (bitsOf program))) (r .first) _ is-word bits-are safe)
 
@@ -126,11 +129,14 @@ module _ {types widths next nodes arrows program hashes given witnesses position
   fail-by (suc (suc (suc (suc (suc (suc (suc (suc zero)))))))) e h = absurd (h .2 refl)
   fail-by (suc (suc (suc (suc (suc (suc (suc (suc (suc zero))))))))) e h = absurd (h .1 refl)
   fail-by (suc (suc (suc (suc (suc (suc (suc (suc (suc (suc zero)))))))))) e h = Nodes.run-fail P (Lent.children-below shown i) i m _ e
-  fail-by (suc (suc (suc (suc (suc (suc (suc (suc (suc (suc (suc zero))))))))))) e h = absurd (Nodes.never-one-child P (Lent.children-below shown i) i m _ e safe)
+  fail-by (suc (suc (suc (suc (suc (suc (suc (suc (suc (suc (suc zero))))))))))) e h =
+      absurd (Nodes.never-one-child P (Lent.children-below shown i) i m _ e safe)
   fail-by (suc (suc (suc (suc (suc (suc (suc (suc (suc (suc (suc (suc zero)))))))))))) e h = absurd (h .3 refl)
-  fail-by (suc (suc (suc (suc (suc (suc (suc (suc (suc (suc (suc (suc (suc zero))))))))))))) e h = absurd (Nodes.never-hidden P (Lent.children-below shown i) i m _ e safe)
+  fail-by (suc (suc (suc (suc (suc (suc (suc (suc (suc (suc (suc (suc (suc zero))))))))))))) e h =
+      absurd (Nodes.never-hidden P (Lent.children-below shown i) i m _ e safe)
   fail-by (suc (suc (suc (suc (suc (suc (suc (suc (suc (suc (suc (suc (suc (suc zero)))))))))))))) e h = absurd (h .4 refl)
-  fail-by (suc (suc (suc (suc (suc (suc (suc (suc (suc (suc (suc (suc (suc (suc (suc k))))))))))))))) e h = Nodes.run-fail P (Lent.children-below shown i) i m _ e
+  fail-by (suc (suc (suc (suc (suc (suc (suc (suc (suc (suc (suc (suc (suc (suc (suc k))))))))))))))) e h =
+      Nodes.run-fail P (Lent.children-below shown i) i m _ e
 
   pub fail-run : Left (r .kind) → runTerm (termAt P i) m ≡ failed i m
   fail-run h = fail-by (r .kind) (by-kind (r .kind) refl) h
@@ -249,7 +255,9 @@ module _ {types widths next nodes arrows program hashes given witnesses position
       (Nodes.two-disconnect P (Lent.children-below shown i) i m (r .first) (r .second) safe (by-kind 3 e))
 
   pub two-is : TwoKind nodes i → (w : Around) → w ≡ aroundIn types widths nodes arrows i → Two w
-  two-is h w ew = subst (λ (w : Around). Two w) (sym ew) (subst (λ (r : NodeRecord). Two (aroundBy types widths arrows i r)) at (decide (ℕ-discrete (r .kind) 2) (ℕ-discrete (r .kind) 0)))
+  two-is h w ew =
+      subst (λ (w : Around). Two w) (sym ew)
+      (subst (λ (r : NodeRecord). Two (aroundBy types widths arrows i r)) at (decide (ℕ-discrete (r .kind) 2) (ℕ-discrete (r .kind) 0)))
     where
       third-kind : (r .kind ≡ 2 → ⊥) → (r .kind ≡ 0 → ⊥) → r .kind ≡ 3
       third-kind n l =

@@ -75,7 +75,8 @@ module _ {P : Program} {below : (i : ℕ) → AllBelow i (children (nodeAt (P .n
         → (why : Reason) (h : Heights) → r ≡ Stopped why h → outOf r bits numbers ≡ runTerm (termAt P i) m
     right-ends r bits numbers e em why h g =
         ran r bits numbers (termAt P y) e em
-        ∙ sym (two .runs ∙ right-stops k (λ z. runTerm (termAt P x) z) (λ z. runTerm (termAt P y) z) m m2 d (ran-stopped r bits numbers (termAt P y) e em why h g))
+        ∙ sym (two .runs ∙ right-stops k (λ z. runTerm (termAt P x) z) (λ z. runTerm (termAt P y) z) m m2 d
+        (ran-stopped r bits numbers (termAt P y) e em why h g))
 
     pub both-end : (m4 : Mach) → runTerm (termAt P y) (secondOf k m2) ≡ done m4 → (m5 : Mach) → m5 ≡ thirdOf k m4 → done m5 ≡ runTerm (termAt P i) m
     both-end m4 g m5 e =

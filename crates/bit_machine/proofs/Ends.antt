@@ -54,7 +54,8 @@ nodes-many types nodes arrows program hashes given witnesses positions = length-
 pub last-is : (types nodes arrows program hashes given witnesses positions : List ℕ)
     → length nodes / nodeNumbers - 1 ≡ last (programAt types nodes arrows program hashes given witnesses positions)
 unfolding last
-last-is types nodes arrows program hashes given witnesses positions = ap (λ (n : ℕ). n - 1) (sym (nodes-many types nodes arrows program hashes given witnesses positions))
+last-is types nodes arrows program hashes given witnesses positions =
+    ap (λ (n : ℕ). n - 1) (sym (nodes-many types nodes arrows program hashes given witnesses positions))
 
 -- the last node's source and target, as the code finds them
 module _ {types widths next nodes arrows program hashes given witnesses positions : List ℕ}
@@ -129,7 +130,8 @@ module _ {P : Program} {input : List ℕ} {size most : ℕ} {cells frames answer
   node-ok i e = subst (λ (i : ℕ). NodeOk P i input lentOn) (sym e) (record {
     reads = ok .reads;
     safe = subst (λ (m : Mach). WholeOk (whole P) (wholeSource P) (wholeTarget P) (readyOf P input .input) m) lent-is
-        (whole-safe cells (bytesFor (wholeCells P)) (wholeCells P) (wholeFrames P) held (omega arith) (whole P) (wholeSource P) (wholeTarget P) (readyOf P input .input) (ok .goes));
+        (whole-safe cells (bytesFor (wholeCells P)) (wholeCells P) (wholeFrames P) held (omega arith) (whole P) (wholeSource P)
+        (wholeTarget P) (readyOf P input .input) (ok .goes));
   })
 
   -- the end of the run of the last node is that of the machine of the requirements
@@ -138,10 +140,14 @@ module _ {P : Program} {input : List ℕ} {size most : ℕ} {cells frames answer
   same-end i e =
       ap (λ (i : ℕ). nodeEnd P i input lentOn) e
       ∙ ap (λ (m : Mach). cellsAfter (runWhole (whole P) (wholeSource P) (wholeTarget P) (readyOf P input .input) m)) (sym lent-is)
-      ∙ ap cellsAfter (whole-same cells (bytesFor (wholeCells P)) (wholeCells P) (wholeFrames P) held (omega arith) (whole P) (wholeSource P) (wholeTarget P) (readyOf P input .input) (ok .goes))
+      ∙ ap cellsAfter
+      (whole-same cells (bytesFor (wholeCells P)) (wholeCells P) (wholeFrames P) held (omega arith) (whole P) (wholeSource P)
+      (wholeTarget P) (readyOf P input .input) (ok .goes))
 
   reached : Ends (wholeCells P) (wholeFrames P) (cellsOf cells) step
-  reached = whole-ends cells (bytesFor (wholeCells P)) (wholeCells P) (wholeFrames P) held (omega arith) (whole P) (wholeSource P) (wholeTarget P) (readyOf P input .input) (ok .goes)
+  reached =
+      whole-ends cells (bytesFor (wholeCells P)) (wholeCells P) (wholeFrames P) held (omega arith) (whole P) (wholeSource P) (wholeTarget P)
+      (readyOf P input .input) (ok .goes)
 
   -- the stores after the run: the part of the cells with the rest behind it, and the frame records cleared
   module _ (i : ℕ) (ei : i ≡ last P) (part after : List ℕ) (ea : after ≡ part ++ drop bytes cells) (small : Bytes after)
@@ -155,7 +161,8 @@ module _ {P : Program} {input : List ℕ} {size most : ℕ} {cells frames answer
         ap (λ (l : List ℕ). l ++ drop numbers frames) er ∙ ap (λ (n : ℕ). zeros n ++ drop numbers frames) (length-take-le numbers frames frames-inside)
         ∙ ap (λ (n : ℕ). zeros n ++ drop n frames) (em ∙ ap (λ (n : ℕ). frameNumbers * n) (ok .mostIs))
 
-    module _ (s : State) (r : Reached (wholeCells P) (wholeFrames P) (cellsOf cells) s) (is : bitsOf part ≡ tabulate (8 * bytesFor (wholeCells P)) (s .cells)) where
+    module _ (s : State) (r : Reached (wholeCells P) (wholeFrames P) (cellsOf cells) s)
+        (is : bitsOf part ≡ tabulate (8 * bytesFor (wholeCells P)) (s .cells)) where
       after-is : after ≡ part ++ drop (bytesFor (wholeCells P)) cells
       after-is = ea ∙ ap (λ (n : ℕ). part ++ drop n cells) (eb ∙ ap (λ (n : ℕ). bytesFor n) (ok .sizeIs))
 
@@ -167,7 +174,8 @@ module _ {P : Program} {input : List ℕ} {size most : ℕ} {cells frames answer
 
       cells-are : after ≡ packed (length cells) (s .cells)
       cells-are =
-          cells-packed after (s .cells) small (bits-after ∙ ap (λ (n : ℕ). tabulate (8 * n) (s .cells)) (sym as-many)) ∙ ap (λ (n : ℕ). packed n (s .cells)) as-many
+          cells-packed after (s .cells) small (bits-after ∙ ap (λ (n : ℕ). tabulate (8 * n) (s .cells)) (sym as-many))
+          ∙ ap (λ (n : ℕ). packed n (s .cells)) as-many
 
       -- the output's value is the same in both
       value-is : valueAt (wholeTarget P) (cellsOf after) (width (wholeSource P)) ≡ valueAt (wholeTarget P) (s .cells) (width (wholeSource P))
@@ -199,7 +207,8 @@ module _ {P : Program} {input : List ℕ} {size most : ℕ} {cells frames answer
         go (done s) eo q r =
             let is : bitsOf part ≡ tabulate (8 * bytesFor (wholeCells P)) (s .cells) = cc in
             let v = found ∙ value-is s r is in
-            same-left (ap Value (told ∙ ap (λ (v : Val). length (compact v)) v)) (cells-are s r is) frames-cleared (wrote ∙ ap (λ (v : Val). written (compact v) answer) v)
+            same-left (ap Value (told ∙ ap (λ (v : Val). length (compact v)) v)) (cells-are s r is) frames-cleared
+            (wrote ∙ ap (λ (v : Val). written (compact v) answer) v)
             ∙ sym (ran-is (done s) eo)
         go (failed place s) eo q r = clash (cc)
         go (pruned place s) eo q r = clash (cc)
@@ -235,4 +244,5 @@ module _ {P : Program} {input : List ℕ} {size most : ℕ} {cells frames answer
     pub ends-stopped : (r : Ran) (why : Reason) (h : Heights) → r ≡ Stopped why h → endOf r (bitsOf part) ≡ nodeEnd P i input lentOn
         → (refusal : Refusal) → refusal ≡ refusalOf why → Ended (leftWith (Refused refusal) after numbers-after answer)
     ends-stopped r why h how e refusal ew =
-        ap (λ (refusal : Refusal). leftWith (Refused refusal) after numbers-after answer) ew ∙ stopped why h (ap (λ (r : Ran). endOf r (bitsOf part)) (sym how) ∙ e)
+        ap (λ (refusal : Refusal). leftWith (Refused refusal) after numbers-after answer) ew
+        ∙ stopped why h (ap (λ (r : Ran). endOf r (bitsOf part)) (sym how) ∙ e)

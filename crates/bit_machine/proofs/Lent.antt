@@ -177,7 +177,8 @@ module _ {types widths next nodes arrows program hashes given witnesses position
   unfolding programAt programOf tablesLent targetTy nodeAt valueOf onWitness
   witness-is e = elim (decLt i (length (programNodes nodes program hashes))) [
     | yes h ↦ tabulate-at (valueOf types nodes arrows program hashes witnesses positions) (length (programNodes nodes program hashes)) i ⟨⟩ h
-        ∙ ap (λ (n : Node). onWitness n (valueFrom (tyAt (typeRecords types) (target (arrowRecords arrows) i)) (drop (getD positions i 0) (streamOf witnesses))) ⟨⟩) e
+        ∙ ap (λ (n : Node). onWitness n
+        (valueFrom (tyAt (typeRecords types) (target (arrowRecords arrows) i)) (drop (getD positions i 0) (streamOf witnesses))) ⟨⟩) e
     | no n ↦ absurd (past (let h : length (programNodes nodes program hashes) ≤ i = omega arith in h))
   ]
     where
@@ -216,6 +217,7 @@ module _ {types widths next nodes arrows program hashes given witnesses position
     word-is =
         let k : ℕ = 2 ^ (n - 1) in
         let bits : List ℕ = take k (drop b (streamOf program)) in
-        let small : AreBits bits = subst (λ (s : List ℕ). AreBits (take k (drop b s))) (sym in-bits) (below-take 2 k (drop b (bitsOf program)) (below-drop 2 b (bitsOf program) (are-bits program))) in
+        let small : AreBits bits = subst (λ (s : List ℕ). AreBits (take k (drop b s))) (sym in-bits)
+        (below-take 2 k (drop b (bitsOf program)) (below-drop 2 b (bitsOf program) (are-bits program))) in
         sym (ap (λ (A : Ty). padded A (valueFrom A bits)) word-typed ∙ word-cells (n - 1) bits small word-whole
         ∙ ap (λ (s : List ℕ). take k (drop b s)) in-bits ∙ ap (λ (j : ℕ). take j (drop b (bitsOf program))) (sym word-wide))

@@ -27,7 +27,8 @@ within-fed h =
     let a = h .cells in
     record { cells = omega arith; frames = h .frames }
 
-pub within-kept : {bytes bytes′ numbers numbers′ : List ℕ} → Within bytes numbers → length bytes′ ≡ length bytes → length numbers′ ≡ length numbers → Within bytes′ numbers′
+pub within-kept : {bytes bytes′ numbers numbers′ : List ℕ} → Within bytes numbers → length bytes′ ≡ length bytes
+    → length numbers′ ≡ length numbers → Within bytes′ numbers′
 within-kept h e g =
     let a = h .cells in
     let b = h .frames in

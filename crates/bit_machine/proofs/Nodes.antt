@@ -77,7 +77,8 @@ module _ (P : Program) (below : (i : ℕ) → AllBelow i (children (nodeAt (P .n
   run-iden e n en m′ em = run-is Node.iden e ∙ ap (λ (k : ℕ). done (copied k m)) (sym en) ∙ ap done (sym em)
 
   module _ (bits : List Bit) where
-    need-written : (b : List Bit) → (0 < length b → WriteOk (length (m .bits)) (length b) m) → bits ≡ b → 0 < length bits → WriteOk (length (m .bits)) (length bits) m
+    need-written : (b : List Bit) → (0 < length b → WriteOk (length (m .bits)) (length b) m) → bits ≡ b → 0 < length bits
+        → WriteOk (length (m .bits)) (length bits) m
     need-written b h e = subst (λ (b : List Bit). 0 < length b → WriteOk (length (m .bits)) (length b) m) (sym e) h
 
     module _ (e : Is Node.witness) (eb : bits ≡ padded (targetTy P i) (getD (P .witnesses) i ⟨⟩)) where
@@ -155,7 +156,8 @@ module _ (P : Program) (below : (i : ℕ) → AllBelow i (children (nodeAt (P .n
       pub one-injl : (m′ : Mach) → m′ ≡ skipped n m1 → OneOk P i m m′ a 0
       unfolding children termOf runTerm
       one-injl m′ em =
-          tag-one a 0 (padL (leftOf (targetTy P i)) (rightOf (targetTy P i))) m′ (below-is (Node.injl a) e .0) injl-ok (run-is (Node.injl a) e) (em ∙ rw (en, e1))
+          tag-one a 0 (padL (leftOf (targetTy P i)) (rightOf (targetTy P i))) m′ (below-is (Node.injl a) e .0) injl-ok
+          (run-is (Node.injl a) e) (em ∙ rw (en, e1))
 
   module _ (a : ℕ) (e : Is (Node.injr a)) (h : Safe (termAt P i) m) where
     injr-ok : TagOk (λ z. SafeAt a z) (λ z. runAt a z) 1 (padR (leftOf (targetTy P i)) (rightOf (targetTy P i))) m
@@ -172,7 +174,8 @@ module _ (P : Program) (below : (i : ℕ) → AllBelow i (children (nodeAt (P .n
       pub one-injr : (m′ : Mach) → m′ ≡ skipped n m1 → OneOk P i m m′ a 0
       unfolding children termOf runTerm
       one-injr m′ em =
-          tag-one a 1 (padR (leftOf (targetTy P i)) (rightOf (targetTy P i))) m′ (below-is (Node.injr a) e .0) injr-ok (run-is (Node.injr a) e) (em ∙ rw (en, e1))
+          tag-one a 1 (padR (leftOf (targetTy P i)) (rightOf (targetTy P i))) m′ (below-is (Node.injr a) e .0) injr-ok
+          (run-is (Node.injr a) e) (em ∙ rw (en, e1))
 
   -- a case and its assertions, by which children are hidden
 

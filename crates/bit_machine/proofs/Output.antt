@@ -68,7 +68,9 @@ filled-is bits before after hb ha e fits is =
     let lb : length (bitsOf before) ≡ 8 * length before = length-bits before in
     let front : bitsOf after ≡ x ++ bitsOf (drop m before) =
     is ∙ ap (λ (n : ℕ). sets (sets (bitsOf before) 0 bits) n (zeros k)) (sym (zero-add (length bits))) ∙ sets-append (bitsOf before) 0 bits (zeros k)
-    ∙ sets-eq x (bitsOf before) 0 (omega arith) ∙ ap (λ (n : ℕ). x ++ drop n (bitsOf before)) (zero-add (length x) ∙ lx) ∙ ap (λ (l : List ℕ). x ++ l) (bits-behind m before) in
+    ∙ sets-eq x (bitsOf before) 0 (omega arith)
+    ∙ ap (λ (n : ℕ). x ++ drop n (bitsOf before)) (zero-add (length x) ∙ lx)
+    ∙ ap (λ (l : List ℕ). x ++ l) (bits-behind m before) in
     let first : x ≡ take (8 * m) (bits ++ zeros 7) =
     sym (ap (λ (n : ℕ). take n (bits ++ zeros 7)) (let q : 8 * m ≡ length bits + k = omega arith in q)
     ∙ take-append-add bits (zeros 7) k ∙ ap (λ (l : List ℕ). bits ++ l) (zeros-first k 7 (omega arith))) in
@@ -105,9 +107,11 @@ module _ {types widths next : List ℕ} (shown : TypesShown types widths next) (
     done =
         let right : unpadStage (shapeAt types widths next k) (getD widths k 0) (bitsOf cells) (cellsOf cells) at (bitsOf answer) 0
         ≡ unpaddedTo A (bitsOf cells) (cellsOf cells) at (bitsOf answer) 0 =
-        rw (shown .widthsAre, shown .nextAre) (unpad-is types (shown .count) (passed-table types (shown .count) (shown .passes)) k (bitsOf cells) (cellsOf cells) at (bitsOf answer) 0) in
+        rw (shown .widthsAre, shown .nextAre)
+        (unpad-is types (shown .count) (passed-table types (shown .count) (shown .passes)) k (bitsOf cells) (cellsOf cells) at (bitsOf answer) 0) in
         let read : room (width A) at (bitsOf cells) ≡ true = room-fits (width A) at (bitsOf cells) (omega (arith, wide)) (omega (arith, wide)) in
-        let write : room (width A) 0 (bitsOf answer) ≡ true = room-fits (width A) 0 (bitsOf answer) (omega (arith, wide, length-bits answer)) (omega (arith, wide)) in
+        let write : room (width A) 0 (bitsOf answer) ≡ true =
+        room-fits (width A) 0 (bitsOf answer) (omega (arith, wide, length-bits answer)) (omega (arith, wide)) in
         e ∙ right ∙ rw (read, write, unpaddedTo)
 
     pub output-says : says ≡ Bits (length output)

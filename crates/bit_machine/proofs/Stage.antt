@@ -25,7 +25,8 @@ use Rattle.ready.proofs.Told.{found, IsReady, told-ready, stage-runs, told-refu
 use Rattle.bit_machine.specs.Whole.{readyOf, RunOk}
 use Rattle.bit_machine.proofs.Ends.{nodes-many}
 
-module _ (types nodes arrows program hashes given witness : List ℕ) (witnessBits : ℕ) (input : List ℕ) (inputBits : ℕ) (cells frames answer : List ℕ) (p : Prepared)
+module _ (types nodes arrows program hashes given witness : List ℕ) (witnessBits : ℕ) (input : List ℕ)
+    (inputBits : ℕ) (cells frames answer : List ℕ) (p : Prepared)
     (is : p ≡ found types nodes arrows program hashes given witness witnessBits input inputBits cells frames answer) where
   abbrev Staged : Left → Type 0
   Staged left = left ≡ runStage types nodes arrows program hashes given witness witnessBits input inputBits cells frames answer
@@ -56,13 +57,15 @@ module _ (types nodes arrows program hashes given witness : List ℕ) (witnessBi
     unfolding tablesLent
     same-program =
         ap (λ (ps : List ℕ). programAt types nodes arrows program hashes given witness ps) (told .positionsAre)
-        ∙ Shows.program-is types nodes arrows program hashes given witness witnessBits input inputBits (told .tablesPass) cells frames answer R (told .readyPass)
+        ∙ Shows.program-is types nodes arrows program hashes given witness witnessBits input inputBits
+        (told .tablesPass) cells frames answer R (told .readyPass)
 
     -- the input that was made ready is the value at the front of the input bits
     same-input : readyOf (R .program) input .input ≡ R .input
     unfolding wholeSource valueFrom
     same-input =
-        let h = Shows.input-held types nodes arrows program hashes given witness witnessBits input inputBits (told .tablesPass) cells frames answer R (told .readyPass) in
+        let h = Shows.input-held types nodes arrows program hashes given witness witnessBits input inputBits
+        (told .tablesPass) cells frames answer R (told .readyPass) in
         rw (h .1, valueFrom)
 
     same-ready : readyOf P input ≡ R
@@ -78,10 +81,15 @@ module _ (types nodes arrows program hashes given witness : List ℕ) (witnessBi
     fit =
         let n = Shows.nodes-counted types nodes arrows program hashes given witness witnessBits input inputBits (told .tablesPass) in
         let l : length (R .program .nodes) ≡ length (nodeRecords nodes) =
-        ap (λ (P : Program). length (P .nodes)) (sym same-program) ∙ nodes-many types nodes arrows program hashes given witness (p .positions) ∙ sym (length-records nodes) in
-        let h = Shows.input-held types nodes arrows program hashes given witness witnessBits input inputBits (told .tablesPass) cells frames answer R (told .readyPass) in
-        let r = Shows.room types nodes arrows program hashes given witness witnessBits input inputBits (told .tablesPass) cells frames answer R (told .readyPass) in
-        let w = Shows.within-limits types nodes arrows program hashes given witness witnessBits input inputBits (told .tablesPass) cells frames answer R (told .readyPass) in
+        ap (λ (P : Program). length (P .nodes)) (sym same-program)
+        ∙ nodes-many types nodes arrows program hashes given witness (p .positions)
+        ∙ sym (length-records nodes) in
+        let h = Shows.input-held types nodes arrows program hashes given witness witnessBits input inputBits
+        (told .tablesPass) cells frames answer R (told .readyPass) in
+        let r = Shows.room types nodes arrows program hashes given witness witnessBits input inputBits
+        (told .tablesPass) cells frames answer R (told .readyPass) in
+        let w = Shows.within-limits types nodes arrows program hashes given witness witnessBits input inputBits
+        (told .tablesPass) cells frames answer R (told .readyPass) in
         record {
           some = omega arith;
           few = omega arith;
@@ -94,9 +102,11 @@ module _ (types nodes arrows program hashes given witness : List ℕ) (witnessBi
           framesFit = rw (told .framesAre) (r .1);
           answerFits = r .2;
           goes = subst
-              (λ (v : Val). machine (wholeCells (R .program)) (wholeFrames (R .program)) (whole (R .program)) (wholeSource (R .program)) (wholeTarget (R .program)) v (cellsOf cells) ≡ stuck → ⊥)
+              (λ (v : Val). machine (wholeCells (R .program)) (wholeFrames (R .program)) (whole (R .program)) (wholeSource (R .program))
+              (wholeTarget (R .program)) v (cellsOf cells) ≡ stuck → ⊥)
               (sym same-input)
-              (Shows.not-stuck types nodes arrows program hashes given witness witnessBits input inputBits (told .tablesPass) cells frames answer R (told .readyPass));
+              (Shows.not-stuck types nodes arrows program hashes given witness witnessBits input inputBits
+              (told .tablesPass) cells frames answer R (told .readyPass));
         }
 
     -- what the run rests on

@@ -1,4 +1,5 @@
--- The engine's own function at every node that a run enters: lent the tables and a state's layout, its condition holds, and what it promises is the layout of how the node's run ends.
+-- The engine's own function at every node that a run enters: lent the tables and a state's layout, its condition holds, and what it
+-- promises is the layout of how the node's run ends.
 -- Only this module knows the list of the function's arguments: what it is lent, what it answers and what it promises are handed on by name.
 use mathlib.Core.Path.{_≡_, ap, ap₂, _∙_}
 use mathlib.Core.List.{List}
@@ -80,7 +81,9 @@ module _ (κs : Lfts 3) where
 
   -- the machine in the stores that it is lent, with the heights; and the node
   abbrev pub machineIn : Args → Mach
-  machineIn a = machineOf (bitsOf (now (a .1 .1 .1 .1 .1 .1 .1 .1 .1 .1 .0))) (now (a .1 .1 .1 .1 .1 .1 .1 .1 .1 .1 .1 .0)) (a .1 .1 .1 .1 .1 .1 .1 .1 .1 .1 .1 .1 .1 .0)
+  machineIn a =
+      machineOf (bitsOf (now (a .1 .1 .1 .1 .1 .1 .1 .1 .1 .1 .0))) (now (a .1 .1 .1 .1 .1 .1 .1 .1 .1 .1 .1 .0))
+      (a .1 .1 .1 .1 .1 .1 .1 .1 .1 .1 .1 .1 .1 .0)
 
   abbrev pub nodeIn : Args → ℕ
   nodeIn a = a .1 .1 .1 .1 .1 .1 .1 .1 .1 .1 .1 .1 .0
@@ -96,7 +99,8 @@ module _ (κs : Lfts 3) where
   outcome r x = outOf r (bitsOf (now (x .1 .1 .1 .1 .1 .1 .1 .1 .1 .1 .0))) (now (x .1 .1 .1 .1 .1 .1 .1 .1 .1 .1 .1 .0))
 
 -- the same tables, shown and read as a program
-tables-shown : {t w n m r p h g v q t′ w′ n′ m′ r′ p′ h′ g′ v′ q′ : List ℕ} → t ≡ t′ → w ≡ w′ → n ≡ n′ → m ≡ m′ → r ≡ r′ → p ≡ p′ → h ≡ h′ → g ≡ g′ → v ≡ v′ → q ≡ q′
+tables-shown : {t w n m r p h g v q t′ w′ n′ m′ r′ p′ h′ g′ v′ q′ : List ℕ} → t ≡ t′ → w ≡ w′ → n ≡ n′ → m ≡ m′ → r ≡ r′ → p ≡ p′ → h ≡ h′
+    → g ≡ g′ → v ≡ v′ → q ≡ q′
     → Shown t′ w′ n′ m′ r′ p′ h′ g′ v′ q′ → Shown t w n m r p h g v q
 tables-shown t w n m r p h g v q shown = rw (t, w, n, m, r, p, h, g, v, q) shown
 
@@ -105,7 +109,8 @@ tables-program : {t m r p h g v q t′ m′ r′ p′ h′ g′ v′ q′ : List
 tables-program t m r p h g v q = rw (t, m, r, p, h, g, v, q)
 
 -- stores that hold the layout of a state are within the limits of a run
-stores-within : (bytes numbers : List ℕ) (heights : Heights) (lentCells size most : ℕ) (s : State) → Fits size most s → lentCells ≤ cellCount → most ≤ frameCount
+stores-within : (bytes numbers : List ℕ) (heights : Heights) (lentCells size most : ℕ) (s : State) → Fits size most s
+    → lentCells ≤ cellCount → most ≤ frameCount
     → machineOf (bitsOf bytes) numbers heights ≡ layout lentCells most s → Within bytes numbers
 stores-within bytes numbers heights lentCells size most s fits c f e =
     let l = Theorems.layout-size lentCells size most s fits in
@@ -162,18 +167,21 @@ module _ (types nodes arrows program hashes given witness : List ℕ) (witnessBi
     module _ (κs : Lfts 3) (a : Args κs) (lends : LendsRun κs a types nodes arrows program hashes given witness witnessBits)
         (node : nodeIn κs a ≡ i) (holds : machineIn κs a ≡ layout lentCells (wholeFrames P) s) where
       -- the program of its tables is the run's, so its term is the node's
-      term-is : termAt (programAt (now (a .0)) (now (a .1 .1 .1 .0)) (now (a .1 .1 .1 .1 .0)) (now (a .1 .1 .1 .1 .1 .0)) (now (a .1 .1 .1 .1 .1 .1 .0)) (now (a .1 .1 .1 .1 .1 .1 .1 .0))
+      term-is : termAt (programAt (now (a .0)) (now (a .1 .1 .1 .0)) (now (a .1 .1 .1 .1 .0)) (now (a .1 .1 .1 .1 .1 .0))
+          (now (a .1 .1 .1 .1 .1 .1 .0)) (now (a .1 .1 .1 .1 .1 .1 .1 .0))
           (now (a .1 .1 .1 .1 .1 .1 .1 .1 .0)) (now (a .1 .1 .1 .1 .1 .1 .1 .1 .1 .0))) (nodeIn κs a) ≡ termAt P i
       term-is =
           ap₂ termAt
-          (tables-program (lends .typesAre) (lends .nodesAre) (lends .arrowsAre) (lends .programIs) (lends .hashesAre) (lends .givenAre) (lends .witnessIs) (lends .positionsAre)
+          (tables-program (lends .typesAre) (lends .nodesAre) (lends .arrowsAre) (lends .programIs) (lends .hashesAre) (lends .givenAre)
+          (lends .witnessIs) (lends .positionsAre)
           ∙ Shows.program-is types nodes arrows program hashes given witness witnessBits input inputBits tables cells frames answer R ready)
           node
 
       -- WHAT THE FUNCTION ASKS FOR HOLDS
       pub visit-asks : Pre κs a
       visit-asks = (
-        tables-shown (lends .typesAre) (lends .widthsAre) (lends .nextAre) (lends .nodesAre) (lends .arrowsAre) (lends .programIs) (lends .hashesAre) (lends .givenAre) (lends .witnessIs) (lends .positionsAre)
+        tables-shown (lends .typesAre) (lends .widthsAre) (lends .nextAre) (lends .nodesAre) (lends .arrowsAre) (lends .programIs)
+            (lends .hashesAre) (lends .givenAre) (lends .witnessIs) (lends .positionsAre)
             (Shows.shown types nodes arrows program hashes given witness witnessBits input inputBits tables cells frames answer R ready),
         (
           (let w = Shows.within-limits types nodes arrows program hashes given witness witnessBits input inputBits tables cells frames answer R ready in

@@ -111,7 +111,8 @@ module _ {types widths next nodes arrows program hashes given witnesses position
     pub input-need : NodeOk P i input m → 0 < getD widths k 0 → InputOk (getD widths k 0) (cellsIn k) m
     input-need ok some = rw (source-is, input-wide) (ok .safe .input (subst (λ (n : ℕ). 0 < n) input-wide some))
 
-    pub input-is : (m′ : Mach) → m′ ≡ withInput (getD widths k 0) (cellsIn k) m → m′ ≡ withInput (width (sourceTy P i)) (padded (sourceTy P i) (inputOf P i input)) m
+    pub input-is : (m′ : Mach) → m′ ≡ withInput (getD widths k 0) (cellsIn k) m
+        → m′ ≡ withInput (width (sourceTy P i)) (padded (sourceTy P i) (inputOf P i input)) m
     input-is m′ q = q ∙ rw (source-is, input-wide)
 
   -- the machine with the input's frame

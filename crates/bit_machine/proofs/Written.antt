@@ -97,7 +97,8 @@ module _ {types widths next : List ℕ} (shown : TypesShown types widths next) (
       let roomy : room (width A) at bits ≡ true = rw (sym wide) (room-inside n at bits some fits ∙ le-leb (at + n) cellCount (omega arith)) in
       let right : padStage (shapeAt types widths next k) (getD widths k 0) stream p bits at ≡ paddedTo A p bits at (readValue A (drop p stream)) =
       rw (shown .widthsAre, shown .nextAre) (pad-is types (shown .count) (passed-table types (shown .count) (shown .passes)) k stream p bits at) in
-      let done : paddedTo A p bits at (readValue A (drop p stream)) ≡ padding (Next (p + length (compact v))) (sets bits at (padded A v)) = rw (reads .2, roomy, paddedTo) in
+      let done : paddedTo A p bits at (readValue A (drop p stream)) ≡ padding (Next (p + length (compact v))) (sets bits at (padded A v)) =
+      rw (reads .2, roomy, paddedTo) in
       ap (λ (z : Padded). z .cells) (e ∙ right ∙ done) ∙ ap (λ (v : Val). sets bits at (padded A v)) (sym value-is)
 
   pub value-written : (bits : List ℕ) (rs : List Frame) (w r x : ℕ) → (n ≡ 0 → ⊥) → WriteOk (length bits) n (mach bits rs w r x) → length bits ≤ cellCount

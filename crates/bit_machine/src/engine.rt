@@ -41,9 +41,12 @@ fn leaf<'a>(
 ) -> Plan
     requires { ⌜ Shown (now types) (now widths) (now next) (now nodes) (now arrows) (now program) (now hashes) (now given) (now witness) (now positions) ⌝ }
     requires { ⌜ Within (now cells) (now frames) ⌝ }
-    requires { ⌜ Safe (termAt (programAt (now types) (now nodes) (now arrows) (now program) (now hashes) (now given) (now witness) (now positions)) i) (machineOf (bitsOf (now cells)) (now frames) h) ⌝ }
+    requires { ⌜ Safe (termAt (programAt (now types) (now nodes) (now arrows) (now program) (now hashes) (now given) (now witness) (now positions)) i)
+        (machineOf (bitsOf (now cells)) (now frames) h) ⌝ }
     requires { ⌜ 7 < recordAt (now nodes) i .kind ⌝ }
-    ensures { λ r. ⌜ Planned r (now (nodes .entry)) (programAt (now (types .entry)) (now (nodes .entry)) (now (arrows .entry)) (now (program .entry)) (now (hashes .entry)) (now (given .entry)) (now (witness .entry)) (now (positions .entry))) i (machineOf (bitsOf (now (cells .entry))) (now (frames .entry)) h) (machineOf (bitsOf (now (cells .exit))) (now (frames .exit)) h) ⌝ }
+    ensures { λ r. ⌜ Planned r (now (nodes .entry)) (programAt (now (types .entry)) (now (nodes .entry)) (now (arrows .entry))
+        (now (program .entry)) (now (hashes .entry)) (now (given .entry)) (now (witness .entry)) (now (positions .entry))) i
+        (machineOf (bitsOf (now (cells .entry))) (now (frames .entry)) h) (machineOf (bitsOf (now (cells .exit))) (now (frames .exit)) h) ⌝ }
 {
     let record = table::record_at(nodes, i);
     if record.kind == table::UNIT {
@@ -86,9 +89,12 @@ fn one_child<'a>(
 ) -> Plan
     requires { ⌜ Shown (now types) (now widths) (now next) (now nodes) (now arrows) (now program) (now hashes) (now given) (now witness) (now positions) ⌝ }
     requires { ⌜ Within (now cells) (now frames) ⌝ }
-    requires { ⌜ Safe (termAt (programAt (now types) (now nodes) (now arrows) (now program) (now hashes) (now given) (now witness) (now positions)) i) (machineOf (bitsOf (now cells)) (now frames) h) ⌝ }
+    requires { ⌜ Safe (termAt (programAt (now types) (now nodes) (now arrows) (now program) (now hashes) (now given) (now witness) (now positions)) i)
+        (machineOf (bitsOf (now cells)) (now frames) h) ⌝ }
     requires { ⌜ (3 < recordAt (now nodes) i .kind) × (recordAt (now nodes) i .kind ≤ 7) ⌝ }
-    ensures { λ r. ⌜ Planned r (now (nodes .entry)) (programAt (now (types .entry)) (now (nodes .entry)) (now (arrows .entry)) (now (program .entry)) (now (hashes .entry)) (now (given .entry)) (now (witness .entry)) (now (positions .entry))) i (machineOf (bitsOf (now (cells .entry))) (now (frames .entry)) h) (machineOf (bitsOf (now (cells .exit))) (now (frames .exit)) h) ⌝ }
+    ensures { λ r. ⌜ Planned r (now (nodes .entry)) (programAt (now (types .entry)) (now (nodes .entry)) (now (arrows .entry))
+        (now (program .entry)) (now (hashes .entry)) (now (given .entry)) (now (witness .entry)) (now (positions .entry))) i
+        (machineOf (bitsOf (now (cells .entry))) (now (frames .entry)) h) (machineOf (bitsOf (now (cells .exit))) (now (frames .exit)) h) ⌝ }
 {
     let record = table::record_at(nodes, i);
     if record.kind == table::TAKE {
@@ -129,9 +135,12 @@ fn branch<'a>(
 ) -> Plan
     requires { ⌜ Shown (now types) (now widths) (now next) (now nodes) (now arrows) (now program) (now hashes) (now given) (now witness) (now positions) ⌝ }
     requires { ⌜ Within (now cells) (now frames) ⌝ }
-    requires { ⌜ Safe (termAt (programAt (now types) (now nodes) (now arrows) (now program) (now hashes) (now given) (now witness) (now positions)) i) (machineOf (bitsOf (now cells)) (now frames) h) ⌝ }
+    requires { ⌜ Safe (termAt (programAt (now types) (now nodes) (now arrows) (now program) (now hashes) (now given) (now witness) (now positions)) i)
+        (machineOf (bitsOf (now cells)) (now frames) h) ⌝ }
     requires { ⌜ recordAt (now nodes) i .kind ≡ 1 ⌝ }
-    ensures { λ r. ⌜ Planned r (now (nodes .entry)) (programAt (now (types .entry)) (now (nodes .entry)) (now (arrows .entry)) (now (program .entry)) (now (hashes .entry)) (now (given .entry)) (now (witness .entry)) (now (positions .entry))) i (machineOf (bitsOf (now (cells .entry))) (now (frames .entry)) h) (machineOf (bitsOf (now (cells .exit))) (now (frames .exit)) h) ⌝ }
+    ensures { λ r. ⌜ Planned r (now (nodes .entry)) (programAt (now (types .entry)) (now (nodes .entry)) (now (arrows .entry))
+        (now (program .entry)) (now (hashes .entry)) (now (given .entry)) (now (witness .entry)) (now (positions .entry))) i
+        (machineOf (bitsOf (now (cells .entry))) (now (frames .entry)) h) (machineOf (bitsOf (now (cells .exit))) (now (frames .exit)) h) ⌝ }
 {
     let record = table::record_at(nodes, i);
     let sum = types::left_of(types, lookup::source_at(arrows, i));
@@ -172,8 +181,11 @@ fn prepare<'a>(
 ) -> Plan
     requires { ⌜ Shown (now types) (now widths) (now next) (now nodes) (now arrows) (now program) (now hashes) (now given) (now witness) (now positions) ⌝ }
     requires { ⌜ Within (now cells) (now frames) ⌝ }
-    requires { ⌜ Safe (termAt (programAt (now types) (now nodes) (now arrows) (now program) (now hashes) (now given) (now witness) (now positions)) i) (machineOf (bitsOf (now cells)) (now frames) h) ⌝ }
-    ensures { λ r. ⌜ Planned r (now (nodes .entry)) (programAt (now (types .entry)) (now (nodes .entry)) (now (arrows .entry)) (now (program .entry)) (now (hashes .entry)) (now (given .entry)) (now (witness .entry)) (now (positions .entry))) i (machineOf (bitsOf (now (cells .entry))) (now (frames .entry)) h) (machineOf (bitsOf (now (cells .exit))) (now (frames .exit)) h) ⌝ }
+    requires { ⌜ Safe (termAt (programAt (now types) (now nodes) (now arrows) (now program) (now hashes) (now given) (now witness) (now positions)) i)
+        (machineOf (bitsOf (now cells)) (now frames) h) ⌝ }
+    ensures { λ r. ⌜ Planned r (now (nodes .entry)) (programAt (now (types .entry)) (now (nodes .entry)) (now (arrows .entry))
+        (now (program .entry)) (now (hashes .entry)) (now (given .entry)) (now (witness .entry)) (now (positions .entry))) i
+        (machineOf (bitsOf (now (cells .entry))) (now (frames .entry)) h) (machineOf (bitsOf (now (cells .exit))) (now (frames .exit)) h) ⌝ }
 {
     let record = table::record_at(nodes, i);
     if record.kind == table::CASE {
@@ -246,9 +258,11 @@ fn hand<'a>(
     h: Heights,
 ) -> Heights
     requires { ⌜ Fed (now cells) (now frames) ⌝ }
-    requires { ⌜ HandOk (bitsOf (branchHash (nodesOf [] (now hashes) (nodeRecords (now nodes))) (now given) right)) source target (machineOf (bitsOf (now cells)) (now frames) h) ⌝ }
+    requires { ⌜ HandOk (bitsOf (branchHash (nodesOf [] (now hashes) (nodeRecords (now nodes))) (now given) right)) source target
+        (machineOf (bitsOf (now cells)) (now frames) h) ⌝ }
     ensures { λ t. ⌜ machineOf (bitsOf (now (cells .exit))) (now (frames .exit)) t
-        ≡ handed (bitsOf (branchHash (nodesOf [] (now (hashes .entry)) (nodeRecords (now (nodes .entry)))) (now (given .entry)) right)) source target (machineOf (bitsOf (now (cells .entry))) (now (frames .entry)) h) ⌝ }
+        ≡ handed (bitsOf (branchHash (nodesOf [] (now (hashes .entry)) (nodeRecords (now (nodes .entry)))) (now (given .entry)) right))
+        source target (machineOf (bitsOf (now (cells .entry))) (now (frames .entry)) h) ⌝ }
 {
     let size = limits::HASH_BYTES as u32 * 8 + source;
     let a = rules::new_write_frame(frames, h, size);
@@ -270,9 +284,11 @@ fn first<'a>(
     h: Heights,
 ) -> Heights
     requires { ⌜ Fed (now cells) (now frames) ⌝ }
-    requires { ⌜ FirstOk (aroundOf around (bitsOf (branchHash (nodesOf [] (now hashes) (nodeRecords (now nodes))) (now given) right))) (machineOf (bitsOf (now cells)) (now frames) h) ⌝ }
+    requires { ⌜ FirstOk (aroundOf around (bitsOf (branchHash (nodesOf [] (now hashes) (nodeRecords (now nodes))) (now given) right)))
+        (machineOf (bitsOf (now cells)) (now frames) h) ⌝ }
     ensures { λ t. ⌜ machineOf (bitsOf (now (cells .exit))) (now (frames .exit)) t
-        ≡ firstOf (aroundOf around (bitsOf (branchHash (nodesOf [] (now (hashes .entry)) (nodeRecords (now (nodes .entry)))) (now (given .entry)) right))) (machineOf (bitsOf (now (cells .entry))) (now (frames .entry)) h) ⌝ }
+        ≡ firstOf (aroundOf around (bitsOf (branchHash (nodesOf [] (now (hashes .entry)) (nodeRecords (now (nodes .entry)))) (now (given .entry)) right)))
+        (machineOf (bitsOf (now (cells .entry))) (now (frames .entry)) h) ⌝ }
 {
     match around {
         Around::Pairing => h,
@@ -298,7 +314,8 @@ fn first<'a>(
 fn second(around: Around, cells: &mut [u8], frames: &mut [u32], h: Heights) -> Heights
     requires { ⌜ Fed (now cells) (now frames) ⌝ }
     requires { ⌜ SecondOk (aroundOf around []) (machineOf (bitsOf (now cells)) (now frames) h) ⌝ }
-    ensures { λ t. ⌜ ((hash : List ℕ) → machineOf (bitsOf (now (cells .exit))) (now (frames .exit)) t ≡ secondOf (aroundOf around hash) (machineOf (bitsOf (now (cells .entry))) (now (frames .entry)) h)) ⌝ }
+    ensures { λ t. ⌜ ((hash : List ℕ) → machineOf (bitsOf (now (cells .exit))) (now (frames .exit)) t
+        ≡ secondOf (aroundOf around hash) (machineOf (bitsOf (now (cells .entry))) (now (frames .entry)) h)) ⌝ }
 {
     match around {
         Around::Pairing => h,
@@ -346,8 +363,11 @@ pub(crate) fn node<'a>(
 ) -> Ran
     requires { ⌜ Shown (now types) (now widths) (now next) (now nodes) (now arrows) (now program) (now hashes) (now given) (now witness) (now positions) ⌝ }
     requires { ⌜ Within (now cells) (now frames) ⌝ }
-    requires { ⌜ Safe (termAt (programAt (now types) (now nodes) (now arrows) (now program) (now hashes) (now given) (now witness) (now positions)) i) (machineOf (bitsOf (now cells)) (now frames) h) ⌝ }
-    ensures { λ r. ⌜ outOf r (bitsOf (now (cells .exit))) (now (frames .exit)) ≡ runTerm (termAt (programAt (now (types .entry)) (now (nodes .entry)) (now (arrows .entry)) (now (program .entry)) (now (hashes .entry)) (now (given .entry)) (now (witness .entry)) (now (positions .entry))) i) (machineOf (bitsOf (now (cells .entry))) (now (frames .entry)) h) ⌝ }
+    requires { ⌜ Safe (termAt (programAt (now types) (now nodes) (now arrows) (now program) (now hashes) (now given) (now witness) (now positions)) i)
+        (machineOf (bitsOf (now cells)) (now frames) h) ⌝ }
+    ensures { λ r. ⌜ outOf r (bitsOf (now (cells .exit))) (now (frames .exit)) ≡ runTerm (termAt (programAt (now (types .entry))
+        (now (nodes .entry)) (now (arrows .entry)) (now (program .entry)) (now (hashes .entry)) (now (given .entry)) (now (witness .entry))
+        (now (positions .entry))) i) (machineOf (bitsOf (now (cells .entry))) (now (frames .entry)) h) ⌝ }
 {
     let plan = prepare(
         types,
@@ -430,8 +450,11 @@ fn both<'a>(
     requires { ⌜ Shown (now types) (now widths) (now next) (now nodes) (now arrows) (now program) (now hashes) (now given) (now witness) (now positions) ⌝ }
     requires { ⌜ Within (now cells) (now frames) ⌝ }
     requires { ⌜ TwoKind (now nodes) i ⌝ }
-    requires { ⌜ Safe (termAt (programAt (now types) (now nodes) (now arrows) (now program) (now hashes) (now given) (now witness) (now positions)) i) (machineOf (bitsOf (now cells)) (now frames) h) ⌝ }
-    ensures { λ r. ⌜ outOf r (bitsOf (now (cells .exit))) (now (frames .exit)) ≡ runTerm (termAt (programAt (now (types .entry)) (now (nodes .entry)) (now (arrows .entry)) (now (program .entry)) (now (hashes .entry)) (now (given .entry)) (now (witness .entry)) (now (positions .entry))) i) (machineOf (bitsOf (now (cells .entry))) (now (frames .entry)) h) ⌝ }
+    requires { ⌜ Safe (termAt (programAt (now types) (now nodes) (now arrows) (now program) (now hashes) (now given) (now witness) (now positions)) i)
+        (machineOf (bitsOf (now cells)) (now frames) h) ⌝ }
+    ensures { λ r. ⌜ outOf r (bitsOf (now (cells .exit))) (now (frames .exit)) ≡ runTerm (termAt (programAt (now (types .entry))
+        (now (nodes .entry)) (now (arrows .entry)) (now (program .entry)) (now (hashes .entry)) (now (given .entry)) (now (witness .entry))
+        (now (positions .entry))) i) (machineOf (bitsOf (now (cells .entry))) (now (frames .entry)) h) ⌝ }
 {
     let around = lookup::around_at(types, widths, nodes, arrows, i);
     let record = table::record_at(nodes, i);

@@ -57,7 +57,8 @@ pub fn run_stage<'a>(
     answer: &mut [u8],
 ) -> Answer
     ensures { λ r. ⌜ leftWith r (now (cells .exit)) (now (frames .exit)) (now (answer .exit))
-        ≡ runStage (now (types .entry)) (now (nodes .entry)) (now (arrows .entry)) (now (program .entry)) (now (hashes .entry)) (now (given .entry)) (now (witness .entry)) «witness_bits»
+        ≡ runStage (now (types .entry)) (now (nodes .entry)) (now (arrows .entry)) (now (program .entry)) (now (hashes .entry))
+        (now (given .entry)) (now (witness .entry)) «witness_bits»
         (now (input .entry)) «input_bits» (now (cells .entry)) (now (frames .entry)) (now (answer .entry)) ⌝ }
 {
     let prepared = ready::check_run(

@@ -120,7 +120,8 @@ natural-told (suc b ∷ l) n r e = go (readNatural l) (λ m t f. natural-told l 
     long : (m : ℕ) (t : List Bit) → ofLength (natural m t) ≡ natural n r → naturalLength < m → ⊥
     long m t e h = let c : natural n r ≡ tooLong = sym e ∙ length-too-long m t h in let z : _≡_ {A = ℕ} 0 1 = cc in omega arith
 
-    fine : (m : ℕ) (t : List Bit) → (1 ≤ m) × (length t < length l) × (t ≡ drop (length l - length t) l) → ofLength (natural m t) ≡ natural n r → m ≤ naturalLength
+    fine : (m : ℕ) (t : List Bit) → (1 ≤ m) × (length t < length l) × (t ≡ drop (length l - length t) l)
+        → ofLength (natural m t) ≡ natural n r → m ≤ naturalLength
         → (1 ≤ n) × (length r < length (suc b ∷ l)) × (r ≡ drop (length (suc b ∷ l) - length r) (suc b ∷ l))
     fine m t i e h =
         let g = bits-got m 1 n t r (sym (length-fits m t h) ∙ e) in
@@ -129,7 +130,8 @@ natural-told (suc b ∷ l) n r e = go (readNatural l) (λ m t f. natural-told l 
         let p : suc (length l) - length r ≡ suc (length l - length t + m) = omega arith in
         (omega arith, omega arith, d ∙ ap (λ (j : ℕ). drop j (suc b ∷ l)) (sym p))
 
-    go : (x : Natural) → ((m : ℕ) (t : List Bit) → x ≡ natural m t → (1 ≤ m) × (length t < length l) × (t ≡ drop (length l - length t) l)) → ofLength x ≡ natural n r
+    go : (x : Natural) → ((m : ℕ) (t : List Bit) → x ≡ natural m t → (1 ≤ m) × (length t < length l) × (t ≡ drop (length l - length t) l))
+        → ofLength x ≡ natural n r
         → (1 ≤ n) × (length r < length (suc b ∷ l)) × (r ≡ drop (length (suc b ∷ l) - length r) (suc b ∷ l))
     go (natural m t) ih e = elim (decLt naturalLength m) [ yes h ↦ absurd (long m t e h) | no k ↦ fine m t (ih m t refl) e (omega arith) ]
     go ended ih e = let z : _≡_ {A = ℕ} 0 1 = cc in absurd (omega arith)

@@ -64,7 +64,8 @@ unfolding bitsOf
 byte-split s i k hk h hx hy =
     let e : suc i ≡ i + 1 = omega arith in
     let d : drop (suc i) s ≡ getD s (i + 1) 0 ∷ drop (suc (i + 1)) s = ap (λ (j : ℕ). drop j s) e ∙ drop-cons s (i + 1) 0 h in
-    ap (λ (l : List ℕ). numberFrom 0 (take 8 l)) (bits-from s i k (omega arith) (omega arith) ∙ ap (λ (l : List ℕ). drop k (byteBits (getD s i 0)) ++ bitsOf l) d)
+    ap (λ (l : List ℕ). numberFrom 0 (take 8 l))
+    (bits-from s i k (omega arith) (omega arith) ∙ ap (λ (l : List ℕ). drop k (byteBits (getD s i 0)) ++ bitsOf l) d)
     ∙ byte-across (getD s i 0) (getD s (i + 1) 0) k (bitsOf (drop (suc (i + 1)) s)) hk hx hy
 
 -- k bytes of a stream

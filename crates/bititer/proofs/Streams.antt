@@ -161,7 +161,8 @@ two-below s p v n e =
     let h = code-got (streamOf s) 2 p v n e in
     let a = bit-here s p (omega arith) in
     let b = bit-here s (p + 1) (omega arith) in
-    let c : got v n ≡ got (bitAt s p * 2 + bitAt s (p + 1)) (p + 1 + 1) = sym e ∙ two-got (streamOf s) p (bitAt s p) (p + 1) (bitAt s (p + 1)) (p + 1 + 1) a b in
+    let c : got v n ≡ got (bitAt s p * 2 + bitAt s (p + 1)) (p + 1 + 1) =
+    sym e ∙ two-got (streamOf s) p (bitAt s p) (p + 1) (bitAt s (p + 1)) (p + 1 + 1) a b in
     let w : v ≡ bitAt s p * 2 + bitAt s (p + 1) = cc in
     omega arith
 

@@ -55,7 +55,8 @@ bit-set x k b hx hk hb =
     let r = ltb (withBit x k b) 256 in
     let s = same (byteBits (withBit x k b)) (set (byteBits x) k b) in
     let t : T (both p (both q (both r s))) =
-    below-at (bitRule k b) 256 x (below-at (λ c. below (bitRule k c) 256) 2 b (below-at (λ j. below (λ c. below (bitRule j c) 256) 2) 8 k every-bit hk) hb) hx in
+    below-at (bitRule k b) 256 x
+    (below-at (λ c. below (bitRule k c) 256) 2 b (below-at (λ j. below (λ c. below (bitRule j c) 256) 2) 8 k every-bit hk) hb) hx in
     let u = both-right p (both q (both r s)) t in
     let v = both-right q (both r s) u in
     record {
@@ -148,14 +149,16 @@ eight-from s p =
     ap (λ (t : List ℕ). byteBits (numberFrom 0 t)) (sym (take-all 8 l (omega (arith, length-bits-from (bitsOf s) p 8))))
     ∙ unpacking 1 l (length-bits-from (bitsOf s) p 8) (small-from s p 8)
 
--- eight bits from a place on as the code computes them, from the byte x in which they begin and the next; for a place past the end zero bytes are put behind the string
+-- eight bits from a place on as the code computes them, from the byte x in which they begin and the next; for a place past the end zero
+-- bytes are put behind the string
 abbrev pub across : (x y k : ℕ) → ℕ
 across x y k = x * 2 ^ k % 256 + y / 2 ^ (8 - k)
 
 pub across-fits : (x y k : ℕ) → x < 256 → y < 256 → k < 8 → across x y k < 256
 across-fits x y k hx hy hk = omega (arith, byte-at k x hk hx .low-fits, byte-at k y hk hy .high-small)
 
-across-within : (s : List ℕ) (i k : ℕ) → Bytes s → k < 8 → i + 1 < length s → byteBits (across (getD s i 0) (getD s (i + 1) 0) k) ≡ bitsFrom (bitsOf s) (8 * i + k) 8
+across-within : (s : List ℕ) (i k : ℕ) → Bytes s → k < 8 → i + 1 < length s
+    → byteBits (across (getD s i 0) (getD s (i + 1) 0) k) ≡ bitsFrom (bitsOf s) (8 * i + k) 8
 across-within s i k h hk l =
     ap (λ (n : ℕ). byteBits n)
     (sym (byte-split s i k hk l (h i) (h (i + 1))) ∙ ap (numberFrom 0) (sym (bits-within (bitsOf s) (8 * i + k) 8 (omega (arith, length-bits s)))))

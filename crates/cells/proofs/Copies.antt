@@ -39,7 +39,8 @@ copy-part l f t (suc k) n h =
     let m = set l t (getD l f 0) in
     ap (copyBits l f t) u
     ∙ copy-part m (suc f) (suc t) k n (⊎-elim (λ p. inl (omega arith)) (λ p. inr (omega arith)) h)
-    ∙ ap (λ (bs : List ℕ). copyBits (sets m (suc t) bs) (suc f + k) (suc t + k) n) (bits-set l t (getD l f 0) (suc f) k (⊎-elim (λ p. inl (omega arith)) (λ p. inr (omega arith)) h))
+    ∙ ap (λ (bs : List ℕ). copyBits (sets m (suc t) bs) (suc f + k) (suc t + k) n)
+    (bits-set l t (getD l f 0) (suc f) k (⊎-elim (λ p. inl (omega arith)) (λ p. inr (omega arith)) h))
     ∙ ap₂ (λ (i j : ℕ). copyBits (sets m (suc t) (bitsFrom l (suc f) k)) i j n) v w
 
 -- sources and targets are apart where the code's tests say so
@@ -50,7 +51,8 @@ far f t h e = omega (arith, leb-true 8 (t - f) e)
 pub one-apart : (f t : ℕ) → (t ≤ f) ⊎ (f + 1 ≤ t)
 one-apart f t = elim (decLt f t) [ yes h ↦ inr (omega arith) | no h ↦ inl (omega arith) ]
 
-pub copy-step : (l m : List ℕ) (f t n r : ℕ) → r ≤ n → (t ≤ f) ⊎ (f + r ≤ t) → m ≡ sets l t (bitsFrom l f r) → copyBits l f t n ≡ copyBits m (f + r) (t + r) (n - r)
+pub copy-step : (l m : List ℕ) (f t n r : ℕ) → r ≤ n → (t ≤ f) ⊎ (f + r ≤ t) → m ≡ sets l t (bitsFrom l f r)
+    → copyBits l f t n ≡ copyBits m (f + r) (t + r) (n - r)
 copy-step l m f t n r h a q =
     let u : n ≡ r + (n - r) = omega arith in
     ap (copyBits l f t) u ∙ copy-part l f t r (n - r) a ∙ ap (λ (k : List ℕ). copyBits k (f + r) (t + r) (n - r)) (sym q)
@@ -78,7 +80,8 @@ copy-inside l from to (suc n) (suc i) a h k =
     let y : from + suc i ≡ suc from + i = omega arith in
     let m = set l to (getD l from 0) in
     rw (z, y)
-    (copy-inside m (suc from) (suc to) n i (⊎-elim (λ p. inl (omega arith)) (λ p. inr (omega arith)) a) (omega arith) (omega (arith, length-set l to (getD l from 0)))
+    (copy-inside m (suc from) (suc to) n i (⊎-elim (λ p. inl (omega arith)) (λ p. inr (omega arith)) a) (omega arith)
+    (omega (arith, length-set l to (getD l from 0)))
     ∙ getD-set-other l to (suc from + i) (getD l from 0) 0 (⊎-elim (λ p e. omega arith) (λ p e. omega arith) a))
 
 -- so a copy between such ranges within the list is one of all its cells at once

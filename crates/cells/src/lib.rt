@@ -69,7 +69,8 @@ fn put_byte(cells: &mut [u8], i: usize, x: u8)
 // The first of n cells to be copied, eight at once where they fill a byte and none of them is written before it is read; how many they are.
 fn copy_step(cells: &mut [u8], from: usize, to: usize, n: u32) -> u32
     requires { ⌜ 0 < n ⌝ }
-    ensures { λ r. ⌜ (0 < r) × (r ≤ n) × (copyBits (bitsOf (now (cells .entry))) from to n ≡ copyBits (bitsOf (now (cells .exit))) (from + r) (to + r) (n - r)) ⌝ }
+    ensures { λ r. ⌜ (0 < r) × (r ≤ n)
+        × (copyBits (bitsOf (now (cells .entry))) from to n ≡ copyBits (bitsOf (now (cells .exit))) (from + r) (to + r) (n - r)) ⌝ }
 {
     if 8 <= n && to % 8 == 0 && (to <= from || 8 <= to - from) {
         let x = eight_at(cells, from);
@@ -97,7 +98,8 @@ fn zero_step(cells: &mut [u8], at: usize, n: u32) -> u32
 // The first of n bits of a source from bit p on put into the cells, eight at once where they fill a byte; how many they are.
 fn put_step(source: &[u8], p: usize, n: u32, cells: &mut [u8], at: usize) -> u32
     requires { ⌜ 0 < n ⌝ }
-    ensures { λ r. ⌜ (0 < r) × (r ≤ n) × (sets (bitsOf (now (cells .entry))) at (bitsFrom (bitsOf (now (source .entry))) p n) ≡ sets (bitsOf (now (cells .exit))) (at + r) (bitsFrom (bitsOf (now (source .entry))) (p + r) (n - r))) ⌝ }
+    ensures { λ r. ⌜ (0 < r) × (r ≤ n) × (sets (bitsOf (now (cells .entry))) at (bitsFrom (bitsOf (now (source .entry))) p n)
+        ≡ sets (bitsOf (now (cells .exit))) (at + r) (bitsFrom (bitsOf (now (source .entry))) (p + r) (n - r))) ⌝ }
 {
     if 8 <= n && at % 8 == 0 {
         let x = eight_at(source, p);

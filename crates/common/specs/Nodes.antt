@@ -57,8 +57,10 @@ module _ (a b c d : ℕ) (l : List ℕ) where
   unfolding nodeRecord
   record-later j =
       let at = nodeNumbers * suc j in
-      ap₂ (λ (x y : ℕ). four x y (getD (a ∷ b ∷ c ∷ d ∷ l) (at + 2) 0) (getD (a ∷ b ∷ c ∷ d ∷ l) (at + 3) 0)) (later (nodeNumbers * j) at (omega arith)) (later (nodeNumbers * j + 1) (at + 1) (omega arith))
-      ∙ ap₂ (λ (x y : ℕ). four (getD l (nodeNumbers * j) 0) (getD l (nodeNumbers * j + 1) 0) x y) (later (nodeNumbers * j + 2) (at + 2) (omega arith)) (later (nodeNumbers * j + 3) (at + 3) (omega arith))
+      ap₂ (λ (x y : ℕ). four x y (getD (a ∷ b ∷ c ∷ d ∷ l) (at + 2) 0) (getD (a ∷ b ∷ c ∷ d ∷ l) (at + 3) 0))
+      (later (nodeNumbers * j) at (omega arith)) (later (nodeNumbers * j + 1) (at + 1) (omega arith))
+      ∙ ap₂ (λ (x y : ℕ). four (getD l (nodeNumbers * j) 0) (getD l (nodeNumbers * j + 1) 0) x y)
+      (later (nodeNumbers * j + 2) (at + 2) (omega arith)) (later (nodeNumbers * j + 3) (at + 3) (omega arith))
 
   -- four numbers, and then the records of the rest
   pub records-first : nodeRecords (a ∷ b ∷ c ∷ d ∷ l) ≡ four a b c d ∷ nodeRecords l

@@ -21,7 +21,9 @@ module _ (store : List ℕ) (from : ℕ) where
   clearedTo j = paste store from (zeros (length store - from)) (j - from)
 
   pub clear-none : store ≡ clearedTo from
-  clear-none = paste-zero store from (zeros (length store - from)) ∙ ap (paste store from (zeros (length store - from))) (let e : 0 ≡ from - from = omega arith in e)
+  clear-none =
+      paste-zero store from (zeros (length store - from))
+      ∙ ap (paste store from (zeros (length store - from))) (let e : 0 ≡ from - from = omega arith in e)
 
   pub clear-more : (j : ℕ) → from ≤ j → j < length store → set (clearedTo j) j 0 ≡ clearedTo (j + 1)
   clear-more j h l =

@@ -29,7 +29,8 @@ module _ {X : Type 0} (f : ℕ → X) where
   append-from i zero m = ap₂ (λ (k j : ℕ). tabulateFrom j k f) (zero-add m) (sym (add-zero i))
   append-from i (suc n) m =
       ap (λ (k : ℕ). tabulateFrom i k f) (suc-add n m)
-      ∙ ap (λ (l : List X). f i ∷ l) (append-from (suc i) n m ∙ ap (λ (k : ℕ). tabulateFrom (suc i) n f ++ tabulateFrom k m f) (suc-add i n ∙ sym (add-suc i n)))
+      ∙ ap (λ (l : List X). f i ∷ l)
+      (append-from (suc i) n m ∙ ap (λ (k : ℕ). tabulateFrom (suc i) n f ++ tabulateFrom k m f) (suc-add i n ∙ sym (add-suc i n)))
 
   pub later-from : (i n : ℕ) → tabulateFrom (suc i) n f ≡ tabulateFrom i n (λ k. f (suc k))
   unfolding tabulateFrom

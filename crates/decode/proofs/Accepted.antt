@@ -39,7 +39,8 @@ module _ (program nodes hashes : List ℕ) (r : Decoded) (nodes′ hashes′ : L
 
   pub program-is-accepted : (ns : List Node) → Codes ns → Leaves ns
   program-is-accepted ns h =
-      let all = holds program nodes hashes r nodes′ hashes′ promise (layout ns) (program-is-decoded program (length nodes / nodeNumbers) (length hashes) ns h) in
+      let all = holds program nodes hashes r nodes′ hashes′ promise (layout ns)
+      (program-is-decoded program (length nodes / nodeNumbers) (length hashes) ns h) in
       record {
         answer = answer-tells r (Decoded.Table (layoutSizes ns)) (all .answer);
         layout-left = all;

@@ -28,7 +28,8 @@ use Rattle.decode.specs.Heads.{atNode, withOne, bytesAfter, followed, he
 pub at-got : {X : Type 0} (i : ℕ) (g : Got X) (x : X) (n : ℕ) → atNode i g ≡ passed (x, n) → g ≡ got x n
 unfolding atNode
 at-got {X} i (got y m) x n e =
-    ap₂ got (ap (λ (c : Check (X × ℕ)). elim c [ passed p ↦ p .0 | refused r ↦ y ]) e) (ap (λ (c : Check (X × ℕ)). elim c [ passed p ↦ p .1 | refused r ↦ m ]) e)
+    ap₂ got (ap (λ (c : Check (X × ℕ)). elim c [ passed p ↦ p .0 | refused r ↦ y ]) e)
+    (ap (λ (c : Check (X × ℕ)). elim c [ passed p ↦ p .1 | refused r ↦ m ]) e)
 at-got i (fault d) x n e = clash (cc)
 
 -- one reader and then another: what stops the first stops both
@@ -36,7 +37,8 @@ pub stops-with : {X Y : Type 0} (m : Reader X) (f : X → Reader Y) (at : ℕ) (
 unfolding _>>=_
 stops-with {X} {Y} m f at d e = ap (λ (g : Got X). elim g as (λ z. Got Y) [ got x n ↦ f x n | fault d ↦ fault d ]) e
 
-pub stops : {X Y : Type 0} (i : ℕ) (m : Reader X) (f : X → Reader Y) (at : ℕ) (why : Refusal) → atNode i (m at) ≡ refused why → atNode i ((m >>= f) at) ≡ refused why
+pub stops : {X Y : Type 0} (i : ℕ) (m : Reader X) (f : X → Reader Y) (at : ℕ) (why : Refusal) → atNode i (m at) ≡ refused why
+    → atNode i ((m >>= f) at) ≡ refused why
 unfolding _>>=_ atNode
 stops {X} {Y} i m f at why e = go (m at) e
   where
@@ -74,7 +76,8 @@ module _ (bits : List Bit) (i at : ℕ) where
   unfolding twoChildren
   after-first kind a m e = then-reads (child bits i) (λ a. child bits i >>= λ b. item kind a b []) at a m e
 
-  pub second-stops : (kind a m : ℕ) (why : Refusal) → child bits i at ≡ got a m → atNode i (child bits i m) ≡ refused why → refused why ≡ atNode i (twoChildren bits kind i at)
+  pub second-stops : (kind a m : ℕ) (why : Refusal) → child bits i at ≡ got a m → atNode i (child bits i m) ≡ refused why
+      → refused why ≡ atNode i (twoChildren bits kind i at)
   second-stops kind a m why e f = sym (ap (atNode i) (after-first kind a m e) ∙ stops i (child bits i) (λ b. item kind a b []) m why f)
 
   pub both-read : (kind a m b n : ℕ) → child bits i at ≡ got a m → child bits i m ≡ got b n
@@ -85,7 +88,8 @@ module _ (bits : List Bit) (i at : ℕ) where
   -- one child, refused or read
   pub one-head : (kind : ℕ) (r : NumberRead) → numberOf r ≡ atNode i (child bits i at) → headOf bits i (withOne kind r) ≡ atNode i (oneChild bits kind i at)
   unfolding oneChild followed bytesAfter _>>=_ give item
-  one-head kind (NumberRead.Number a n) e = ap (atNode i) (sym (then-reads (child bits i) (λ a. item kind a 0 []) at a n (at-got i (child bits i at) a n (sym e))))
+  one-head kind (NumberRead.Number a n) e =
+      ap (atNode i) (sym (then-reads (child bits i) (λ a. item kind a 0 []) at a n (at-got i (child bits i at) a n (sym e))))
   one-head kind (NumberRead.Refused why) e = sym (stops i (child bits i) (λ a. item kind a 0 []) at why (sym e))
 
   -- the third group by its code
@@ -93,7 +97,8 @@ module _ (bits : List Bit) (i at : ℕ) where
   unfolding third
   third-child held sub e = rw (eq-eqb sub 3 e, third)
 
-  pub third-fail : (held sub : ℕ) → sub ≡ 2 → followed bits (record { kind = 10; first = held; second = 0; third = 0 }) Follows.Fail at ≡ third bits i held sub at
+  pub third-fail : (held sub : ℕ) → sub ≡ 2
+      → followed bits (record { kind = 10; first = held; second = 0; third = 0 }) Follows.Fail at ≡ third bits i held sub at
   unfolding third followed bytesAfter item
   third-fail held sub e = sym (rw (ne-eqb sub 3 (λ q. omega arith), eq-eqb sub 2 e, third))
 
@@ -140,7 +145,9 @@ module _ (bits : List Bit) (i at : ℕ) where
   pub combinator-two : (held two sub n : ℕ) → two ≡ 0 → code bits 2 at ≡ got sub n → combinator bits i held two at ≡ twoChildren bits (0 + sub) i n
   unfolding combinator twoChildren
   combinator-two held two sub n h e =
-      ap (λ (k : ℕ). combinator bits i held k at) h ∙ then-reads (code bits 2) (λ sub. twoChildren bits sub i) at sub n e ∙ ap (λ (k : ℕ). twoChildren bits k i n) (sym (zero-add sub))
+      ap (λ (k : ℕ). combinator bits i held k at) h
+      ∙ then-reads (code bits 2) (λ sub. twoChildren bits sub i) at sub n e
+      ∙ ap (λ (k : ℕ). twoChildren bits k i n) (sym (zero-add sub))
 
   pub combinator-one : (held two sub n : ℕ) → two ≡ 1 → code bits 2 at ≡ got sub n → combinator bits i held two at ≡ oneChild bits (4 + sub) i n
   unfolding combinator oneChild
@@ -186,11 +193,13 @@ module _ (bits : List Bit) (i at : ℕ) where
   pub jet-ended : (held b n : ℕ) → code bits 1 at ≡ got b n → (b ≡ 0 → ⊥) → code bits 1 n ≡ fault streamEnded → node bits i held at ≡ fault streamEnded
   jet-ended held b n e h f = first-bit held b n false e (ne-eqb b 0 h) ∙ stops-with (code bits 1) (λ jet. byJetBit (eqb jet 1)) n streamEnded f
 
-  second-bit : (held b n jet m : ℕ) (t : Bool) → code bits 1 at ≡ got b n → (b ≡ 0 → ⊥) → code bits 1 n ≡ got jet m → eqb jet 1 ≡ t → node bits i held at ≡ byJetBit t m
+  second-bit : (held b n jet m : ℕ) (t : Bool) → code bits 1 at ≡ got b n → (b ≡ 0 → ⊥) → code bits 1 n ≡ got jet m → eqb jet 1 ≡ t
+      → node bits i held at ≡ byJetBit t m
   second-bit held b n jet m t e h f k =
       first-bit held b n false e (ne-eqb b 0 h) ∙ then-reads (code bits 1) (λ jet. byJetBit (eqb jet 1)) n jet m f ∙ ap (λ (t : Bool). byJetBit t m) k
 
-  pub jet-read : (held b n jet m : ℕ) → code bits 1 at ≡ got b n → (b ≡ 0 → ⊥) → code bits 1 n ≡ got jet m → jet ≡ 1 → refused (Jet i) ≡ atNode i (node bits i held at)
+  pub jet-read : (held b n jet m : ℕ) → code bits 1 at ≡ got b n → (b ≡ 0 → ⊥) → code bits 1 n ≡ got jet m → jet ≡ 1
+      → refused (Jet i) ≡ atNode i (node bits i held at)
   unfolding stop atNode refusalAt
   jet-read held b n jet m e h f k = sym (ap (atNode i) (second-bit held b n jet m true e h f (eq-eqb jet 1 k)))
 

@@ -37,7 +37,8 @@ unfolding storing bytesAfter give
 store-nothing bits at store held h =
     let e : leb (held + 0) (length store) ≡ true = le-leb (held + 0) (length store) (omega arith) in
     let p : placed store held [] ≡ store = ap (λ (k : ℕ). take held store ++ drop k store) (add-zero held) ∙ take-append-drop held store in
-    sym (ap (λ (t : Bool). elim t [ true ↦ stored (got tt at) (placed store held []) | false ↦ stored (fault hashesShort) store ]) e ∙ ap (stored (got tt at)) p)
+    sym (ap (λ (t : Bool). elim t [ true ↦ stored (got tt at) (placed store held []) | false ↦ stored (fault hashesShort) store ]) e
+    ∙ ap (stored (got tt at)) p)
 
 -- bytes that were stored were read, have room and stand there
 pub stored-told : (g : Got (List ℕ)) (store : List ℕ) (at next : ℕ) (left : List ℕ) → stored (got tt next) left ≡ storing g store at
@@ -56,11 +57,16 @@ stored-told (got bytes n) store at next left e = go (leb (at + length bytes) (le
 stored-told (fault d) store at next left e = let c : got tt next ≡ fault d = ap (λ (x : Stored). x .says) e in clash (cc)
 
 -- as many bytes as follow
-follows-length : (bits : List Bit) (follows : Follows) (at : ℕ) (bytes : List ℕ) (n : ℕ) → bytesAfter bits follows at ≡ got bytes n → length bytes ≡ sizeOf follows
+follows-length : (bits : List Bit) (follows : Follows) (at : ℕ) (bytes : List ℕ) (n : ℕ) → bytesAfter bits follows at ≡ got bytes n
+    → length bytes ≡ sizeOf follows
 unfolding bytesAfter give
 follows-length bits Follows.Nothing at bytes n e = let b : [] ≡ bytes = cc in sym (ap length b)
-follows-length bits Follows.Hash at bytes n e = ap length (octets-got bits hashBytes at bytes n e .2) ∙ length-bytes hashBytes (take (8 * hashBytes) (drop at bits))
-follows-length bits Follows.Fail at bytes n e = ap length (octets-got bits failBytes at bytes n e .2) ∙ length-bytes failBytes (take (8 * failBytes) (drop at bits))
+follows-length bits Follows.Hash at bytes n e =
+    ap length (octets-got bits hashBytes at bytes n e .2)
+    ∙ length-bytes hashBytes (take (8 * hashBytes) (drop at bits))
+follows-length bits Follows.Fail at bytes n e =
+    ap length (octets-got bits failBytes at bytes n e .2)
+    ∙ length-bytes failBytes (take (8 * failBytes) (drop at bits))
 
 pub size-most : (follows : Follows) → sizeOf follows ≤ failBytes
 size-most Follows.Nothing = omega arith
@@ -146,6 +152,7 @@ module _ (bits : List Bit) (i held at : ℕ) (store : List ℕ) where
     pub node-in : (next : ℕ) → b ≡ BytesRead.Read next → NodeMeans bits i held at store (HeadRead.Read h next) left
     node-in next told = bytes-in (recordOf (h .node)) (h .follows) middle head next left (says (BytesRead.Read next) told)
 
-    pub node-out : (f : BytesFault) (why : Refusal) → b ≡ BytesRead.Fault f → why ≡ refusalAt i (bytesFault f) → NodeMeans bits i held at store (HeadRead.Refused why) left
+    pub node-out : (f : BytesFault) (why : Refusal) → b ≡ BytesRead.Fault f → why ≡ refusalAt i (bytesFault f)
+        → NodeMeans bits i held at store (HeadRead.Refused why) left
     node-out f why told r =
         bytes-out (recordOf (h .node)) (h .follows) middle head (bytesFault f) left (says (BytesRead.Fault f) told) ∙ sym (ap (λ (r : Refusal). refused r) r)

@@ -1,4 +1,5 @@
--- What the promise of the public call tells a caller, answer by answer: a table that was decoded stands in the fronts of the stores, or why there is none and the stores are zero.
+-- What the promise of the public call tells a caller, answer by answer: a table that was decoded stands in the fronts of the stores, or why
+-- there is none and the stores are zero.
 use mathlib.Core.Path.{_≡_, refl, sym, ap, _∙_}
 use mathlib.Core.List.{List}
 use Prim.Native.Nat.{ℕ, _*_, _-_, _/_}
@@ -66,7 +67,8 @@ module _ (program nodes hashes : List ℕ) (r : Decoded) (nodes′ hashes′ : L
   unfolding leftBy tableSizes nodesLeft hashesLeft
   refused-told why e = go wanted refl (sym (ap saidOf e) ∙ ap (λ (x : Left). x .says) promise)
     where
-      go : (c : Check NodeTable) → wanted ≡ c → refused why ≡ tableSizes c → (wanted ≡ refused why) × (nodes′ ≡ zeros (length nodes)) × (hashes′ ≡ zeros (length hashes))
+      go : (c : Check NodeTable) → wanted ≡ c → refused why ≡ tableSizes c
+          → (wanted ≡ refused why) × (nodes′ ≡ zeros (length nodes)) × (hashes′ ≡ zeros (length hashes))
       go (passed t) d e = clash (cc)
       go (refused other) d e =
           let all : left (saidOf r) nodes′ hashes′ ≡ leftBy (refused other) nodes hashes = promise ∙ ap (λ (c : Check NodeTable). leftBy c nodes hashes) d in

@@ -33,9 +33,12 @@ module _ (nodes : List ℕ) (i : ℕ) (r : NodeRecord) (room : nodeNumbers * i +
   put-sets : recordPut nodes i r ≡ sets nodes (nodeNumbers * i) numbers
   put-sets =
       let at = nodeNumbers * i in
-      ap (λ (x : ℕ). set (set (set (set nodes at (r .kind)) x (r .first)) (at + 2) (r .second)) (at + 3) (r .third)) (let e : at + 1 ≡ suc at = omega arith in e)
-      ∙ ap (λ (x : ℕ). set (set (set (set nodes at (r .kind)) (suc at) (r .first)) x (r .second)) (at + 3) (r .third)) (let e : at + 2 ≡ suc (suc at) = omega arith in e)
-      ∙ ap (λ (x : ℕ). set (set (set (set nodes at (r .kind)) (suc at) (r .first)) (suc (suc at)) (r .second)) x (r .third)) (let e : at + 3 ≡ suc (suc (suc at)) = omega arith in e)
+      ap (λ (x : ℕ). set (set (set (set nodes at (r .kind)) x (r .first)) (at + 2) (r .second)) (at + 3) (r .third))
+      (let e : at + 1 ≡ suc at = omega arith in e)
+      ∙ ap (λ (x : ℕ). set (set (set (set nodes at (r .kind)) (suc at) (r .first)) x (r .second)) (at + 3) (r .third))
+      (let e : at + 2 ≡ suc (suc at) = omega arith in e)
+      ∙ ap (λ (x : ℕ). set (set (set (set nodes at (r .kind)) (suc at) (r .first)) (suc (suc at)) (r .second)) x (r .third))
+      (let e : at + 3 ≡ suc (suc (suc at)) = omega arith in e)
 
   before-length : length (take (nodeNumbers * i) nodes) ≡ nodeNumbers * i
   before-length = length-take-le (nodeNumbers * i) nodes (omega arith)

@@ -62,13 +62,17 @@ module _ (bits : List Bit) (room : ℕ) where
   from-same k i j rs ss hs gs at bt p q r s =
       ap₂ (λ (x : ℕ) (y : List NodeRecord). nodesFrom bits room k x y hs at) p q ∙ ap₂ (λ (x : List ℕ) (y : ℕ). nodesFrom bits room k j ss x y) r s
 
-  from-refused : (k i held : ℕ) (rs : List NodeRecord) (hs : List ℕ) (at : ℕ) (why : Refusal) → length hs ≡ held → atNode i (nodeIn bits room i held at) ≡ refused why
+  from-refused : (k i held : ℕ) (rs : List NodeRecord) (hs : List ℕ) (at : ℕ) (why : Refusal) → length hs ≡ held
+      → atNode i (nodeIn bits room i held at) ≡ refused why
       → nodesFrom bits room (suc k) i rs hs at ≡ refused why
   unfolding nodesFrom atNode
   from-refused k i held rs hs at why h e = go (nodeIn bits room i (length hs) at) (ap (λ (m : ℕ). atNode i (nodeIn bits room i m at)) h ∙ e)
     where
       go : (g : Got Item) → atNode i g ≡ refused why
-          → _≡_ {A = Check NodeTable} (elim g [ got x n ↦ nodesFrom bits room k (suc i) (rs ++ x .node ∷ []) (hs ++ x .stored) n | fault d ↦ refused (refusalAt i d) ]) (refused why)
+          → _≡_ {A = Check NodeTable} (elim g [
+            | got x n ↦ nodesFrom bits room k (suc i) (rs ++ x .node ∷ []) (hs ++ x .stored) n
+            | fault d ↦ refused (refusalAt i d)
+          ]) (refused why)
       go (got x n) e = clash (cc)
       go (fault d) e = (let r : refusalAt i d ≡ why = cc in ap (λ (r : Refusal). refused r) r)
 
@@ -80,9 +84,11 @@ module _ (bits : List Bit) (nodes hashes : List ℕ) (done : Progress) (room : R
   pub step-refused : (why : Refusal) → atNode (done .nodes) (nodeIn bits (length hashes) (done .nodes) (done .hashes) (done .at)) ≡ refused why
       → (k : ℕ) → more bits (length hashes) (suc k) nodes hashes done ≡ refused why
   step-refused why e k =
-      from-refused bits (length hashes) k (done .nodes) (done .hashes) (nodeRecords (take (nodeNumbers * done .nodes) nodes)) (take (done .hashes) hashes) (done .at) why held-length e
+      from-refused bits (length hashes) k (done .nodes) (done .hashes) (nodeRecords (take (nodeNumbers * done .nodes) nodes))
+      (take (done .hashes) hashes) (done .at) why held-length e
 
-  pub step-read : (h : NodeHead) (next : ℕ) (nodes′ hashes′ : List ℕ) → NodeMeans bits (done .nodes) (done .hashes) (done .at) hashes (HeadRead.Read h next) hashes′
+  pub step-read : (h : NodeHead) (next : ℕ) (nodes′ hashes′ : List ℕ)
+      → NodeMeans bits (done .nodes) (done .hashes) (done .at) hashes (HeadRead.Read h next) hashes′
       → nodes′ ≡ recordPut nodes (done .nodes) (recordOf (h .node)) → (size : ℕ) → size ≡ sizeOf (h .follows) → size ≤ failBytes
       → StepMeans bits nodes hashes done (Progressed.Read (record { nodes = done .nodes + 1; hashes = done .hashes + size; at = next })) nodes′ hashes′
   step-read h next nodes′ hashes′ m p size s l =
@@ -92,11 +98,15 @@ module _ (bits : List Bit) (nodes hashes : List ℕ) (done : Progress) (room : R
         refl,
         omega arith,
         omega arith,
-        (λ k. from-node bits (length hashes) k (done .nodes) (done .hashes) (nodeRecords (take (nodeNumbers * done .nodes) nodes)) (take (done .hashes) hashes) (done .at)
+        (λ k. from-node bits (length hashes) k (done .nodes) (done .hashes) (nodeRecords (take (nodeNumbers * done .nodes) nodes))
+            (take (done .hashes) hashes) (done .at)
             (record { node = recordOf (h .node); stored = m .0 }) next held-length (m .1)
-            ∙ from-same bits (length hashes) k (suc (done .nodes)) (done .nodes + 1) _ _ _ _ next next (let e : suc (done .nodes) ≡ done .nodes + 1 = omega arith in e)
-            (sym (ap (λ (l : List ℕ). nodeRecords (take (nodeNumbers * (done .nodes + 1)) l)) p ∙ put-records nodes (done .nodes) (recordOf (h .node)) (room .records)))
-            (sym (ap (take (done .hashes + size)) (m .4) ∙ front-bytes hashes (m .0) (done .hashes) (done .hashes + size) (ap (λ (k : ℕ). done .hashes + k) b) (omega arith)))
+            ∙ from-same bits (length hashes) k (suc (done .nodes)) (done .nodes + 1) _ _ _ _ next next
+            (let e : suc (done .nodes) ≡ done .nodes + 1 = omega arith in e)
+            (sym (ap (λ (l : List ℕ). nodeRecords (take (nodeNumbers * (done .nodes + 1)) l)) p
+            ∙ put-records nodes (done .nodes) (recordOf (h .node)) (room .records)))
+            (sym (ap (take (done .hashes + size)) (m .4)
+            ∙ front-bytes hashes (m .0) (done .hashes) (done .hashes + size) (ap (λ (k : ℕ). done .hashes + k) b) (omega arith)))
             refl),
       )
 
@@ -106,7 +116,8 @@ pub begun-more : (bits : List Bit) (room count : ℕ) (nodes hashes : List ℕ) 
 unfolding nodeRecords tabulate tabulateFrom
 begun-more bits room count nodes hashes first = ap (λ (k : ℕ). nodesFrom bits room k 0 [] [] first) (let e : count ≡ count - 0 = omega arith in e)
 
-pub ended-more : (bits : List Bit) (room k : ℕ) (nodes hashes : List ℕ) (done : Progress) → k ≡ 0 → more bits room k nodes hashes done ≡ passed (tableIn nodes hashes done)
+pub ended-more : (bits : List Bit) (room k : ℕ) (nodes hashes : List ℕ) (done : Progress) → k ≡ 0
+    → more bits room k nodes hashes done ≡ passed (tableIn nodes hashes done)
 unfolding nodesFrom
 ended-more bits room k nodes hashes done e = ap (λ (k : ℕ). more bits room k nodes hashes done) e
 
@@ -143,7 +154,11 @@ module _ (bits : List Bit) (room : ℕ) where
   counting g = elim g [ got n next ↦ elim (leb n room) [ true ↦ passed (n, next) | false ↦ refused (StoreShort 3) ] | fault e ↦ refused (refusalAt 0 e) ]
 
   abbrev reading : (bytes : ℕ) → Got ℕ → Check NodeTable
-  reading bytes g = elim g [ got n next ↦ elim (leb n room) [ true ↦ nodesFrom bits bytes n 0 [] [] next | false ↦ refused (StoreShort 3) ] | fault e ↦ refused (refusalAt 0 e) ]
+  reading bytes g =
+      elim g [
+        | got n next ↦ elim (leb n room) [ true ↦ nodesFrom bits bytes n 0 [] [] next | false ↦ refused (StoreShort 3) ]
+        | fault e ↦ refused (refusalAt 0 e)
+      ]
 
   pub count-stops : (why : Refusal) → atNode 0 (naturalUpTo bits nodeCount 0) ≡ refused why → refused why ≡ countIn bits room
   unfolding countIn atNode
@@ -180,7 +195,8 @@ module _ (bits : List Bit) (room : ℕ) where
   unfolding countIn
   count-told n next e = go (naturalUpTo bits nodeCount 0) e
     where
-      tested : (m p : ℕ) (t : Bool) → leb m room ≡ t → _≡_ {A = Check (ℕ × ℕ)} (elim t [ true ↦ passed (m, p) | false ↦ refused (StoreShort 3) ]) (passed (n, next))
+      tested : (m p : ℕ) (t : Bool) → leb m room ≡ t
+          → _≡_ {A = Check (ℕ × ℕ)} (elim t [ true ↦ passed (m, p) | false ↦ refused (StoreShort 3) ]) (passed (n, next))
           → (got m p ≡ got n next) × (leb n room ≡ true)
       tested m p true h e = (ap₂ got (ap (numberIn m) e) (ap (nextIn p) e), ap (λ (k : ℕ). leb k room) (sym (ap (numberIn m) e)) ∙ h)
       tested m p false h e = clash (cc)
@@ -228,7 +244,8 @@ module _ (program : List ℕ) (room bytes : ℕ) where
   decode-judges t e = decode-by ∙ then-passes (readAll program room bytes) (judging program) t e
 
 -- a refusal of the count, of the walk and of the reading, as the stage after it hands it on
-pub begun-means : (wanted : Check NodeTable) (r : Progressed) (count : NumberRead) (why : Refusal) (nodes hashes : List ℕ) → r ≡ begunOf count → count ≡ NumberRead.Refused why
+pub begun-means : (wanted : Check NodeTable) (r : Progressed) (count : NumberRead) (why : Refusal) (nodes hashes : List ℕ)
+    → r ≡ begunOf count → count ≡ NumberRead.Refused why
     → wanted ≡ refused why → ReadMeans wanted r nodes hashes
 begun-means wanted r count why nodes hashes e told p = subst (λ (r : Progressed). ReadMeans wanted r nodes hashes) (sym (e ∙ ap begunOf told)) p
 
@@ -237,14 +254,17 @@ pub settled-means : (program : List ℕ) (t : NodeTable) (done : Progress) (r : 
 settled-means program t done r c sizes why e told p =
     subst (λ (r : Decoded). JudgedMeans program t done r) (sym (e ∙ ap (λ (c : Checked). settledOf c sizes) told)) p
 
-pub stopped-means : (wanted : Check NodeTable) (r : Decoded) (read : Progressed) (why : Refusal) (nodes hashes : List ℕ) → r ≡ stoppedOf read → read ≡ Progressed.Refused why
+pub stopped-means : (wanted : Check NodeTable) (r : Decoded) (read : Progressed) (why : Refusal) (nodes hashes : List ℕ)
+    → r ≡ stoppedOf read → read ≡ Progressed.Refused why
     → wanted ≡ refused why → DecodedMeans wanted r nodes hashes
 stopped-means wanted r read why nodes hashes e told p = subst (λ (r : Decoded). DecodedMeans wanted r nodes hashes) (sym (e ∙ ap stoppedOf told)) p
 
-pub told-read : (wanted : Check NodeTable) (r known : Progressed) (nodes hashes : List ℕ) → r ≡ known → ReadMeans wanted r nodes hashes → ReadMeans wanted known nodes hashes
+pub told-read : (wanted : Check NodeTable) (r known : Progressed) (nodes hashes : List ℕ) → r ≡ known → ReadMeans wanted r nodes hashes
+    → ReadMeans wanted known nodes hashes
 told-read wanted r known nodes hashes e m = subst (λ (r : Progressed). ReadMeans wanted r nodes hashes) e m
 
-pub read-means : (wanted other : Check NodeTable) (r : Progressed) (nodes hashes : List ℕ) → wanted ≡ other → ReadMeans other r nodes hashes → ReadMeans wanted r nodes hashes
+pub read-means : (wanted other : Check NodeTable) (r : Progressed) (nodes hashes : List ℕ) → wanted ≡ other → ReadMeans other r nodes hashes
+    → ReadMeans wanted r nodes hashes
 read-means wanted other r nodes hashes e m = subst (λ (w : Check NodeTable). ReadMeans w r nodes hashes) (sym e) m
 
 -- walk and closing of a table of n nodes
@@ -265,27 +285,31 @@ module _ (program nodes hashes : List ℕ) (n at : ℕ) (whole : length nodes �
 
   pub walk-refuses : (c : Checked) (why : Refusal) → checkOf c ≡ countedWalk hashes nodes → c ≡ Checked.Refused why → judging program table ≡ refused why
   unfolding judging
-  walk-refuses c why e told = then-refuses (checkWalk (nodesOf (streamOf program) hashes (nodeRecords nodes))) closing why (sym walk-is ∙ sym e ∙ ap checkOf told)
+  walk-refuses c why e told =
+      then-refuses (checkWalk (nodesOf (streamOf program) hashes (nodeRecords nodes))) closing why (sym walk-is ∙ sym e ∙ ap checkOf told)
 
   after-walk : (c : Checked) → checkOf c ≡ countedWalk hashes nodes → c ≡ Checked.Passed → judging program table ≡ closing tt
   unfolding judging
   after-walk c e told = then-passes (checkWalk (nodesOf (streamOf program) hashes (nodeRecords nodes))) closing tt (sym walk-is ∙ sym e ∙ ap checkOf told)
 
   -- the closing as it is told of n nodes
-  closing-is : (c : Checked) → checkOf c ≡ require (closes (streamOf program) at) (Closing n) → require (closes (streamOf program) at) (Closing (length (nodeRecords nodes))) ≡ checkOf c
+  closing-is : (c : Checked) → checkOf c ≡ require (closes (streamOf program) at) (Closing n)
+      → require (closes (streamOf program) at) (Closing (length (nodeRecords nodes))) ≡ checkOf c
   closing-is c e = ap (λ (k : ℕ). require (closes (streamOf program) at) (Closing k)) count-is ∙ sym e
 
   pub closing-refuses : (c d : Checked) (why : Refusal) → checkOf c ≡ countedWalk hashes nodes → c ≡ Checked.Passed
       → checkOf d ≡ require (closes (streamOf program) at) (Closing n) → d ≡ Checked.Refused why → judging program table ≡ refused why
   closing-refuses c d why e told f stop =
       after-walk c e told
-      ∙ then-refuses (require (closes (streamOf program) at) (Closing (length (nodeRecords nodes)))) (λ closed. passed table) why (closing-is d f ∙ ap checkOf stop)
+      ∙ then-refuses (require (closes (streamOf program) at) (Closing (length (nodeRecords nodes)))) (λ closed. passed table) why
+      (closing-is d f ∙ ap checkOf stop)
 
   pub all-passed : (c d : Checked) → checkOf c ≡ countedWalk hashes nodes → c ≡ Checked.Passed
       → checkOf d ≡ require (closes (streamOf program) at) (Closing n) → d ≡ Checked.Passed → judging program table ≡ passed table
   all-passed c d e told f fine =
       after-walk c e told
-      ∙ then-passes (require (closes (streamOf program) at) (Closing (length (nodeRecords nodes)))) (λ closed. passed table) tt (closing-is d f ∙ ap checkOf fine)
+      ∙ then-passes (require (closes (streamOf program) at) (Closing (length (nodeRecords nodes)))) (λ closed. passed table) tt
+      (closing-is d f ∙ ap checkOf fine)
 
 -- what walk and closing say of the table in the stores is what decoding says
 pub judged-means : (program : List ℕ) (room bytes : ℕ) (nodes hashes : List ℕ) (done : Progress) (r : Decoded)
@@ -297,7 +321,8 @@ judged-means program room bytes nodes hashes done (Decoded.Table sizes) e k l (j
 judged-means program room bytes nodes hashes done (Decoded.Refused why) e k l j = decode-judges program room bytes (tableIn nodes hashes done) e ∙ j
 
 -- the same, of the fronts that the code hands on
-pub fronts-mean : (program : List ℕ) (room bytes : ℕ) (nodes hashes : List ℕ) (done : Progress) (r : Decoded) → ReadMeans (readAll program room bytes) (Progressed.Read done) nodes hashes
+pub fronts-mean : (program : List ℕ) (room bytes : ℕ) (nodes hashes : List ℕ) (done : Progress) (r : Decoded)
+    → ReadMeans (readAll program room bytes) (Progressed.Read done) nodes hashes
     → (n h : ℕ) → n ≡ done .nodes → h ≡ done .hashes → JudgedMeans program (tableOf (take (nodeNumbers * n) nodes) (take h hashes) done) done r
     → DecodedMeans (decode program room bytes) r nodes hashes
 fronts-mean program room bytes nodes hashes done r m n h p q j =

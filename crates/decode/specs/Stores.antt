@@ -72,7 +72,8 @@ StepMeans bits nodes hashes done (Progressed.Refused why) nodes′ hashes′ = (
 -- all nodes that were wanted stand in the stores, or the reason is the wanted one
 abbrev pub ReadMeans : (wanted : Check NodeTable) → Progressed → (nodes hashes : List ℕ) → Type 0
 ReadMeans wanted (Progressed.Read done) nodes hashes =
-    (wanted ≡ passed (tableIn nodes hashes done)) × (1 ≤ done .nodes) × (done .nodes ≤ nodeCount) × (nodeNumbers * done .nodes ≤ length nodes) × (done .hashes ≤ length hashes)
+    (wanted ≡ passed (tableIn nodes hashes done)) × (1 ≤ done .nodes) × (done .nodes ≤ nodeCount)
+    × (nodeNumbers * done .nodes ≤ length nodes) × (done .hashes ≤ length hashes)
 ReadMeans wanted (Progressed.Refused why) nodes hashes = wanted ≡ refused why
 
 -- reading as a whole: 1, then the nodes

@@ -339,7 +339,8 @@ fn read_nodes(
     first: usize,
 ) -> Progressed
     requires { ⌜ (1 ≤ count) × (count ≤ nodeCount) × (nodeNumbers * count ≤ length (now nodes)) ⌝ }
-    ensures { λ r. ⌜ ReadMeans (nodesFrom (streamOf (now (program .entry))) (length (now (hashes .entry))) count 0 [] [] first) r (now (nodes .exit)) (now (hashes .exit)) ⌝ }
+    ensures { λ r. ⌜ ReadMeans (nodesFrom (streamOf (now (program .entry))) (length (now (hashes .entry))) count 0 [] [] first) r
+        (now (nodes .exit)) (now (hashes .exit)) ⌝ }
 {
     let mut done = Progress {
         nodes: 0,
@@ -386,7 +387,8 @@ fn begun(count: NumberRead) -> Progressed
 
 // All nodes, into both stores, of a program that is not too long (1).
 fn read_table(program: &[u8], nodes: &mut [u32], hashes: &mut [u8]) -> Progressed
-    ensures { λ r. ⌜ ReadMeans (readAll (now (program .entry)) (length (now (nodes .entry)) / nodeNumbers) (length (now (hashes .entry)))) r (now (nodes .exit)) (now (hashes .exit)) ⌝ }
+    ensures { λ r. ⌜ ReadMeans (readAll (now (program .entry)) (length (now (nodes .entry)) / nodeNumbers) (length (now (hashes .entry)))) r
+        (now (nodes .exit)) (now (hashes .exit)) ⌝ }
 {
     if limits::DOSSIER_BYTES < program.len() {
         return Progressed::Refused(Refusal::Header(0));
@@ -454,7 +456,8 @@ fn stopped(read: Progressed) -> Decoded
 
 // Reading, walk and closing. The stores hold what was read, and are not cleared yet.
 fn checked_table(program: &[u8], nodes: &mut [u32], hashes: &mut [u8]) -> Decoded
-    ensures { λ r. ⌜ DecodedMeans (decodeAll (now (program .entry)) (length (now (nodes .entry)) / nodeNumbers) (length (now (hashes .entry)))) r (now (nodes .exit)) (now (hashes .exit)) ⌝ }
+    ensures { λ r. ⌜ DecodedMeans (decodeAll (now (program .entry)) (length (now (nodes .entry)) / nodeNumbers) (length (now (hashes .entry)))) r
+        (now (nodes .exit)) (now (hashes .exit)) ⌝ }
 {
     let read = read_table(program, nodes, hashes);
     let Progressed::Read(done) = read else {
@@ -481,7 +484,8 @@ fn sizes_of(answer: Decoded) -> Sizes
 // A program's bytes into the lent stores.
 pub fn decode(program: &[u8], nodes: &mut [u32], hashes: &mut [u8]) -> Decoded
     ensures { λ r. ⌜ left (saidOf r) (now (nodes .exit)) (now (hashes .exit))
-        ≡ leftBy (decodeAll (now (program .entry)) (length (now (nodes .entry)) / nodeNumbers) (length (now (hashes .entry)))) (now (nodes .entry)) (now (hashes .entry)) ⌝ }
+        ≡ leftBy (decodeAll (now (program .entry)) (length (now (nodes .entry)) / nodeNumbers) (length (now (hashes .entry))))
+        (now (nodes .entry)) (now (hashes .entry)) ⌝ }
 {
     let answer = checked_table(program, nodes, hashes);
     let kept = sizes_of(answer);

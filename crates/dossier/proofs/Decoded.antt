@@ -83,7 +83,8 @@ module _ (program : List ℕ) (records bytes : ℕ) (t : NodeTable) (read : deco
       let same : t ≡ layout ns = p .2 in
       let n : length (t .records) ≡ length ns = ap (λ (u : NodeTable). length (u .records)) same ∙ length-records 0 0 (length (codeNatural (length ns))) ns in
       let kept : recordRule (length bits) (length (layout ns .hashes)) (layout ns .records) i ≡ true =
-      records-kept bits (length (hashesOf ns)) (length (codeNatural (length ns))) (length (codeProgram ns)) ns (p .1 .formed .fit) front (omega arith) i (omega arith) in
+      records-kept bits (length (hashesOf ns)) (length (codeNatural (length ns))) (length (codeProgram ns)) ns (p .1 .formed .fit) front
+      (omega arith) i (omega arith) in
       ap₂ (λ (m : ℕ) (u : NodeTable). recordRule m (length (u .hashes)) (u .records) i) (sym long) same ∙ kept
 
   decoded-length : (1 ≤ length (t .records)) × (length (t .records) ≤ nodeCount)
@@ -126,18 +127,21 @@ module _ (d : List ℕ) (records bytes : ℕ) (t : NodeTable) (header : checkHea
       let walk : Check (Unit {0}) = checkWalk (nodesOf (streamOf program) (t .hashes) (t .records)) in
       let fits : Check (Unit {0}) = require (leb (length program) dossierBytes) (Header 0) in
       rw (records-back (t .records))
-      (then-passes (counted (length (t .records)) nodeCount) (λ some. counted (length (typeRecords types)) typeCount >>= λ some. checkRecords program (t .hashes) (t .records)
+      (then-passes (counted (length (t .records)) nodeCount)
+      (λ some. counted (length (typeRecords types)) typeCount >>= λ some. checkRecords program (t .hashes) (t .records)
       >>= λ kept. fits >>= λ fitting. checkTypes (typeRecords types) >>= λ typed. walk) tt (nodes-counted program records bytes t read)
       ∙ then-passes (counted (length (typeRecords types)) typeCount) (λ some. checkRecords program (t .hashes) (t .records)
       >>= λ kept. fits >>= λ fitting. checkTypes (typeRecords types) >>= λ typed. walk) tt (types-counted d header)
-      ∙ then-passes (checkRecords program (t .hashes) (t .records)) (λ kept. fits >>= λ fitting. checkTypes (typeRecords types) >>= λ typed. walk) tt (records-hold program records bytes t read)
+      ∙ then-passes (checkRecords program (t .hashes) (t .records))
+      (λ kept. fits >>= λ fitting. checkTypes (typeRecords types) >>= λ typed. walk) tt (records-hold program records bytes t read)
       ∙ then-passes fits (λ fitting. checkTypes (typeRecords types) >>= λ typed. walk) tt (program-fits program records bytes t read)
       ∙ then-passes (checkTypes (typeRecords types)) (λ typed. walk) tt typed
       ∙ walk-holds program records bytes t read)
 
   -- lent, they are the dossier's own
   pub lent-own : (given witness : List ℕ) (witnessBits : ℕ) (input : List ℕ) (inputBits : ℕ)
-      → tablesLent (section d sTypes) (nodeNumbersOf (t .records)) (section d sArrows) (section d sProgram) (t .hashes) given witness witnessBits input inputBits
+      → tablesLent (section d sTypes) (nodeNumbersOf (t .records)) (section d sArrows) (section d sProgram)
+      (t .hashes) given witness witnessBits input inputBits
       ≡ record {
         types = typeRecords (section d sTypes);
         nodes = nodesOf (streamOf (section d sProgram)) (t .hashes) (t .records);
@@ -157,11 +161,13 @@ module _ (d : List ℕ) (records bytes : ℕ) (t : NodeTable) (header : checkHea
   unfolding hashStage tablesOf checkTables
   stage-hashes =
       then-passes (lentTables (section d sTypes) (nodeNumbersOf (t .records)) (section d sProgram) (t .hashes))
-      (λ tables. checkTables (tablesLent (section d sTypes) (nodeNumbersOf (t .records)) (section d sArrows) (section d sProgram) (t .hashes) (section d sHashes) [] 0 [] 0)) tt decoded-lent
+      (λ tables. checkTables (tablesLent (section d sTypes) (nodeNumbersOf (t .records)) (section d sArrows) (section d sProgram)
+      (t .hashes) (section d sHashes) [] 0 [] 0)) tt decoded-lent
       ∙ ap checkTables (lent-own (section d sHashes) [] 0 [] 0)
 
   pub stage-own : (cells frames answer : List ℕ)
-      → runStage (section d sTypes) (nodeNumbersOf (t .records)) (section d sArrows) (section d sProgram) (t .hashes) (section d sHashes) (section d sWitness) (count d sWitness)
+      → runStage (section d sTypes) (nodeNumbersOf (t .records)) (section d sArrows) (section d sProgram) (t .hashes) (section d sHashes)
+      (section d sWitness) (count d sWitness)
       (section d sInput) (count d sInput) cells frames answer
       ≡ stage (checkTables (tablesOf d t)) (tablesOf d t) cells frames answer
   unfolding runStage tablesOf

@@ -71,12 +71,14 @@ promised κs a r x p = p
 module _ (d nodes hashes cells frames answer : List ℕ) (r : Answer) (nodes′ hashes′ cells′ frames′ answer′ : List ℕ)
     (promise : Promise d nodes hashes cells frames answer r nodes′ hashes′ cells′ frames′ answer′) where
   -- DEMAND 1. The end has no second: another answer, or other stores left, break the promise.
-  pub one-end : (q : Answer) (nodes″ hashes″ cells″ frames″ answer″ : List ℕ) → Promise d nodes hashes cells frames answer q nodes″ hashes″ cells″ frames″ answer″
+  pub one-end : (q : Answer) (nodes″ hashes″ cells″ frames″ answer″ : List ℕ)
+      → Promise d nodes hashes cells frames answer q nodes″ hashes″ cells″ frames″ answer″
       → endedWith r nodes′ hashes′ cells′ frames′ answer′ ≡ endedWith q nodes″ hashes″ cells″ frames″ answer″
   one-end q nodes″ hashes″ cells″ frames″ answer″ other = promise ∙ sym other
 
-  -- DEMAND 2, of the whole call. The answer comes from a run, an output or 18 or 19, exactly if the dossier keeps the rules: its program section is the report's code
-  -- of a table in canonical order, its types and hashes keep theirs, its arrows are the report's typing, it is within the limits, and values and stores fit.
+  -- DEMAND 2, of the whole call. The answer comes from a run, an output or 18 or 19, exactly if the dossier keeps the rules: its program
+  -- section is the report's code of a table in canonical order, its types and hashes keep theirs, its arrows are the report's typing, it is
+  -- within the limits, and values and stores fit.
   pub run-exactly : FromRun r ↔ Acceptable d nodes hashes cells frames answer
   unfolding endedWith
   run-exactly =
@@ -142,11 +144,13 @@ module _ (d nodes hashes cells frames answer : List ℕ) (r : Answer) (nodes′ 
       frames-left = ap (λ (e : Ended). e .frames) promise ∙ Theorems.job-clears-frames d nodes hashes cells frames answer t R passes ready
 
       -- The cells are those that the machine's rules left, and from the bound on as they were.
-      pub cells-left : CellsLeft (machine (wholeCells (R .program)) (wholeFrames (R .program)) (whole (R .program)) (wholeSource (R .program)) (wholeTarget (R .program)) (R .input) (cellsOf cells))
+      pub cells-left : CellsLeft (machine (wholeCells (R .program)) (wholeFrames (R .program)) (whole (R .program))
+          (wholeSource (R .program)) (wholeTarget (R .program)) (R .input) (cellsOf cells))
           (wholeCells (R .program)) cells cells′
       unfolding endedWith
       cells-left =
-          subst (CellsLeft _ (wholeCells (R .program)) cells) (sym (ap (λ (e : Ended). e .cells) promise)) (Theorems.job-leaves-cells d nodes hashes cells frames answer t R passes ready)
+          subst (CellsLeft _ (wholeCells (R .program)) cells) (sym (ap (λ (e : Ended). e .cells) promise))
+          (Theorems.job-leaves-cells d nodes hashes cells frames answer t R passes ready)
 
       -- The program's tables keep every rule that the checks ask for (`Sound`; by `node-typed` each shown node's term then has its arrow's type),
       -- and its input is a value of its source.
@@ -154,32 +158,39 @@ module _ (d nodes hashes cells frames answer : List ℕ) (r : Answer) (nodes′ 
       program-sound = Theorems.dossier-sound d nodes hashes cells frames answer t R passes ready
 
       -- the dossier's tables, as they are lent
-      lent-ready : checkReady (tablesLent (section d sTypes) (nodeNumbersOf (t .records)) (section d sArrows) (section d sProgram) (t .hashes) (section d sHashes) (section d sWitness) (count d sWitness)
+      lent-ready : checkReady (tablesLent (section d sTypes) (nodeNumbersOf (t .records)) (section d sArrows) (section d sProgram)
+          (t .hashes) (section d sHashes) (section d sWitness) (count d sWitness)
           (section d sInput) (count d sInput)) cells frames answer ≡ passed R
       lent-ready = ap (λ (T : Tables). checkReady T cells frames answer) (sym (own-tables d nodes hashes t passes)) ∙ ready
 
       -- DEMAND 3. With stores of just the computed size the run is never stuck, whatever the cells held.
-      pub never-stuck : machine (wholeCells (R .program)) (wholeFrames (R .program)) (whole (R .program)) (wholeSource (R .program)) (wholeTarget (R .program)) (R .input) (cellsOf cells)
+      pub never-stuck : machine (wholeCells (R .program)) (wholeFrames (R .program)) (whole (R .program)) (wholeSource (R .program))
+          (wholeTarget (R .program)) (R .input) (cellsOf cells)
           ≡ stuck → ⊥
       never-stuck = Theorems.never-stuck (R .program) (program-sound .0) (R .input) (program-sound .1) (cellsOf cells)
 
-      -- AT EVERY NODE THAT THE RUN ENTERS: the engine's own function, lent the decoded table, the sections, node i and the layout of the state s in which the run enters it.
+      -- AT EVERY NODE THAT THE RUN ENTERS: the engine's own function, lent the decoded table, the sections, node i and the layout of the
+      -- state s in which the run enters it.
       module _ (i : ℕ) (s : State) (entered : Entered (R .program) (R .input) (cellsOf cells) i s) (κs : Lfts 3) (a : Visits.Args κs)
-          (lends : Visits.LendsRun κs a (section d sTypes) (nodeNumbersOf (t .records)) (section d sArrows) (section d sProgram) (t .hashes) (section d sHashes) (section d sWitness) (count d sWitness))
+          (lends : Visits.LendsRun κs a (section d sTypes) (nodeNumbersOf (t .records)) (section d sArrows) (section d sProgram) (t .hashes)
+          (section d sHashes) (section d sWitness) (count d sWitness))
           (node : Visits.nodeIn κs a ≡ i) (holds : Visits.machineIn κs a ≡ layout (8 * bytesFor (wholeCells (R .program))) (wholeFrames (R .program)) s) where
         -- What it asks for holds there.
         pub node-asks : Visits.Pre κs a
         node-asks =
-            Visits.visit-asks (section d sTypes) (nodeNumbersOf (t .records)) (section d sArrows) (section d sProgram) (t .hashes) (section d sHashes) (section d sWitness) (count d sWitness)
+            Visits.visit-asks (section d sTypes) (nodeNumbersOf (t .records)) (section d sArrows) (section d sProgram) (t .hashes)
+            (section d sHashes) (section d sWitness) (count d sWitness)
             (section d sInput) (count d sInput) (own-stage d nodes hashes t passes) cells frames answer R lent-ready i s entered κs a lends node holds
 
-        -- By its own promise it ends in the layout of a state in which the target's cells hold what the node means of the value that it reads, the write cursor is on by the
-        -- target's width, the read cursor is back, and every other frame's cells and record are as they were; or it stops where the meaning stops.
+        -- By its own promise it ends in the layout of a state in which the target's cells hold what the node means of the value that it
+        -- reads, the write cursor is on by the target's width, the read cursor is back, and every other frame's cells and record are as
+        -- they were; or it stops where the meaning stops.
         pub node-means : (q : Visits.Result κs) (x : Visits.Exit κs) → Visits.Post κs a q x
             → (e : Step) × (Visits.outcome κs q x ≡ laidOut (8 * bytesFor (wholeCells (R .program))) (wholeFrames (R .program)) e)
             × NodeEnds (targetTy (R .program) i) s (eval (termAt (R .program) i) (valueAt (sourceTy (R .program) i) (s .cells) (cursorOf (s .reads)))) e
         node-means =
-            Visits.visit-ends (section d sTypes) (nodeNumbersOf (t .records)) (section d sArrows) (section d sProgram) (t .hashes) (section d sHashes) (section d sWitness) (count d sWitness)
+            Visits.visit-ends (section d sTypes) (nodeNumbersOf (t .records)) (section d sArrows) (section d sProgram) (t .hashes)
+            (section d sHashes) (section d sWitness) (count d sWitness)
             (section d sInput) (count d sInput) (own-stage d nodes hashes t passes) cells frames answer R lent-ready i s entered κs a lends node holds
 
       -- It visits at most cost / 100 + 1 nodes.
@@ -192,13 +203,17 @@ pub old-stores : (d nodes hashes cells frames answer : List ℕ) (r : Answer) (n
     → Promise d nodes hashes cells frames answer r nodes′ hashes′ cells′ frames′ answer′
     → (nodesB hashesB cellsB framesB answerB : List ℕ) (q : Answer) (nodes″ hashes″ cells″ frames″ answer″ : List ℕ)
     → Promise d nodesB hashesB cellsB framesB answerB q nodes″ hashes″ cells″ frames″ answer″
-    → length nodes ≡ length nodesB → length hashes ≡ length hashesB → length cells ≡ length cellsB → length frames ≡ length framesB → length answer ≡ length answerB
+    → length nodes ≡ length nodesB → length hashes ≡ length hashesB → length cells ≡ length cellsB → length frames ≡ length framesB
+    → length answer ≡ length answerB
     → (r ≡ q) × (outputBytes r answer′ ≡ outputBytes q answer″)
 unfolding endedWith
-old-stores d nodes hashes cells frames answer r nodes′ hashes′ cells′ frames′ answer′ promise nodesB hashesB cellsB framesB answerB q nodes″ hashes″ cells″ frames″ answer″ other n h c f a =
+old-stores d nodes hashes cells frames answer r nodes′ hashes′ cells′ frames′ answer′ promise nodesB hashesB cellsB framesB answerB q nodes″
+    hashes″ cells″ frames″ answer″ other n h c f a =
     let held : Ended → List ℕ = λ e. outputBytes (e .says) (e .answer) in (
       ap (λ (e : Ended). e .says) promise
           ∙ Theorems.old-stores-change-nothing d nodes nodesB hashes hashesB cells cellsB frames framesB answer answerB n h c f a
           ∙ sym (ap (λ (e : Ended). e .says) other),
-      ap held promise ∙ Theorems.old-stores-change-no-bit d nodes nodesB hashes hashesB cells cellsB frames framesB answer answerB n h c f a ∙ sym (ap held other),
+      ap held promise
+          ∙ Theorems.old-stores-change-no-bit d nodes nodesB hashes hashesB cells cellsB frames framesB answer answerB n h c f a
+          ∙ sym (ap held other),
     )

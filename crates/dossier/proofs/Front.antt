@@ -30,5 +30,7 @@ module _ (d : List ℕ) (header : Checked) (checks : checkOf header ≡ checkHea
   unfolding front countedTypes
   front-types e typed h =
       let right : checkHeader d ≡ passed tt = sym checks ∙ ap checkOf e in
-      h ∙ then-passes (counted (length (typeRecords (section d sTypes))) typeCount) (λ some. checkTypes (typeRecords (section d sTypes))) tt (types-counted d right)
+      h
+      ∙ then-passes (counted (length (typeRecords (section d sTypes))) typeCount)
+      (λ some. checkTypes (typeRecords (section d sTypes))) tt (types-counted d right)
       ∙ sym (then-passes (checkHeader d) (λ header. checkTypes (typeRecords (section d sTypes))) tt right)

@@ -81,7 +81,8 @@ module _ (d nodes hashes cells frames answer : List ℕ) where
       nodes-fit =
           let p = decoded-is-program (section d sProgram) (length nodes / nodeNumbers) (length hashes) t decodes in
           let ns : List Node = p .0 in
-          let n : length (t .records) ≡ length ns = ap (λ (u : NodeTable). length (u .records)) (p .2) ∙ length-records 0 0 (length (codeNatural (length ns))) ns in
+          let n : length (t .records) ≡ length ns =
+          ap (λ (u : NodeTable). length (u .records)) (p .2) ∙ length-records 0 0 (length (codeNatural (length ns))) ns in
           length-filled (nodeNumbersOf (t .records)) nodes (omega (arith, length-numbers (t .records), p .1 .records-fit))
 
       pub hashes-fit : length (filled (t .hashes) hashes) ≡ length hashes
@@ -94,7 +95,8 @@ module _ (d nodes hashes cells frames answer : List ℕ) where
       -- the end of a job whose program was decoded, by how its run stage ended
       abbrev pub jobEnd : Left → Ended
       jobEnd left =
-          endedWith (left .says) (settled (left .says) (filled (nodeNumbersOf (t .records)) nodes)) (settled (left .says) (filled (t .hashes) hashes)) (left .cells) (left .frames) (left .answer)
+          endedWith (left .says) (settled (left .says) (filled (nodeNumbersOf (t .records)) nodes))
+          (settled (left .says) (filled (t .hashes) hashes)) (left .cells) (left .frames) (left .answer)
 
       tables-checked : (c : Check (Unit {0})) → checkTables (tablesOf d t) ≡ c → checkDossier d nodes hashes ≡ (c >>= λ tables. passed t)
       unfolding _>>=_
@@ -103,15 +105,18 @@ module _ (d nodes hashes cells frames answer : List ℕ) where
           ∙ ap (λ (c : Check (Unit {0})). c >>= λ tables. passed t) e
 
       -- 11 to 13 leave no table
-      job-tables : (r : Refusal) → checkTables (tablesOf d t) ≡ refused r → jobEnd (leftWith (Refused r) cells frames answer) ≡ run d nodes hashes cells frames answer
+      job-tables : (r : Refusal) → checkTables (tablesOf d t) ≡ refused r
+          → jobEnd (leftWith (Refused r) cells frames answer) ≡ run d nodes hashes cells frames answer
       unfolding settled leftWith _>>=_
       job-tables r q =
           let clears : keeps (Refused r) ≡ false = tables-refuse (tablesOf d t) r q in
           rw (clears, settled)
-          (ap₂ (λ (n h : ℕ). endedWith (Refused r) (zeros n) (zeros h) cells frames answer) nodes-fit hashes-fit ∙ dossier-refused r (tables-checked (refused r) q))
+          (ap₂ (λ (n h : ℕ). endedWith (Refused r) (zeros n) (zeros h) cells frames answer) nodes-fit hashes-fit
+          ∙ dossier-refused r (tables-checked (refused r) q))
 
       -- an output, or 14 to 19, keeps it
-      job-kept : {x : Unit {0}} → checkTables (tablesOf d t) ≡ passed x → jobEnd (runTables (tablesOf d t) cells frames answer) ≡ run d nodes hashes cells frames answer
+      job-kept : {x : Unit {0}} → checkTables (tablesOf d t) ≡ passed x
+          → jobEnd (runTables (tablesOf d t) cells frames answer) ≡ run d nodes hashes cells frames answer
       unfolding run settled _>>=_
       job-kept q =
           let left : Left = runTables (tablesOf d t) cells frames answer in
@@ -119,10 +124,12 @@ module _ (d nodes hashes cells frames answer : List ℕ) where
           let e : checkDossier d nodes hashes ≡ passed t = tables-checked (passed tt) q in
           rw (stays, settled) (rw (e, run))
 
-      pub job-ran : (left : Left) → left ≡ stage (checkTables (tablesOf d t)) (tablesOf d t) cells frames answer → jobEnd left ≡ run d nodes hashes cells frames answer
+      pub job-ran : (left : Left) → left ≡ stage (checkTables (tablesOf d t)) (tablesOf d t) cells frames answer
+          → jobEnd left ≡ run d nodes hashes cells frames answer
       job-ran left e = ap jobEnd e ∙ go (checkTables (tablesOf d t)) refl
         where
-          go : (c : Check (Unit {0})) → checkTables (tablesOf d t) ≡ c → jobEnd (stage c (tablesOf d t) cells frames answer) ≡ run d nodes hashes cells frames answer
+          go : (c : Check (Unit {0})) → checkTables (tablesOf d t) ≡ c
+              → jobEnd (stage c (tablesOf d t) cells frames answer) ≡ run d nodes hashes cells frames answer
           go (passed x) q = job-kept q
           go (refused r) q = job-tables r q
 
@@ -137,7 +144,8 @@ pub dossier-parts : (d nodes hashes : List ℕ) (t : NodeTable) → checkDossier
 unfolding checkDossier
 dossier-parts d nodes hashes t e =
     let reads : Check NodeTable = decode (section d sProgram) (length nodes / nodeNumbers) (length hashes) in
-    let a = both-passed (checkHeader d) (λ header. checkTypes (typeRecords (section d sTypes)) >>= λ types. reads >>= λ t. checkTables (tablesOf d t) >>= λ tables. passed t) t e in
+    let a = both-passed (checkHeader d)
+    (λ header. checkTypes (typeRecords (section d sTypes)) >>= λ types. reads >>= λ t. checkTables (tablesOf d t) >>= λ tables. passed t) t e in
     let b = both-passed (checkTypes (typeRecords (section d sTypes))) (λ types. reads >>= λ t. checkTables (tablesOf d t) >>= λ tables. passed t) t (a .2) in
     let c = both-passed reads (λ t. checkTables (tablesOf d t) >>= λ tables. passed t) t (b .2) in
     let f = both-passed (checkTables (tablesOf d (c .0))) (λ tables. passed (c .0)) t (c .2) in
@@ -157,8 +165,10 @@ module _ (d nodes hashes : List ℕ) (t : NodeTable) (passes : checkDossier d no
       stage-hashes d (length nodes / nodeNumbers) (length hashes) t (p .header) (p .types) (p .decodes) ∙ p .tables
 
   pub own-tables : tablesOf d t
-      ≡ tablesLent (section d sTypes) (nodeNumbersOf (t .records)) (section d sArrows) (section d sProgram) (t .hashes) (section d sHashes) (section d sWitness) (count d sWitness) (section d sInput) (count d sInput)
+      ≡ tablesLent (section d sTypes) (nodeNumbersOf (t .records)) (section d sArrows) (section d sProgram) (t .hashes) (section d sHashes)
+      (section d sWitness) (count d sWitness) (section d sInput) (count d sInput)
   unfolding tablesOf
   own-tables =
       let p = dossier-parts d nodes hashes t passes in
-      sym (lent-own d (length nodes / nodeNumbers) (length hashes) t (p .header) (p .types) (p .decodes) (section d sHashes) (section d sWitness) (count d sWitness) (section d sInput) (count d sInput))
+      sym (lent-own d (length nodes / nodeNumbers) (length hashes) t (p .header) (p .types) (p .decodes) (section d sHashes)
+      (section d sWitness) (count d sWitness) (section d sInput) (count d sInput))

@@ -44,7 +44,8 @@ sections-run d nodes hashes cells frames answer types arrows program given witne
 
 module _ (d nodes hashes cells frames answer : List ℕ) (checked : Checked) (checks : checkOf checked ≡ front d) where
   -- 1 or 2: both stores are cleared
-  pub ends-front : (why : Refusal) → checked ≡ Checked.Refused why → (said : Answer) → said ≡ answerOf checked → (n h : List ℕ) → n ≡ cleared nodes 0 → h ≡ cleared hashes 0
+  pub ends-front : (why : Refusal) → checked ≡ Checked.Refused why → (said : Answer) → said ≡ answerOf checked → (n h : List ℕ)
+      → n ≡ cleared nodes 0 → h ≡ cleared hashes 0
       → endedWith said n h cells frames answer ≡ run d nodes hashes cells frames answer
   ends-front why e said q n h cn ch =
       ap₂ (λ (n h : List ℕ). endedWith said n h cells frames answer) (cn ∙ all-cleared nodes) (ch ∙ all-cleared hashes)
@@ -64,7 +65,8 @@ module _ (d nodes hashes cells frames answer : List ℕ) (checked : Checked) (ch
     decodes-own = decodes ∙ ap (λ (p : List ℕ). leftBy (Closing.decode p (length nodes / nodeNumbers) (length hashes)) nodes hashes) is
 
     -- 3 to 10
-    pub ends-undecoded : (why : Refusal) → r ≡ Decoded.Refused why → (said : Answer) → said ≡ undecodedOf r → endedWith said n h cells frames answer ≡ run d nodes hashes cells frames answer
+    pub ends-undecoded : (why : Refusal) → r ≡ Decoded.Refused why → (said : Answer) → said ≡ undecodedOf r
+        → endedWith said n h cells frames answer ≡ run d nodes hashes cells frames answer
     unfolding leftBy tableSizes nodesLeft hashesLeft
     ends-undecoded why e said q = go read refl
       where
@@ -104,7 +106,8 @@ module _ (d nodes hashes cells frames answer : List ℕ) (checked : Checked) (ch
           go (refused w) f = clash (let y = ap (λ (l : Stores.Left). l .says) (left-by (refused w) f) in cc)
           go (passed t) f =
               let x = left-by (passed t) f in
-              let says : _≡_ {A = Check Sizes} (passed sizes) (passed (record { nodes = length (t .records); hashes = length (t .hashes) })) = ap (λ (l : Stores.Left). l .says) x in
+              let says : _≡_ {A = Check Sizes} (passed sizes) (passed (record { nodes = length (t .records); hashes = length (t .hashes) })) =
+              ap (λ (l : Stores.Left). l .says) x in
               let same : sizes ≡ record { nodes = length (t .records); hashes = length (t .hashes) } = cc in
               let count : sizes .nodes ≡ length (t .records) = ap (λ (s : Sizes). s .nodes) same in (
                 t,
@@ -134,7 +137,8 @@ module _ (d nodes hashes cells frames answer : List ℕ) (checked : Checked) (ch
       front-is numbers store begun k e f = ap (take k) f ∙ take-at numbers (zeros (length store - length numbers)) k (sym e)
 
       -- 11 to 19, or an output: the stores are settled by what the run stage answered
-      pub ends-settled : (said : Answer) (c f a : List ℕ) → leftWith said c f a ≡ sectionsRun d (take (nodeNumbers * sizes .nodes) n) (take (sizes .hashes) h) cells frames answer
+      pub ends-settled : (said : Answer) (c f a : List ℕ)
+          → leftWith said c f a ≡ sectionsRun d (take (nodeNumbers * sizes .nodes) n) (take (sizes .hashes) h) cells frames answer
           → (n′ h′ : List ℕ) → n′ ≡ settled said n → h′ ≡ settled said h → endedWith said n′ h′ c f a ≡ run d nodes hashes cells frames answer
       unfolding sectionsRun leftWith front
       ends-settled said c f a e n′ h′ en eh =

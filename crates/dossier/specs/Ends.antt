@@ -42,5 +42,6 @@ undecodedOf (Undecoded why) = Refused why
 unfoldable pub sectionsRun : (dossier nodes hashes cells frames answer : List ℕ) → Left
 unfolding section count runStage
 sectionsRun d nodes hashes cells frames answer =
-    runStage (section d sTypes) nodes (section d sArrows) (section d sProgram) hashes (section d sHashes) (section d sWitness) (count d sWitness) (section d sInput) (count d sInput)
+    runStage (section d sTypes) nodes (section d sArrows) (section d sProgram) hashes (section d sHashes) (section d sWitness)
+    (count d sWitness) (section d sInput) (count d sInput)
     cells frames answer

@@ -348,6 +348,7 @@ module _ (types : List TypeRecord) (pass : TypesPass types) (nodes : List Node) 
   typed-arrows h =
       then-passes (two-children types nodes arrows) (λ whole. one-each types nodes arrows >>= λ count. each-rule types nodes arrows) tt
       (holds-each (length nodes) (noOneChild types nodes arrows) OneChildDisconnect (λ i l. typed-two nodes _ _ (nodeAt nodes i) _ _ (h .typed i l)))
-      ∙ then-passes (one-each types nodes arrows) (λ count. each-rule types nodes arrows) tt (holds-require _ _ (eq-eqb (length arrows) (length nodes) (h .one-each)))
+      ∙ then-passes (one-each types nodes arrows) (λ count. each-rule types nodes arrows) tt
+      (holds-require _ _ (eq-eqb (length arrows) (length nodes) (h .one-each)))
       ∙ holds-each (length nodes) (arrowRule types nodes arrows) BadArrow
       (λ i l. typed-arrow types pass nodes arrows i (below i l) (λ j m. h .in-range j (omega arith)) (h .in-range i l) (h .typed i l))

@@ -31,7 +31,8 @@ use Rattle.analysis.specs.declared.BoundsAnswer.the-variants as BoundsAnswer
 use Rattle.exports.specs.Codes.{answerCode, answerTold, judged, judgedBy, Decoding, decoding, decodingBy, bounding, boundingBy, staged, stagedBy, finished, finishedBy, read, faultCode, readBy}
 
 -- a stage that checks
-pub check-told : (x : Checked) (c : Check (Unit {0})) → checkOf x ≡ c → (said : Answer) → said ≡ answerOf x → (code place : ℕ) → code ≡ answerCode said → place ≡ answerTold said
+pub check-told : (x : Checked) (c : Check (Unit {0})) → checkOf x ≡ c → (said : Answer) → said ≡ answerOf x → (code place : ℕ)
+    → code ≡ answerCode said → place ≡ answerTold said
     → judged code place ≡ judgedBy c
 unfolding judgedBy
 check-told x c e said q code place ec ep =
@@ -47,19 +48,24 @@ module _ (r : Decoded) (c : Check NodeTable) (n h nodes hashes : List ℕ) (left
   unfolding decodingBy leftBy tableSizes
   table-told sizes e = go c (ap (λ (r : Decoded). Stores.left (saidOf r) n h) (sym e) ∙ left)
     where
-      go : (c : Check NodeTable) → Stores.left (passed sizes) n h ≡ leftBy c nodes hashes → decoding 0 (sizes .nodes) (sizes .hashes) n h ≡ decodingBy c nodes hashes
+      go : (c : Check NodeTable) → Stores.left (passed sizes) n h ≡ leftBy c nodes hashes
+          → decoding 0 (sizes .nodes) (sizes .hashes) n h ≡ decodingBy c nodes hashes
       go (refused w) f = clash (let y = ap (λ (l : Stores.Left). l .says) f in cc)
       go (passed t) f =
-          let says : _≡_ {A = Check Sizes} (passed sizes) (passed (record { nodes = length (t .records); hashes = length (t .hashes) })) = ap (λ (l : Stores.Left). l .says) f in
+          let says : _≡_ {A = Check Sizes} (passed sizes) (passed (record { nodes = length (t .records); hashes = length (t .hashes) })) =
+          ap (λ (l : Stores.Left). l .says) f in
           let same : sizes ≡ record { nodes = length (t .records); hashes = length (t .hashes) } = cc in
           ap (λ (s : Sizes). decoding 0 (s .nodes) (s .hashes) n h) same
-          ∙ ap₂ (λ (n h : List ℕ). decoding 0 (length (t .records)) (length (t .hashes)) n h) (ap (λ (l : Stores.Left). l .nodes) f) (ap (λ (l : Stores.Left). l .hashes) f)
+          ∙ ap₂ (λ (n h : List ℕ). decoding 0 (length (t .records)) (length (t .hashes)) n h) (ap (λ (l : Stores.Left). l .nodes) f)
+          (ap (λ (l : Stores.Left). l .hashes) f)
 
-  pub refusal-told : (why : Refusal) → r ≡ Decoded.Refused why → (code place : ℕ) → code ≡ numberOf why → place ≡ placeOf why → decoding code place 0 n h ≡ decodingBy c nodes hashes
+  pub refusal-told : (why : Refusal) → r ≡ Decoded.Refused why → (code place : ℕ) → code ≡ numberOf why → place ≡ placeOf why
+      → decoding code place 0 n h ≡ decodingBy c nodes hashes
   unfolding decodingBy leftBy tableSizes
   refusal-told why e code place ec ep = ap₂ (λ (x y : ℕ). decoding x y 0 n h) ec ep ∙ go c (ap (λ (r : Decoded). Stores.left (saidOf r) n h) (sym e) ∙ left)
     where
-      go : (c : Check NodeTable) → Stores.left (refused why) n h ≡ leftBy c nodes hashes → decoding (numberOf why) (placeOf why) 0 n h ≡ decodingBy c nodes hashes
+      go : (c : Check NodeTable) → Stores.left (refused why) n h ≡ leftBy c nodes hashes
+          → decoding (numberOf why) (placeOf why) 0 n h ≡ decodingBy c nodes hashes
       go (passed t) f = clash (let y = ap (λ (l : Stores.Left). l .says) f in cc)
       go (refused w) f =
           let says : _≡_ {A = Check Sizes} (refused why) (refused w) = ap (λ (l : Stores.Left). l .says) f in
@@ -73,7 +79,8 @@ module _ (r : BoundsAnswer) (c : Check Bound) (e : boundedOf r ≡ c) where
   unfolding boundingBy
   bounds-told cells frames cost q = ap boundingBy (ap boundedOf (sym q) ∙ e)
 
-  pub unbounded-told : (why : Refusal) → r ≡ BoundsAnswer.Refused why → (code place : ℕ) → code ≡ numberOf why → place ≡ placeOf why → bounding code place 0 0 ≡ boundingBy c
+  pub unbounded-told : (why : Refusal) → r ≡ BoundsAnswer.Refused why → (code place : ℕ) → code ≡ numberOf why → place ≡ placeOf why
+      → bounding code place 0 0 ≡ boundingBy c
   unfolding boundingBy
   unbounded-told why q code place ec ep = ap₂ (λ (x y : ℕ). bounding x y 0 0) ec ep ∙ ap boundingBy (ap boundedOf (sym q) ∙ e)
 

@@ -61,7 +61,8 @@ pub extern "C" fn drevaloci_run(
     place: &mut u32,
 ) -> u32
     ensures { λ r. ⌜ finished r (now (place .exit)) (now (nodes .exit)) (now (hashes .exit)) (now (cells .exit)) (now (frames .exit)) (now (answer .exit))
-        ≡ finishedBy (run (now (dossier .entry)) (now (nodes .entry)) (now (hashes .entry)) (now (cells .entry)) (now (frames .entry)) (now (answer .entry))) ⌝ }
+        ≡ finishedBy (run (now (dossier .entry)) (now (nodes .entry)) (now (hashes .entry)) (now (cells .entry)) (now (frames .entry))
+        (now (answer .entry))) ⌝ }
 {
     let said = dossier::run(dossier, nodes, hashes, cells, frames, answer);
     *place = answer_told(said);
@@ -78,7 +79,8 @@ pub extern "C" fn drevaloci_decode(
     bytes: &mut u32,
 ) -> u32
     ensures { λ r. ⌜ decoding r (now (place .exit)) (now (bytes .exit)) (now (nodes .exit)) (now (hashes .exit))
-        ≡ decodingBy (decode (now (program .entry)) (length (now (nodes .entry)) / nodeNumbers) (length (now (hashes .entry)))) (now (nodes .entry)) (now (hashes .entry)) ⌝ }
+        ≡ decodingBy (decode (now (program .entry)) (length (now (nodes .entry)) / nodeNumbers) (length (now (hashes .entry))))
+        (now (nodes .entry)) (now (hashes .entry)) ⌝ }
 {
     let said = decode::decode(program, nodes, hashes);
     match said {
@@ -140,7 +142,8 @@ pub extern "C" fn drevaloci_hashes(
     place: &mut u32,
 ) -> u32
     ensures { λ r. ⌜ judged r (now (place .exit))
-        ≡ judgedBy (hashStage (now (types .entry)) (now (nodes .entry)) (now (arrows .entry)) (now (program .entry)) (now (hashes .entry)) (now (given .entry))) ⌝ }
+        ≡ judgedBy (hashStage (now (types .entry)) (now (nodes .entry)) (now (arrows .entry)) (now (program .entry)) (now (hashes .entry))
+        (now (given .entry))) ⌝ }
 {
     let said = common::answer_of(stages::hash_stage(types, nodes, arrows, program, hashes, given));
     *place = answer_told(said);

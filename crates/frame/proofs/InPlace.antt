@@ -1,4 +1,5 @@
--- What the walks of the moves in place share: the machine value of a frame, that its cursor and its start fit, and the frame with another cursor, which fits too.
+-- What the walks of the moves in place share: the machine value of a frame, that its cursor and its start fit, and the frame with another
+-- cursor, which fits too.
 use mathlib.Core.Path.{refl}
 use mathlib.Core.List.{[], _∷_}
 use Prim.Native.Nat.{ℕ, _<_, _^_}
@@ -27,4 +28,5 @@ module _ (h : Frame) (was : Is T.the-row h (LL.vals T.the-type T′.the-laws h))
   start-fits = LL.owed T.the-type T′.the-laws h (LL.vals T.the-type T′.the-laws h) was .1 .0 .1
 
   pub cursor-made : (c : ℕ) → c < 2 ^ 32 → Is T.the-row (withCursor c h) (machineValue (withCursor c h) ∷ [])
-  cursor-made c fits = LL.owes T.the-type T′.the-laws (withCursor c h) ((refl, fits), LL.owed T.the-type T′.the-laws h (LL.vals T.the-type T′.the-laws h) was .1)
+  cursor-made c fits =
+      LL.owes T.the-type T′.the-laws (withCursor c h) ((refl, fits), LL.owed T.the-type T′.the-laws h (LL.vals T.the-type T′.the-laws h) was .1)

@@ -62,7 +62,8 @@ OneMove 𝓤 clause moved left other = (clause ≡ fact 𝓤 (frameOf left ≡ m
 -- whatever model the clauses are read in
 module _ {M : Type 1} (𝓤 : URA M) (H : Heap 𝓤) (A : Atoms 𝓤) (at-mem : Memory → SProp 𝓤) (run : Routine → Fun 𝓤) (κs : Lfts 1) where
   pub forward : (a : Args forward-call.signature κs) (x y : AtExit forward-call.ended κs)
-      → OneMove 𝓤 (forward-call.clauses 𝓤 H A at-mem run κs a .ensures tt tt x) (held (Machine.forward (a .1 .0) (frameOf (now (a .0))))) (now (x .0)) (now (y .0))
+      → OneMove 𝓤 (forward-call.clauses 𝓤 H A at-mem run κs a .ensures tt tt x) (held (Machine.forward (a .1 .0) (frameOf (now (a .0)))))
+      (now (x .0)) (now (y .0))
   forward a x y = (refl, λ p q. told (now (x .0)) (now (y .0)) (p ∙ sym q))
 
   pub backward : (a : Args backward-call.signature κs) (x y : AtExit backward-call.ended κs)

@@ -57,7 +57,8 @@ put-first (suc n) ns (suc k) f l h =
     let g : frameNumbers + (frameNumbers * k + frameNumbers) ≡ frameNumbers * suc k + frameNumbers = omega arith in
     ap₂ (λ (a b : List ℕ). a ++ b) (numbers-back ns (omega arith))
     (put-first n (drop frameNumbers ns) k f (omega arith) (omega (arith, length-drop frameNumbers ns))
-    ∙ ap (λ (r : List ℕ). take (frameNumbers * k) (drop frameNumbers ns) ++ frameNumbersOf f ++ r) (drop-drop (frameNumbers * k + frameNumbers) frameNumbers ns))
+    ∙ ap (λ (r : List ℕ). take (frameNumbers * k) (drop frameNumbers ns) ++ frameNumbersOf f ++ r)
+    (drop-drop (frameNumbers * k + frameNumbers) frameNumbers ns))
     ∙ rw (← g, ← e, take-add) (simp append-assoc)
 
 -- a record's numbers, set one after the other as the code does it
@@ -75,7 +76,8 @@ put-in ns k f h =
 records-given : (fs : List Frame) (ns : List ℕ) → firstRecords (length fs) (withRecords fs ns) ≡ fs
 unfolding withRecords firstRecords
 records-given [] ns = refl
-records-given (f ∷ fs) ns = ap₂ (λ (g : Frame) (gs : List Frame). g ∷ gs) (frame-back f (withRecords fs (drop frameNumbers ns))) (records-given fs (drop frameNumbers ns))
+records-given (f ∷ fs) ns =
+    ap₂ (λ (g : Frame) (gs : List Frame). g ∷ gs) (frame-back f (withRecords fs (drop frameNumbers ns))) (records-given fs (drop frameNumbers ns))
 
 length-with : (fs : List Frame) (ns : List ℕ) → frameNumbers * length fs ≤ length ns → length (withRecords fs ns) ≡ length ns
 unfolding withRecords

@@ -58,7 +58,8 @@ module _ (slice : Part) (at : ℕ) (bytes : List ℕ) where
   unfolding wholePart
   part-missing n = rw (wholePart, ne-eqb (length bytes) hashBytes n)
 
-whole-holds : (slice : Part) (at : ℕ) → wholePart slice at (take hashBytes (drop at (slice .bytes))) .bytes ≡ wholeHash (take hashBytes (drop at (slice .bytes)))
+whole-holds : (slice : Part) (at : ℕ)
+    → wholePart slice at (take hashBytes (drop at (slice .bytes))) .bytes ≡ wholeHash (take hashBytes (drop at (slice .bytes)))
 unfolding wholePart wholeHash
 whole-holds slice at = go (eqb (length (take hashBytes (drop at (slice .bytes)))) hashBytes)
   where
@@ -73,14 +74,16 @@ entry-holds part given e q = ap (λ (p : Part). p .bytes) q ∙ whole-holds give
 
 pub entry-past : (given : Part) (e : ℕ) → length (given .bytes) / hashBytes ≤ e → cut given 0 0 ≡ entryPart given e
 unfolding entry
-entry-past given e h = part-missing given (hashBytes * e) (take hashBytes (drop (hashBytes * e) (given .bytes))) (simp (length-take, length-drop) (λ q. omega arith))
+entry-past given e h =
+    part-missing given (hashBytes * e) (take hashBytes (drop (hashBytes * e) (given .bytes))) (simp (length-take, length-drop) (λ q. omega arith))
 
 supplied-holds : (N : List Node) (given : Part) (j e : ℕ) (rs : List ℕ) → suppliedPart given j e rs .bytes ≡ entryFor N (given .bytes) j e rs
 unfolding suppliedPart entryFor
 supplied-holds N given j e [] = refl
 supplied-holds N given j e (r ∷ rs) = go (eqb r j) (entry-holds (entryPart given e) given e refl) (supplied-holds N given j (suc e) rs)
   where
-    go : (b : Bool) → entryPart given e .bytes ≡ wholeHash (entry (given .bytes) e) → suppliedPart given j (suc e) rs .bytes ≡ entryFor N (given .bytes) j (suc e) rs
+    go : (b : Bool) → entryPart given e .bytes ≡ wholeHash (entry (given .bytes) e)
+        → suppliedPart given j (suc e) rs .bytes ≡ entryFor N (given .bytes) j (suc e) rs
         → elim b as (λ x. Part) [ true ↦ entryPart given e | false ↦ suppliedPart given j (suc e) rs ] .bytes
         ≡ elim b [ true ↦ wholeHash (entry (given .bytes) e) | false ↦ entryFor N (given .bytes) j (suc e) rs ]
     go true p q = p

@@ -50,7 +50,8 @@ hashes-are : (nodes : List Node) (given : List ℕ) → checkHashes nodes given 
 unfolding checkHashes clash unlikeAt hashes-of
 hashes-are nodes given = refl
 
-pub hashes-alike : (bits hashes : List ℕ) (rs : List NodeRecord) (given : List ℕ) → checkHashes (nodesOf bits hashes rs) given ≡ checkHashes (nodesOf [] [] rs) given
+pub hashes-alike : (bits hashes : List ℕ) (rs : List NodeRecord) (given : List ℕ)
+    → checkHashes (nodesOf bits hashes rs) given ≡ checkHashes (nodesOf [] [] rs) given
 hashes-alike bits hashes rs given =
     hashes-are (nodesOf bits hashes rs) given ∙ ap (λ (l : List ℕ). hashes-of l given) (rights-alike bits hashes rs)
     ∙ sym (hashes-are (nodesOf [] [] rs) given)

@@ -56,7 +56,9 @@ module _ (d : List ℕ) where
 
   pub size-none : (k : ℕ) → 6 ≤ k → 0 ≡ size d k
   unfolding size
-  size-none k h = sym (List·getD-eq-default (typeBytes * count d 0 ∷ count d 1 ∷ arrowBytes * count d 2 ∷ bytesFor (count d 3) ∷ bytesFor (count d 4) ∷ hashBytes * count d 5 ∷ []) 0 {n = k} h)
+  size-none k h =
+      sym (List·getD-eq-default (typeBytes * count d 0 ∷ count d 1 ∷ arrowBytes * count d 2 ∷ bytesFor (count d 3) ∷ bytesFor (count d 4)
+      ∷ hashBytes * count d 5 ∷ []) 0 {n = k} h)
 
   -- the first number against its rule
   abbrev pub firstWrong : ℕ
@@ -176,7 +178,8 @@ module _ (d : List ℕ) where
     pub passes-all : (j : ℕ) → j < 14 → headerRule d j ≡ true
     unfolding checkHeader
     passes-all =
-        let rest = both-passed (require (every (leb headerBytes (length d) ∷ leb (length d) dossierBytes ∷ [])) (Header 0)) (λ x. each 14 (headerRule d) (λ j. Header (4 * j))) tt good in
+        let rest = both-passed (require (every (leb headerBytes (length d) ∷ leb (length d) dossierBytes ∷ [])) (Header 0))
+        (λ x. each 14 (headerRule d) (λ j. Header (4 * j))) tt good in
         each-holds 14 (headerRule d) (λ j. Header (4 * j)) tt (rest .2)
 
     count-holds : (k : ℕ) → k < 6 → countRule d k ≡ true

@@ -65,4 +65,6 @@ frameNumbers = 3
 
 -- all of them, which the constants of the code are held to
 abbrev pub everyLimit : List ℕ
-everyLimit = dossierBytes ∷ typeCount ∷ nodeCount ∷ typeWidth ∷ cellCount ∷ frameCount ∷ costLimit ∷ nodeCost ∷ naturalLength ∷ wordMost ∷ headerBytes ∷ typeBytes ∷ arrowBytes ∷ hashBytes ∷ failBytes ∷ nodeNumbers ∷ frameNumbers ∷ []
+everyLimit =
+    dossierBytes ∷ typeCount ∷ nodeCount ∷ typeWidth ∷ cellCount ∷ frameCount ∷ costLimit ∷ nodeCost ∷ naturalLength ∷ wordMost
+    ∷ headerBytes ∷ typeBytes ∷ arrowBytes ∷ hashBytes ∷ failBytes ∷ nodeNumbers ∷ frameNumbers ∷ []

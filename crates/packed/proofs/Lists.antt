@@ -87,7 +87,8 @@ module _ (store : List ℕ) (ns : List ℕ) (rest k : ℕ) where
   pub unlike : (m : ℕ) → k < length store → m ≡ headOr rest ns → (getD store k 0 ≡ m → ⊥) → holdsNumbers (drop k store) ns rest ≡ false
   unlike m h e n = at-place h ∙ rw (ne-eqb (getD store k 0) (headOr rest ns) (λ (p : getD store k 0 ≡ headOr rest ns). n (p ∙ sym e)))
 
-  pub like : (m : ℕ) → k < length store → m ≡ headOr rest ns → getD store k 0 ≡ m → holdsNumbers (drop k store) ns rest ≡ holdsNumbers (drop (k + 1) store) (tail ns) rest
+  pub like : (m : ℕ) → k < length store → m ≡ headOr rest ns → getD store k 0 ≡ m
+      → holdsNumbers (drop k store) ns rest ≡ holdsNumbers (drop (k + 1) store) (tail ns) rest
   like m h e p = at-place h ∙ rw (eq-eqb (getD store k 0) (headOr rest ns) (p ∙ e), add-one)
 
   pub ended : length store ≤ k → holdsNumbers (drop k store) ns rest ≡ none ns

@@ -52,11 +52,17 @@ module _ (types nodes arrows program hashes given witness : List ℕ) (witnessBi
   -- the answer, by what the checks say
   abbrev answered : Check Ready → Prepared
   answered c = elim c [
-    | passed R ↦ record { answer = Bounds (wholeCells (R .program)) (wholeFrames (R .program)); widths = typeWidths types; next = typeNext types; positions = positions }
+    | passed R ↦ record {
+      answer = Bounds (wholeCells (R .program)) (wholeFrames (R .program));
+      widths = typeWidths types;
+      next = typeNext types;
+      positions = positions;
+    }
     | refused why ↦ unprepared why
   ]
 
-  answer-is : answered (tables >>= λ held. ready) ≡ prepared types nodes arrows program hashes given witness witnessBits input inputBits (zeros cells) (zeros frames) (zeros answer)
+  answer-is : answered (tables >>= λ held. ready)
+      ≡ prepared types nodes arrows program hashes given witness witnessBits input inputBits (zeros cells) (zeros frames) (zeros answer)
   unfolding prepared
   answer-is = refl
 
@@ -86,7 +92,8 @@ module _ (types nodes arrows program hashes given witness : List ℕ) (witnessBi
     stores-are : checkStores P (zeros cells) (zeros frames) (zeros answer) ≡ stored
     unfolding checkStores storesRule wholeTarget targetTy last programOf
     stores-are =
-        λ k. storesRule (wholeCells P) (wholeFrames P) (width (wholeTarget P)) (length-replicate {A = ℕ} cells 0 k) (length-replicate {A = ℕ} frames 0 k) (length-replicate {A = ℕ} answer 0 k)
+        λ k. storesRule (wholeCells P) (wholeFrames P) (width (wholeTarget P)) (length-replicate {A = ℕ} cells 0 k)
+        (length-replicate {A = ℕ} frames 0 k) (length-replicate {A = ℕ} answer 0 k)
 
     ready-is : ready ≡ (checkBounds P >>= λ bounded. read >>= λ values. taken >>= λ v. stored >>= λ kept. passed (made values v))
     unfolding checkReady wholeSource sourceTy last programOf tablesLent
@@ -96,7 +103,8 @@ module _ (types nodes arrows program hashes given witness : List ℕ) (witnessBi
     pub bounds-refused : (why : Refusal) → checkBounds P ≡ refused why
         → unprepared why ≡ prepared types nodes arrows program hashes given witness witnessBits input inputBits (zeros cells) (zeros frames) (zeros answer)
     bounds-refused why e =
-        prepared-by (refused why) (ready-is ∙ then-refuses (checkBounds P) (λ bounded. read >>= λ values. taken >>= λ v. stored >>= λ kept. passed (made values v)) why e)
+        prepared-by (refused why)
+        (ready-is ∙ then-refuses (checkBounds P) (λ bounded. read >>= λ values. taken >>= λ v. stored >>= λ kept. passed (made values v)) why e)
 
     module _ (within : checkBounds P ≡ passed tt) where
       ready-then : (a : Check (List Val)) (b : Check Val) (c : Check (Unit {0})) → read ≡ a → taken ≡ b → stored ≡ c
@@ -116,7 +124,8 @@ module _ (types nodes arrows program hashes given witness : List ℕ) (witnessBi
       suppliedBy c = elim c [ passed x ↦ record { answer = Passed; positions = positions } | refused why ↦ unreadOf why ]
 
       module _ (r : WitnessTable)
-          (is : r ≡ suppliedTable (T .types) (T .nodes) (T .arrows) witness witnessBits input inputBits (wholeCells P) (wholeFrames P) cells frames answer) where
+          (is : r ≡ suppliedTable (T .types) (T .nodes) (T .arrows) witness witnessBits input inputBits (wholeCells P)
+          (wholeFrames P) cells frames answer) where
         supplied-is : r ≡ suppliedBy (read >>= λ values. taken >>= λ v. stored)
         unfolding suppliedTable supplied
         supplied-is = is
@@ -128,14 +137,17 @@ module _ (types nodes arrows program hashes given witness : List ℕ) (witnessBi
         supplied-refused why e = go read taken stored refl refl refl supplied-is
           where
             named : (w : Refusal) → r ≡ unreadOf w → ready ≡ refused w
-                → unprepared why ≡ prepared types nodes arrows program hashes given witness witnessBits input inputBits (zeros cells) (zeros frames) (zeros answer)
+                → unprepared why ≡ prepared types nodes arrows program hashes given witness witnessBits input inputBits (zeros cells)
+                (zeros frames) (zeros answer)
             named w f g =
                 let h : Refused w ≡ Refused why = sym (ap (λ (t : WitnessTable). t .answer) f) ∙ e in
                 let k : w ≡ why = cc in
                 ap unprepared (sym k) ∙ prepared-by (refused w) g
 
-            go : (a : Check (List Val)) (b : Check Val) (c : Check (Unit {0})) → read ≡ a → taken ≡ b → stored ≡ c → r ≡ suppliedBy (a >>= λ values. b >>= λ v. c)
-                → unprepared why ≡ prepared types nodes arrows program hashes given witness witnessBits input inputBits (zeros cells) (zeros frames) (zeros answer)
+            go : (a : Check (List Val)) (b : Check Val) (c : Check (Unit {0})) → read ≡ a → taken ≡ b → stored ≡ c
+                → r ≡ suppliedBy (a >>= λ values. b >>= λ v. c)
+                → unprepared why ≡ prepared types nodes arrows program hashes given witness witnessBits input inputBits (zeros cells)
+                (zeros frames) (zeros answer)
             go (refused w) b c x y z f = named w f (ready-then (refused w) b c x y z)
             go (passed vs) (refused w) c x y z f = named w f (ready-then (passed vs) (refused w) c x y z)
             go (passed vs) (passed v) (refused w) x y z f = named w f (ready-then (passed vs) (passed v) (refused w) x y z)
@@ -153,7 +165,8 @@ module _ (types nodes arrows program hashes given witness : List ℕ) (witnessBi
                 ≡ prepared types nodes arrows program hashes given witness witnessBits input inputBits (zeros cells) (zeros frames) (zeros answer)
             refused-not w f = let h : Refused w ≡ Passed = sym (ap (λ (t : WitnessTable). t .answer) f) ∙ e in clash (cc)
 
-            go : (a : Check (List Val)) (b : Check Val) (c : Check (Unit {0})) → read ≡ a → taken ≡ b → stored ≡ c → r ≡ suppliedBy (a >>= λ values. b >>= λ v. c)
+            go : (a : Check (List Val)) (b : Check Val) (c : Check (Unit {0})) → read ≡ a → taken ≡ b → stored ≡ c
+                → r ≡ suppliedBy (a >>= λ values. b >>= λ v. c)
                 → record { answer = Bounds (wholeCells P) (wholeFrames P); widths = typeWidths types; next = typeNext types; positions = r .positions }
                 ≡ prepared types nodes arrows program hashes given witness witnessBits input inputBits (zeros cells) (zeros frames) (zeros answer)
             go (refused w) b c x y z f = refused-not w f

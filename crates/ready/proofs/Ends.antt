@@ -66,7 +66,9 @@ module _ (bits : List Bit) (end count : ℕ) where
       not-closed false = refl
 
       go : Dec (length bits < count) → false ≡ firstUsed
-      go (yes k) = not-closed (eqb (length (drop end (take count bits))) 0) ∙ ap (λ (b : Bool). every (eqb (length (drop end (take count bits))) 0 ∷ b ∷ [])) (sym (closes-past bits count k))
+      go (yes k) =
+          not-closed (eqb (length (drop end (take count bits))) 0)
+          ∙ ap (λ (b : Bool). every (eqb (length (drop end (take count bits))) 0 ∷ b ∷ [])) (sym (closes-past bits count k))
       go (no k) =
           let n = length-take-le count bits (omega arith) in
           let l = left in
@@ -144,7 +146,8 @@ module _ (types : List TypeRecord) (nodes : List Node) (arrows : List Arrow) (bi
   pub ends-here : onWitness (nodeAt nodes i) true false ≡ false → Next p ≡ endOf p (readFor types nodes arrows bits i p)
   unfolding readFor endOf compact
   ends-here e =
-      witness-or (λ (b : Bool) (r : Read). b ≡ false → Next p ≡ endOf p r) (nodeAt nodes i) true false (readValue (tyAt types (target arrows i)) (drop p bits)) (value ⟨⟩ (drop p bits))
+      witness-or (λ (b : Bool) (r : Read). b ≡ false → Next p ≡ endOf p r) (nodeAt nodes i) true false
+      (readValue (tyAt types (target arrows i)) (drop p bits)) (value ⟨⟩ (drop p bits))
       (λ w f. not-both refl f) (λ f. ap Next (let z : p ≡ p + 0 = omega arith in z)) e
 
   -- a witness ends where its value does

@@ -57,7 +57,8 @@ module _ (A : Ty) (p n : ℕ) (bits : List Bit) where
       go : (r : Read) → Next q ≡ endOf p r → Short ≡ endOf p (within (n - p) r)
       go (value v rest) e =
           let f : q ≡ p + length (compact v) = cc in
-          ap (λ (b : Bool). endOf p (elim b [ true ↦ value v (take (n - p - length (compact v)) rest) | false ↦ short ])) (sym (lt-leb (length (compact v)) (n - p) (omega arith)))
+          ap (λ (b : Bool). endOf p (elim b [ true ↦ value v (take (n - p - length (compact v)) rest) | false ↦ short ]))
+          (sym (lt-leb (length (compact v)) (n - p) (omega arith)))
       go short e = clash (cc)
 
   pub ends-within : (q : ℕ) → Next q ≡ endOf p inAll → p ≤ n → q ≤ n → Next q ≡ endOf p inFirst
@@ -67,7 +68,9 @@ module _ (A : Ty) (p n : ℕ) (bits : List Bit) where
       go : (r : Read) → Next q ≡ endOf p r → Next q ≡ endOf p (within (n - p) r)
       go (value v rest) e =
           let f : q ≡ p + length (compact v) = cc in
-          e ∙ ap (λ (b : Bool). endOf p (elim b [ true ↦ value v (take (n - p - length (compact v)) rest) | false ↦ short ])) (sym (le-leb (length (compact v)) (n - p) (omega arith)))
+          e
+          ∙ ap (λ (b : Bool). endOf p (elim b [ true ↦ value v (take (n - p - length (compact v)) rest) | false ↦ short ]))
+          (sym (le-leb (length (compact v)) (n - p) (omega arith)))
       go short e = clash (cc)
 
   -- a value of the first bits ends within them

@@ -45,7 +45,8 @@ stores-fit P cells frames answer e =
     let b = both-passed second (λ two. third) tt (a .2) in (
       leb-true (bytesFor (wholeCells P)) (length cells) (require-holds (leb (bytesFor (wholeCells P)) (length cells)) (StoreShort 0) _ (a .1)),
       leb-true (wholeFrames P) (length frames / frameNumbers) (require-holds (leb (wholeFrames P) (length frames / frameNumbers)) (StoreShort 1) _ (b .1)),
-      leb-true (bytesFor (width (wholeTarget P))) (length answer) (require-holds (leb (bytesFor (width (wholeTarget P))) (length answer)) (StoreShort 2) _ (b .2)),
+      leb-true (bytesFor (width (wholeTarget P))) (length answer)
+          (require-holds (leb (bytesFor (width (wholeTarget P))) (length answer)) (StoreShort 2) _ (b .2)),
     )
 
 pub input-read : (A : Ty) (bytes : List ℕ) (count : ℕ) (v : Val) → checkInput A bytes count ≡ passed v

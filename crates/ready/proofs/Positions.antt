@@ -105,7 +105,8 @@ module _ (types : List TypeRecord) (nodes : List Node) (arrows : List Arrow) (bi
       ∙ ap (λ (r : Read). elim r [ value v rest ↦ valuesFrom types arrows (suc i) (drop (suc i) nodes) (vs ++ v ∷ []) rest | short ↦ refused (Witness i) ]) e
 
   -- the end of the table
-  pub walk-ends : (i : ℕ) (vs : List Val) (rest : List Bit) → length nodes ≤ i → valuesFrom types arrows i (drop i nodes) vs rest ≡ passed (record { values = vs; rest = rest })
+  pub walk-ends : (i : ℕ) (vs : List Val) (rest : List Bit) → length nodes ≤ i
+      → valuesFrom types arrows i (drop i nodes) vs rest ≡ passed (record { values = vs; rest = rest })
   unfolding valuesFrom
   walk-ends i vs rest h = ap (λ (ns : List Node). valuesFrom types arrows i ns vs rest) (drop-of-length-le nodes h)
 
@@ -152,5 +153,6 @@ module _ (types : List TypeRecord) (nodes : List Node) (arrows : List Arrow) (bi
     -- and these are the values that the walk answers
     pub values-here : R .values ≡ tabulate (length nodes) valueHere
     values-here =
-        let e = sym passes ∙ walked-all (length nodes) (omega arith) ∙ walk-ends (length nodes) (tabulate (length nodes) valueHere) (drop (at (length nodes)) bits) (omega arith) in
+        let e = sym passes ∙ walked-all (length nodes) (omega arith)
+        ∙ walk-ends (length nodes) (tabulate (length nodes) valueHere) (drop (at (length nodes)) bits) (omega arith) in
         cc

@@ -75,7 +75,8 @@ module _ (types : List TypeRecord) (nodes : List Node) (arrows : List Arrow) (by
   pub position-in : (i : ℕ) → i < length nodes → getD (positionsOf types nodes arrows bytes count) i 0 ≡ positionAt types nodes arrows bits i
   unfolding positionsOf
   position-in i h =
-      List·getD-append (tabulate (length nodes) (positionAt types nodes arrows bits)) (zeros (nodeCount - length nodes)) 0 i (omega (arith, length-tabulate (positionAt types nodes arrows bits) (length nodes)))
+      List·getD-append (tabulate (length nodes) (positionAt types nodes arrows bits)) (zeros (nodeCount - length nodes)) 0 i
+      (omega (arith, length-tabulate (positionAt types nodes arrows bits) (length nodes)))
       ∙ tabulate-at (positionAt types nodes arrows bits) (length nodes) i 0 h
 
   -- the value of a witness stands at its position in all bits
@@ -85,7 +86,9 @@ module _ (types : List TypeRecord) (nodes : List Node) (arrows : List Arrow) (by
   witness-here i h w v e =
       let r = all-read types nodes arrows bits (walk .0) (walk .1) i h in
       let f : readValue (held i) (drop (positionAt types nodes arrows bits i) bits) ≡ value (r .0) (r .1) =
-      ap (λ (n : Node). onWitness n (readValue (held i) (drop (positionAt types nodes arrows bits i) bits)) (value ⟨⟩ (drop (positionAt types nodes arrows bits i) bits))) (sym w) ∙ r .2 in
+      ap (λ (n : Node). onWitness n (readValue (held i) (drop (positionAt types nodes arrows bits i) bits))
+      (value ⟨⟩ (drop (positionAt types nodes arrows bits i) bits))) (sym w)
+      ∙ r .2 in
       let g : r .0 ≡ v = ap valueRead (sym (r .2)) ∙ e in
       let m = in-all (held i) (positionAt types nodes arrows bits i) count (heldBits bytes) (r .0) (r .1) f in (
         m .0,
@@ -145,7 +148,9 @@ module _ (types nodes arrows program hashes given witnesses : List ℕ) (witness
   unfolding checkTable
   types-shown = record {
     count = length (typeRecords types);
-    passes = then-passes (counted (length (typeRecords types)) typeCount) (λ some. checkTypes (typeRecords types) >>= λ sound. passed (length (typeRecords types))) tt (lentPass .types-counted)
+    passes =
+        then-passes (counted (length (typeRecords types)) typeCount)
+        (λ some. checkTypes (typeRecords types) >>= λ sound. passed (length (typeRecords types))) tt (lentPass .types-counted)
         ∙ then-passes (checkTypes (typeRecords types)) (λ sound. passed (length (typeRecords types))) tt (lentPass .types-kept);
     widthsAre = refl;
     nextAre = refl;
@@ -177,11 +182,13 @@ module _ (types nodes arrows program hashes given witnesses : List ℕ) (witness
       let h = in-table i (word n bits) e (λ f. clash (cc)) in
       let r = stage-arrows types nodes program hashes arrows arrowsPass i (omega (arith, length-nodes (streamOf program) hashes (nodeRecords nodes))) in
       go (fromTy (typeRecords types) (arrowRecords arrows) i) (toTy (typeRecords types) (arrowRecords arrows) i)
-      (subst (λ (m : Node). NodeTyped (programNodes nodes program hashes) (fromTy (typeRecords types) (arrowRecords arrows)) (toTy (typeRecords types) (arrowRecords arrows)) m
+      (subst (λ (m : Node). NodeTyped (programNodes nodes program hashes) (fromTy (typeRecords types) (arrowRecords arrows))
+      (toTy (typeRecords types) (arrowRecords arrows)) m
       (fromTy (typeRecords types) (arrowRecords arrows) i) (toTy (typeRecords types) (arrowRecords arrows) i)) e
       (arrow-typed (typeRecords types) (types-pass (typeRecords types) (lentPass .types-kept)) (programNodes nodes program hashes) (arrowRecords arrows) i r))
     where
-      go : (A B : Ty) → NodeTyped (programNodes nodes program hashes) (fromTy (typeRecords types) (arrowRecords arrows)) (toTy (typeRecords types) (arrowRecords arrows)) (word n bits) A B
+      go : (A B : Ty) → NodeTyped (programNodes nodes program hashes) (fromTy (typeRecords types) (arrowRecords arrows))
+          (toTy (typeRecords types) (arrowRecords arrows)) (word n bits) A B
           → B ≡ wordTy (n - 1)
       go A B Word = refl
 
@@ -286,9 +293,12 @@ module _ (types nodes arrows program hashes given witnesses : List ℕ) (witness
 
     -- THE MACHINE IS NEVER STUCK
     pub not-stuck : machine (wholeCells P) (wholeFrames P) (whole P) (wholeSource P) (wholeTarget P) (R .input) (cellsOf cells) ≡ stuck → ⊥
-    not-stuck = never-stuck P (ready-sound T checked cells frames answer R passes) (R .input) (ready-input T checked cells frames answer R passes) (cellsOf cells)
+    not-stuck =
+        never-stuck P (ready-sound T checked cells frames answer R passes) (R .input) (ready-input T checked cells frames answer R passes)
+        (cellsOf cells)
 
     -- so the machine on lent stores is safe
     pub whole-ok : WholeOk (whole P) (wholeSource P) (wholeTarget P) (R .input) (empty (bitsOf (take (bytesFor (wholeCells P)) cells)) (wholeFrames P))
     whole-ok =
-        whole-safe cells (bytesFor (wholeCells P)) (wholeCells P) (wholeFrames P) (room .0) (omega arith) (whole P) (wholeSource P) (wholeTarget P) (R .input) not-stuck
+        whole-safe cells (bytesFor (wholeCells P)) (wholeCells P) (wholeFrames P) (room .0) (omega arith) (whole P) (wholeSource P)
+        (wholeTarget P) (R .input) not-stuck

@@ -55,7 +55,8 @@ module _ (types : List TypeRecord) (nodes : List Node) (arrows : List Arrow) (wi
   read-is = refl
 
   supplied-is : (a : Check (List Val)) (b : Check Val) (c : Check (Unit {0})) → read ≡ a → taken ≡ b → stored ≡ c
-      → suppliedBy (a >>= λ values. b >>= λ v. c) ≡ suppliedTable types nodes arrows witness witnessBits input inputBits cellBound frameBound cells frames answer
+      → suppliedBy (a >>= λ values. b >>= λ v. c)
+      ≡ suppliedTable types nodes arrows witness witnessBits input inputBits cellBound frameBound cells frames answer
   unfolding suppliedTable supplied
   supplied-is a b c x y z = λ k. suppliedBy (sym x k >>= λ values. sym y k >>= λ v. sym z k)
 
@@ -66,7 +67,8 @@ module _ (types : List TypeRecord) (nodes : List Node) (arrows : List Arrow) (wi
     unfolding _>>=_
     read-refused why e = go read refl (is ∙ sym read-is)
       where
-        go : (a : Check (List Val)) → read ≡ a → r ≡ readBy a → r ≡ suppliedTable types nodes arrows witness witnessBits input inputBits cellBound frameBound cells frames answer
+        go : (a : Check (List Val)) → read ≡ a → r ≡ readBy a
+            → r ≡ suppliedTable types nodes arrows witness witnessBits input inputBits cellBound frameBound cells frames answer
         go (passed values) x f = let g : Passed ≡ Refused why = sym (ap (λ (t : WitnessTable). t .answer) f) ∙ e in clash (cc)
         go (refused w) x f = f ∙ supplied-is (refused w) taken stored x refl refl
 
@@ -91,7 +93,8 @@ module _ (types : List TypeRecord) (nodes : List Node) (arrows : List Arrow) (wi
         unfolding _>>=_
         input-refused why e =
             let p = read-passed in
-            supplied-is (passed (p .0)) (refused why) stored (p .1) (sym taken-is ∙ verdict-refused (checkInput (tyAt types (a .source)) input inputBits) why e) refl
+            supplied-is (passed (p .0)) (refused why) stored (p .1)
+            (sym taken-is ∙ verdict-refused (checkInput (tyAt types (a .source)) input inputBits) why e) refl
 
         module _ (fits : Passed ≡ verdict (checkInput (tyAt types (a .source)) input inputBits)) (w : ℕ) (wide : w ≡ width (tyAt types (a .target))) where
           stored-is : storesRule cellBound frameBound w cells frames answer ≡ stored

@@ -32,7 +32,9 @@ module _ (types nodes arrows program hashes given witness : List ℕ) (witnessBi
 
   -- what the check of the run answers
   abbrev pub found : Prepared
-  found = prepared types nodes arrows program hashes given witness witnessBits input inputBits (zeros (length cells)) (zeros (length frames)) (zeros (length answer))
+  found =
+      prepared types nodes arrows program hashes given witness witnessBits input inputBits (zeros (length cells)) (zeros (length frames))
+      (zeros (length answer))
 
   -- the run is ready
   pub record IsReady (r : Prepared) (cellBound frameBound : ℕ) : Type 0 where
@@ -108,7 +110,8 @@ module _ (types nodes arrows program hashes given witness : List ℕ) (witnessBi
         ]
 
         go : (a : Check (Unit {0})) (b : Check Ready) → hashStage types nodes arrows program hashes given ≡ a → checkReady T cells frames answer ≡ b
-            → runStage types nodes arrows program hashes given witness witnessBits input inputBits cells frames answer ≡ leftWith (Refused why) cells frames answer
+            → runStage types nodes arrows program hashes given witness witnessBits input inputBits cells frames answer
+            ≡ leftWith (Refused why) cells frames answer
         go (refused w) b x y =
             let f : NoRun why ≡ NoRun w = says (refused w) (λ k. x k >>= λ tables. y k) in
             (λ k. stage (x k) (y k)) ∙ ap (λ (z : Refusal). leftWith (Refused z) cells frames answer) (let g : w ≡ why = cc in g)

@@ -30,7 +30,8 @@ module _ (A : Ty) (bytes : List ℕ) (count : ℕ) where
   bits = take count (heldBits bytes)
 
   -- the value's end in a slice that is the bytes up to the limit
-  pub input-held : (own : List ℕ) → own ≡ take dossierBytes bytes → (r : ValueRead) → r ≡ endOf 0 (readValue A (drop 0 (take count (streamOf own)))) → r ≡ endOf 0 (readValue A bits)
+  pub input-held : (own : List ℕ) → own ≡ take dossierBytes bytes → (r : ValueRead)
+      → r ≡ endOf 0 (readValue A (drop 0 (take count (streamOf own)))) → r ≡ endOf 0 (readValue A bits)
   input-held own e r f = f ∙ ap (λ (l : List ℕ). endOf 0 (readValue A (take count (streamOf l)))) e
 
   -- what is said of what was read
@@ -58,7 +59,8 @@ module _ (A : Ty) (bytes : List ℕ) (count : ℕ) where
   unfolding endOf
   read-to q used e f = go (readValue A bits) refl e
     where
-      go : (r : Read) → readValue A bits ≡ r → Next q ≡ endOf 0 r → (v : Val) × (verdict (require used (Input 0) >>= λ used. passed v) ≡ verdict (checkInput A bytes count))
+      go : (r : Read) → readValue A bits ≡ r → Next q ≡ endOf 0 r
+          → (v : Val) × (verdict (require used (Input 0) >>= λ used. passed v) ≡ verdict (checkInput A bytes count))
       go (value v rest) g e =
           let n : q ≡ length (compact v) = (let z : q ≡ 0 + length (compact v) = cc in omega arith) in
           let l : drop q bits ≡ rest = ap (λ (k : ℕ). drop k bits) n ∙ sym (read-fit A bits v rest g .after) in (
@@ -99,9 +101,13 @@ module _ (cellBound frameBound width cells frames answer : ℕ) where
   pub answer-short : bytesFor cellBound ≤ cells → frameBound ≤ frames / frameNumbers → answer < bytesFor width
       → Refused (StoreShort 2) ≡ verdict (storesRule cellBound frameBound width cells frames answer)
   unfolding verdict require _>>=_
-  answer-short g h k = stores-are true true false (le-leb (bytesFor cellBound) cells g) (le-leb frameBound (frames / frameNumbers) h) (lt-leb (bytesFor width) answer k)
+  answer-short g h k =
+      stores-are true true false (le-leb (bytesFor cellBound) cells g) (le-leb frameBound (frames / frameNumbers) h)
+      (lt-leb (bytesFor width) answer k)
 
   pub stores-long : bytesFor cellBound ≤ cells → frameBound ≤ frames / frameNumbers → bytesFor width ≤ answer
       → Passed ≡ verdict (storesRule cellBound frameBound width cells frames answer)
   unfolding verdict require _>>=_
-  stores-long g h k = stores-are true true true (le-leb (bytesFor cellBound) cells g) (le-leb frameBound (frames / frameNumbers) h) (le-leb (bytesFor width) answer k)
+  stores-long g h k =
+      stores-are true true true (le-leb (bytesFor cellBound) cells g) (le-leb frameBound (frames / frameNumbers) h)
+      (le-leb (bytesFor width) answer k)

@@ -93,10 +93,12 @@ module _ (types : List TypeRecord) (nodes : List Node) (arrows : List Arrow) (by
         ]) (sym e)
 
     -- the bits run out
-    pub come-short : i < length nodes → Short ≡ endOf p (readFor types nodes arrows bits i p) → unreadOf (Witness i) ≡ witnessTable types nodes arrows bytes count
+    pub come-short : i < length nodes → Short ≡ endOf p (readFor types nodes arrows bits i p)
+        → unreadOf (Witness i) ≡ witnessTable types nodes arrows bytes count
     unfolding checkWitness
     come-short h e =
-        let f = come .walked ∙ walk-short types nodes arrows bits i (tabulate i (valueHere types nodes arrows bits)) h (sym read-here ∙ not-read p (readFor types nodes arrows bits i p) e) in
+        let f = come .walked ∙ walk-short types nodes arrows bits i (tabulate i (valueHere types nodes arrows bits)) h
+        (sym read-here ∙ not-read p (readFor types nodes arrows bits i p) e) in
         answered (refused (Witness i)) (ap (λ (c : Check Values). c >>= λ read.
         require (usedUp bytes count (read .rest)) (Witness (length nodes)) >>= λ used. passed (read .values)) f)
 
@@ -113,7 +115,8 @@ module _ (types : List TypeRecord) (nodes : List Node) (arrows : List Arrow) (by
         ∙ ap (λ (q : ℕ). require (allUsed bytes q count) (Witness (length nodes)) >>= λ used. passed vs) (sym (come .passes))
         ∙ ap (λ (b : Bool). require b (Witness (length nodes)) >>= λ used. passed vs) f
 
-    pub come-unused : (n : ℕ) → i ≡ length nodes → n ≡ length nodes → allUsed bytes p count ≡ false → unreadOf (Witness n) ≡ witnessTable types nodes arrows bytes count
+    pub come-unused : (n : ℕ) → i ≡ length nodes → n ≡ length nodes → allUsed bytes p count ≡ false
+        → unreadOf (Witness n) ≡ witnessTable types nodes arrows bytes count
     unfolding require _>>=_
     come-unused n e g f = ap (λ (k : ℕ). unreadOf (Witness k)) g ∙ answered (refused (Witness (length nodes))) (all-checked e false f)
 
@@ -128,6 +131,7 @@ module _ (types : List TypeRecord) (nodes : List Node) (arrows : List Arrow) (by
     pub come-inside : (q : ℕ) → p ≤ count → Next q ≡ endOf p (readFor types nodes arrows bits i p) → q ≤ count
     unfolding readFor endOf compact
     come-inside q h e =
-        witness-or {Y = Unit {0}} (λ r u. Next q ≡ endOf p r → q ≤ count) (nodeAt nodes i) (readValue (tyAt types (target arrows i)) (drop p bits)) (value ⟨⟩ (drop p bits)) tt tt
+        witness-or {Y = Unit {0}} (λ r u. Next q ≡ endOf p r → q ≤ count) (nodeAt nodes i)
+        (readValue (tyAt types (target arrows i)) (drop p bits)) (value ⟨⟩ (drop p bits)) tt tt
         (λ w f. ends-inside (tyAt types (target arrows i)) p count (heldBits bytes) q f h)
         (λ f. (let z : q ≡ p + 0 = cc in omega arith)) e

@@ -241,7 +241,8 @@ fn check_supplied<'a>(
 ) -> WitnessTable
     requires { ⌜ TypesShown (now types) (now widths) (now next) × (length (nodeRecords (now nodes)) ≤ nodeCount) ⌝ }
     ensures { λ r. ⌜ ((bits hashes : List ℕ) → r ≡ suppliedTable (typeRecords (now (types .entry))) (nodesOf bits hashes (nodeRecords (now (nodes .entry))))
-        (arrowRecords (now (arrows .entry))) (now (witness .entry)) «witness_bits» (now (input .entry)) «input_bits» «cell_bound» «frame_bound» cells frames answer) ⌝ }
+        (arrowRecords (now (arrows .entry))) (now (witness .entry)) «witness_bits»
+        (now (input .entry)) «input_bits» «cell_bound» «frame_bound» cells frames answer) ⌝ }
 {
     let read = check_witness(types, widths, next, nodes, arrows, witness, witness_bits);
     let verdict = read.answer;
@@ -298,8 +299,10 @@ fn check_ready(
     frames: usize,
     answer: usize,
 ) -> Prepared
-    requires { ⌜ (table ≡ typeTable (now types)) × TypesShown (now types) (typeWidths (now types)) (typeNext (now types)) × (length (nodeRecords (now nodes)) ≤ nodeCount) ⌝ }
-    ensures { λ r. ⌜ ((program hashes given : List ℕ) → hashStage (now (types .entry)) (now (nodes .entry)) (now (arrows .entry)) program hashes given ≡ passed tt
+    requires { ⌜ (table ≡ typeTable (now types)) × TypesShown (now types) (typeWidths (now types)) (typeNext (now types))
+        × (length (nodeRecords (now nodes)) ≤ nodeCount) ⌝ }
+    ensures { λ r. ⌜ ((program hashes given : List ℕ)
+        → hashStage (now (types .entry)) (now (nodes .entry)) (now (arrows .entry)) program hashes given ≡ passed tt
         → r ≡ prepared (now (types .entry)) (now (nodes .entry)) (now (arrows .entry)) program hashes given (now (witness .entry)) «witness_bits»
         (now (input .entry)) «input_bits» (zeros cells) (zeros frames) (zeros answer)) ⌝ }
 {
@@ -356,7 +359,8 @@ pub fn check_run(
     frames: usize,
     answer: usize,
 ) -> Prepared
-    ensures { λ r. ⌜ r ≡ prepared (now (types .entry)) (now (nodes .entry)) (now (arrows .entry)) (now (program .entry)) (now (hashes .entry)) (now (given .entry))
+    ensures { λ r. ⌜ r ≡ prepared (now (types .entry)) (now (nodes .entry)) (now (arrows .entry)) (now (program .entry))
+        (now (hashes .entry)) (now (given .entry))
         (now (witness .entry)) «witness_bits» (now (input .entry)) «input_bits» (zeros cells) (zeros frames) (zeros answer) ⌝ }
 {
     let staged = stages::hash_tables(types, nodes, arrows, program, hashes, given);

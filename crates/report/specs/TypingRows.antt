@@ -62,5 +62,6 @@ typed-word = Word 1 refl typed-two
 
 -- from b1 to 1 × (b1 + 1): the left child hands on all that it gets, the right one takes the input out of it
 typed-disconnect : (h : Val) → HasTy h (wordTy 8)
-    → Typed (disconnect b1 one (prod (wordTy 8) b1) h (pair one unit (iden (prod (wordTy 8) b1))) (drop (wordTy 8) (injl b1 one (iden b1)))) b1 (prod one (sum b1 one))
+    → Typed (disconnect b1 one (prod (wordTy 8) b1) h (pair one unit (iden (prod (wordTy 8) b1))) (drop (wordTy 8) (injl b1 one (iden b1))))
+    b1 (prod one (sum b1 one))
 typed-disconnect h k = Disconnect k (Pair Unit· Iden) (Drop (Injl Iden))

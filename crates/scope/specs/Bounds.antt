@@ -29,18 +29,38 @@ unfoldable pub childRow : Bound → Bound
 childRow child = record { cells = child .cells; frames = child .frames; cost = nodeCost + child .cost }
 
 unfoldable pub pairRow : Bound → Bound → Bound
-pairRow left right = record { cells = max (left .cells) (right .cells); frames = max (left .frames) (right .frames); cost = nodeCost + (left .cost + right .cost) }
+pairRow left right =
+    record {
+      cells = max (left .cells) (right .cells);
+      frames = max (left .frames) (right .frames);
+      cost = nodeCost + (left .cost + right .cost);
+    }
 
 unfoldable pub caseRow : Bound → Bound → Bound
-caseRow left right = record { cells = max (left .cells) (right .cells); frames = max (left .frames) (right .frames); cost = nodeCost + max (left .cost) (right .cost) }
+caseRow left right =
+    record {
+      cells = max (left .cells) (right .cells);
+      frames = max (left .frames) (right .frames);
+      cost = nodeCost + max (left .cost) (right .cost);
+    }
 
 -- comp with a middle of width m
 unfoldable pub compRow : (m : ℕ) → Bound → Bound → Bound
-compRow m left right = record { cells = m + max (left .cells) (right .cells); frames = 1 + max (left .frames) (right .frames); cost = nodeCost + m + (left .cost + right .cost) }
+compRow m left right =
+    record {
+      cells = m + max (left .cells) (right .cells);
+      frames = 1 + max (left .frames) (right .frames);
+      cost = nodeCost + m + (left .cost + right .cost);
+    }
 
 -- disconnect with left source s, left target t and B of width b
 unfoldable pub disconnectRow : (s t b : ℕ) → Bound → Bound → Bound
-disconnectRow s t b left right = record { cells = s + t + max (left .cells) (right .cells); frames = 2 + max (left .frames) (right .frames); cost = nodeCost + (2 * s + t + b) + (left .cost + right .cost) }
+disconnectRow s t b left right =
+    record {
+      cells = s + t + max (left .cells) (right .cells);
+      frames = 2 + max (left .frames) (right .frames);
+      cost = nodeCost + (2 * s + t + b) + (left .cost + right .cost);
+    }
 
 -- witness of width w, which goes straight into the write frame
 unfoldable pub witnessRow : (w : ℕ) → Bound

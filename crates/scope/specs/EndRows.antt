@@ -43,7 +43,8 @@ wiped-ends : Hold (
     -- two nodes over one, the right one first
     ∷ job spacious (dossier four (code (unit ∷ take 0 ∷ drop 0 ∷ pair 2 1 ∷ [])) (to 0 0 ∷ to 3 0 ∷ to 3 0 ∷ to 3 3 ∷ []) [] [] []) is wiped (CanonicalOrder 1)
     -- hidden hashes that are unlike in their last byte only
-    ∷ job spacious (dossier four (code (h ∷ hidden (replicate 31 90 ++ 91 ∷ []) ∷ case 0 1 ∷ [])) (to 0 0 ∷ to 0 0 ∷ to 2 0 ∷ []) [] [] []) is wiped (BothHidden 2)
+    ∷ job spacious (dossier four (code (h ∷ hidden (replicate 31 90 ++ 91 ∷ []) ∷ case 0 1 ∷ [])) (to 0 0 ∷ to 0 0 ∷ to 2 0 ∷ []) [] [] [])
+    is wiped (BothHidden 2)
     -- a comp of a node with itself whose source is not its target
     ∷ job spacious (dossier two (code (witness ∷ comp 0 0 ∷ [])) (to 0 1 ∷ to 0 1 ∷ []) [] [] []) is wiped (BadArrow 1)
     -- three disconnects, the third over the right child of the first, with another hash
@@ -105,20 +106,26 @@ turned bits = dossier four (code (h ∷ fail (replicate 64 119) ∷ case 0 1 ∷
 -- 18 and 19: cells are what the rules left, frame records within the bound are zero, all beyond the bounds and the answer are as they were
 stopped-ends : Hold (
     job spacious failing
-    is leaves (Refused (FailReached 2)) (nodesKept (row 9 0 0 ∷ row 5 0 0 ∷ row 10 0 0 ∷ row 0 1 2 ∷ [])) (hashesKept (replicate 64 7)) (ones 4) (zeros 9 ++ frameOnes 1) (ones 3)
+    is leaves (Refused (FailReached 2)) (nodesKept (row 9 0 0 ∷ row 5 0 0 ∷ row 10 0 0 ∷ row 0 1 2 ∷ [])) (hashesKept (replicate 64 7))
+    (ones 4) (zeros 9 ++ frameOnes 1) (ones 3)
     -- the same on old zeros: the frame of the comp has its bit
     ∷ job (lent 9 97 4 4 3 0) failing
-    is leaves (Refused (FailReached 2)) (nodesKept (row 9 0 0 ∷ row 5 0 0 ∷ row 10 0 0 ∷ row 0 1 2 ∷ [])) (hashesKept (replicate 64 7)) (64 ∷ zeros 3) (zeros 12) (zeros 3)
+    is leaves (Refused (FailReached 2)) (nodesKept (row 9 0 0 ∷ row 5 0 0 ∷ row 10 0 0 ∷ row 0 1 2 ∷ [])) (hashesKept (replicate 64 7))
+    (64 ∷ zeros 3) (zeros 12) (zeros 3)
     ∷ job spacious (sharing (0 ∷ 1 ∷ 0 ∷ 1 ∷ 1 ∷ 0 ∷ []))
     is leaves (Refused (PrunedReached 5)) shared (hashesKept (replicate 32 90)) (22 ∷ ones 3) (zeros 6 ++ frameOnes 2) (ones 3)
     ∷ job spacious (alike (0 ∷ []))
-    is leaves (Refused (FailReached 0)) (nodesKept (row 10 0 0 ∷ row 13 64 0 ∷ row 1 0 1 ∷ [])) (hashesKept (replicate 96 90)) (127 ∷ ones 3) (zeros 6 ++ frameOnes 2) (ones 3)
+    is leaves (Refused (FailReached 0)) (nodesKept (row 10 0 0 ∷ row 13 64 0 ∷ row 1 0 1 ∷ [])) (hashesKept (replicate 96 90))
+    (127 ∷ ones 3) (zeros 6 ++ frameOnes 2) (ones 3)
     ∷ job spacious (alike (1 ∷ []))
-    is leaves (Refused (PrunedReached 2)) (nodesKept (row 10 0 0 ∷ row 13 64 0 ∷ row 1 0 1 ∷ [])) (hashesKept (replicate 96 90)) (ones 4) (zeros 6 ++ frameOnes 2) (ones 3)
+    is leaves (Refused (PrunedReached 2)) (nodesKept (row 10 0 0 ∷ row 13 64 0 ∷ row 1 0 1 ∷ [])) (hashesKept (replicate 96 90)) (ones 4)
+    (zeros 6 ++ frameOnes 2) (ones 3)
     ∷ job spacious (turned (0 ∷ []))
-    is leaves (Refused (PrunedReached 2)) (nodesKept (row 13 0 0 ∷ row 10 32 0 ∷ row 1 0 1 ∷ [])) (hashesKept (replicate 32 90 ++ replicate 64 119)) (127 ∷ ones 3) (zeros 6 ++ frameOnes 2) (ones 3)
+    is leaves (Refused (PrunedReached 2)) (nodesKept (row 13 0 0 ∷ row 10 32 0 ∷ row 1 0 1 ∷ []))
+    (hashesKept (replicate 32 90 ++ replicate 64 119)) (127 ∷ ones 3) (zeros 6 ++ frameOnes 2) (ones 3)
     ∷ job spacious (turned (1 ∷ []))
-    is leaves (Refused (FailReached 1)) (nodesKept (row 13 0 0 ∷ row 10 32 0 ∷ row 1 0 1 ∷ [])) (hashesKept (replicate 32 90 ++ replicate 64 119)) (ones 4) (zeros 6 ++ frameOnes 2) (ones 3)
+    is leaves (Refused (FailReached 1)) (nodesKept (row 13 0 0 ∷ row 10 32 0 ∷ row 1 0 1 ∷ []))
+    (hashesKept (replicate 32 90 ++ replicate 64 119)) (ones 4) (zeros 6 ++ frameOnes 2) (ones 3)
     ∷ [])
 unfolding Hold job dossier code nodesKept hashesKept
 stopped-ends = refl
@@ -144,7 +151,8 @@ output-ends : Hold (
     job spacious (sharing (0 ∷ 1 ∷ 1 ∷ 0 ∷ []))
     is leaves (Value 2) shared (hashesKept (replicate 32 90)) (24 ∷ 191 ∷ ones 2) (zeros 6 ++ frameOnes 2) (128 ∷ ones 2)
     ∷ job (lent 22 97 4 4 3 255) cases
-    is leaves (Value 0) (nodeNumbersOf (row 9 0 0 ∷ tabulate 20 (λ k. row 1 k k)) ++ zeros 4) (zeros 97) (85 ∷ 85 ∷ 95 ∷ ones 1) (zeros 6 ++ frameOnes 2) (ones 3)
+    is leaves (Value 0) (nodeNumbersOf (row 9 0 0 ∷ tabulate 20 (λ k. row 1 k k)) ++ zeros 4) (zeros 97) (85 ∷ 85 ∷ 95 ∷ ones 1)
+    (zeros 6 ++ frameOnes 2) (ones 3)
     ∷ job (lent 9 97 36 6 3 255) disconnecting
     is leaves (Value 2) (nodesKept (row 9 0 0 ∷ row 4 0 0 ∷ row 8 0 0 ∷ row 2 2 2 ∷ row 7 3 0 ∷ row 3 4 2 ∷ row 0 1 5 ∷ [])) (zeros 97)
     (87 ∷ ones 31 ++ 253 ∷ 95 ∷ ones 2) (zeros 15 ++ frameOnes 1) (0 ∷ ones 2)

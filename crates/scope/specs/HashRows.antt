@@ -19,7 +19,9 @@ hash b = replicate hashBytes b
 
 -- the disconnects are nodes 3, 4 and 6; their right children are 2, 1 and 2
 abbrev nodes : List Node
-nodes = iden ∷ unit ∷ unit ∷ disconnect 0 2 ∷ disconnect 0 1 ∷ comp 3 4 ∷ disconnect 5 2 ∷ hidden (hash 4) ∷ hidden (4 ∷ []) ∷ fail (hash 5) ∷ disconnect1 1 ∷ []
+nodes =
+    iden ∷ unit ∷ unit ∷ disconnect 0 2 ∷ disconnect 0 1 ∷ comp 3 4 ∷ disconnect 5 2 ∷ hidden (hash 4) ∷ hidden (4 ∷ []) ∷ fail (hash 5)
+    ∷ disconnect1 1 ∷ []
 
 -- a damaged record, of kind 15, is the right child of a disconnect; the next one is of no disconnect
 abbrev damaged : List Node

@@ -50,7 +50,8 @@ module _ (nodes : List Node) (given : List ℕ) where
   entryFor j e [] = []
   entryFor j e (r ∷ rs) = elim (eqb r j) [ true ↦ wholeHash (entry given e) | false ↦ entryFor j (suc e) rs ]
 
-  -- the hash of the branch at node j: a hidden node's stands in the hash store, that of a disconnect's right child among the supplied ones; any other node has none
+  -- the hash of the branch at node j: a hidden node's stands in the hash store, that of a disconnect's right child among the supplied ones;
+  -- any other node has none
   unfoldable pub branchHash : (j : ℕ) → List ℕ
   unfolding nodeAt onHidden wholeHash entryFor rights
   branchHash j = onHidden (nodeAt nodes j) wholeHash (entryFor j 0 (rights nodes))

@@ -224,7 +224,8 @@ unfoldable pub ones : (k : ℕ) → Val
 ones zero = i
 ones (suc k) = ones k & ones k
 
--- from a bit, of a left child that keeps 1 0 and hands its input on, and a right child that puts a tag before it: in just the cells and frames there must be, and one less
+-- from a bit, of a left child that keeps 1 0 and hands its input on, and a right child that puts a tag before it: in just the cells and
+-- frames there must be, and one less
 abbrev disconnected : (size most : ℕ) → Out View View
 disconnected size most =
     shown 7 8 (exec size most (disconnect b1 b2 b1 (ones 8) (drop (wordTy 8) (pair b2 (witness b2 (i & o)) (iden b1))) (injr one b1 (iden b1))) (on 0 0))
@@ -247,7 +248,8 @@ disconnects = refl
 
 -- a whole run, from a bit to 1 + b1: the input at cell 0, the output after it; no frame where a width is 0
 machines : Hold (
-    shown 0 5 (machine 4 2 (injr one b1 (iden b1)) b1 (sum one b1) i (cells [] 0)) is done (view (1 ∷ 1 ∷ 1 ∷ 0 ∷ 0 ∷ []) (frame 0 0 1 ∷ []) (frame 3 1 2 ∷ []) 3)
+    shown 0 5 (machine 4 2 (injr one b1 (iden b1)) b1 (sum one b1) i (cells [] 0)) is done
+    (view (1 ∷ 1 ∷ 1 ∷ 0 ∷ 0 ∷ []) (frame 0 0 1 ∷ []) (frame 3 1 2 ∷ []) 3)
     ∷ shown 0 3 (machine 2 1 (witness b2 (o & i)) one b2 ⟨⟩ (cells [] 1)) is done (view (0 ∷ 1 ∷ 1 ∷ []) [] (frame 2 0 2 ∷ []) 2)
     ∷ shown 0 3 (machine 3 1 unit (sum one b2) one (inl ⟨⟩) (cells [] 1)) is done (view (0 ∷ 0 ∷ 0 ∷ []) (frame 0 0 3 ∷ []) [] 3)
     -- a cell or a frame less than input, output or the run need

@@ -15,7 +15,8 @@ pub data Kind : Type 0 where
 -- the kinds have the numbers 0 to 14
 unfoldable pub kindOf : ℕ → Kind
 kindOf n =
-    getD (kComp ∷ kCase ∷ kPair ∷ kDisconnect ∷ kInjl ∷ kInjr ∷ kTake ∷ kDrop ∷ kIden ∷ kUnit ∷ kFail ∷ kDisconnect1 ∷ kWitness ∷ kHidden ∷ kWord ∷ []) n kUnknown
+    getD (kComp ∷ kCase ∷ kPair ∷ kDisconnect ∷ kInjl ∷ kInjr ∷ kTake ∷ kDrop ∷ kIden ∷ kUnit ∷ kFail ∷ kDisconnect1 ∷ kWitness ∷ kHidden
+    ∷ kWord ∷ []) n kUnknown
 
 -- and back
 abbrev pub kindNumber : Kind → ℕ

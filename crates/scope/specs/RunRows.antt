@@ -110,8 +110,10 @@ S = state (cellsOf (0b10110110 ∷ 0b00000001 ∷ [])) [] [] 0
 
 each-end : Hold (
     ends Q (done S) (9 ∷ 9 ∷ []) (replicate 12 8) (7 ∷ 7 ∷ []) is left (Value 2) (0b10110110 ∷ 1 ∷ []) (zeros 9 ++ replicate 3 8) (64 ∷ 7 ∷ [])
-    ∷ ends Q (failed 3 S) (9 ∷ 9 ∷ []) (replicate 12 8) (7 ∷ 7 ∷ []) is left (Refused (FailReached 3)) (0b10110110 ∷ 1 ∷ []) (zeros 9 ++ replicate 3 8) (7 ∷ 7 ∷ [])
-    ∷ ends Q (pruned 4 S) (9 ∷ 9 ∷ []) (replicate 12 8) (7 ∷ 7 ∷ []) is left (Refused (PrunedReached 4)) (0b10110110 ∷ 1 ∷ []) (zeros 9 ++ replicate 3 8) (7 ∷ 7 ∷ [])
+    ∷ ends Q (failed 3 S) (9 ∷ 9 ∷ []) (replicate 12 8) (7 ∷ 7 ∷ []) is left (Refused (FailReached 3))
+    (0b10110110 ∷ 1 ∷ []) (zeros 9 ++ replicate 3 8) (7 ∷ 7 ∷ [])
+    ∷ ends Q (pruned 4 S) (9 ∷ 9 ∷ []) (replicate 12 8) (7 ∷ 7 ∷ []) is left (Refused (PrunedReached 4))
+    (0b10110110 ∷ 1 ∷ []) (zeros 9 ++ replicate 3 8) (7 ∷ 7 ∷ [])
     ∷ ends Q stuck (9 ∷ 9 ∷ []) (replicate 12 8) (7 ∷ 7 ∷ []) is left (Refused (StoreShort 0)) (9 ∷ 9 ∷ []) (replicate 12 8) (7 ∷ 7 ∷ [])
     ∷ leftWith (Value 1) (9 ∷ []) (8 ∷ []) (7 ∷ []) is left (Value 1) (9 ∷ []) (8 ∷ []) (7 ∷ [])
     ∷ [])

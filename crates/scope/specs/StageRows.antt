@@ -166,7 +166,8 @@ runs : Hold (
     ∷ runStage (unitType ++ 1 ∷ 0 ∷ 0 ∷ 0 ∷ 0 ∷ []) (14 ∷ 1 ∷ 7 ∷ 0 ∷ []) (0 ∷ 0 ∷ 0 ∷ 1 ∷ []) (1 ∷ []) [] [] [] 0 [] 0 (0 ∷ []) (replicate 6 8) (7 ∷ [])
     is left (Value 1) (128 ∷ []) (zeros 6) (128 ∷ [])
     -- witness and input are told apart
-    ∷ runStage (unitType ++ 1 ∷ 0 ∷ 0 ∷ 0 ∷ 0 ∷ []) (12 ∷ 0 ∷ 0 ∷ 0 ∷ []) (0 ∷ 1 ∷ 0 ∷ 1 ∷ []) (56 ∷ []) [] [] (128 ∷ []) 1 (0 ∷ []) 1 (0 ∷ []) (replicate 6 8) (7 ∷ [])
+    ∷ runStage (unitType ++ 1 ∷ 0 ∷ 0 ∷ 0 ∷ 0 ∷ []) (12 ∷ 0 ∷ 0 ∷ 0 ∷ []) (0 ∷ 1 ∷ 0 ∷ 1 ∷ []) (56 ∷ []) [] [] (128 ∷ []) 1 (0 ∷ []) 1
+    (0 ∷ []) (replicate 6 8) (7 ∷ [])
     is left (Value 1) (64 ∷ []) (zeros 6) (128 ∷ [])
     ∷ [])
 unfolding Hold runStage

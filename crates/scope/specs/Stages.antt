@@ -23,7 +23,8 @@ unfoldable pub counted : (records most : ℕ) → Check (Unit {0})
 unfolding require every
 counted records most = require (every (leb 1 records ∷ leb records most ∷ [])) (Natural 0)
 
--- the numbers of a record of each kind, where the program has `bits` bits and the hash store `bytes` bytes: children below it, data within its bytes, unused ones 0
+-- the numbers of a record of each kind, where the program has `bits` bits and the hash store `bytes` bytes: children below it, data within
+-- its bytes, unused ones 0
 unfoldable pub numbersRule : (bits bytes i : ℕ) → Kind → (a b c : ℕ) → Bool
 unfolding every
 numbersRule bits bytes i kComp a b c = every (ltb a i ∷ ltb b i ∷ eqb c 0 ∷ [])

@@ -50,7 +50,8 @@ fn told_arrows(
     program: &[u8],
     hashes: &[u8],
 ) -> Checked
-    ensures { λ r. ⌜ checkOf r ≡ toldArrows (checkOf held) (now (types .entry)) (now (nodes .entry)) (now (arrows .entry)) (now (program .entry)) (now (hashes .entry)) ⌝ }
+    ensures { λ r. ⌜ checkOf r ≡ toldArrows (checkOf held) (now (types .entry)) (now (nodes .entry)) (now (arrows .entry))
+        (now (program .entry)) (now (hashes .entry)) ⌝ }
 {
     let tables = told_tables(held, types, nodes, program, hashes);
     let Checked::Passed = tables else {
@@ -69,7 +70,8 @@ fn told_hashes(
     hashes: &[u8],
     given: &[u8],
 ) -> Checked
-    ensures { λ r. ⌜ checkOf r ≡ toldHashes (checkOf held) (now (types .entry)) (now (nodes .entry)) (now (arrows .entry)) (now (program .entry)) (now (hashes .entry))
+    ensures { λ r. ⌜ checkOf r ≡ toldHashes (checkOf held) (now (types .entry)) (now (nodes .entry)) (now (arrows .entry))
+        (now (program .entry)) (now (hashes .entry))
         (now (given .entry)) ⌝ }
 {
     let arrowed = told_arrows(held, types, nodes, arrows, program, hashes);

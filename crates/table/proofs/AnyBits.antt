@@ -78,7 +78,8 @@ module _ (bits hashes : List ℕ) (rs : List NodeRecord) where
     arrive-same : (m : ℕ) → arriveCount one i (node bits) m ≡ arriveCount other i (node []) m
     unfolding arriveCount
     arrive-same m =
-        ap (λ (c : Check (Unit {0})). require (eqb i m) (CanonicalOrder m) >>= λ next. c >>= λ fine. passed (suc m)) (allowed-same i (kindOf (here .kind)) (here .first) (here .second))
+        ap (λ (c : Check (Unit {0})). require (eqb i m) (CanonicalOrder m) >>= λ next. c >>= λ fine. passed (suc m))
+        (allowed-same i (kindOf (here .kind)) (here .first) (here .second))
 
     -- the children, the same in both
     abbrev left : ℕ
@@ -97,7 +98,9 @@ module _ (bits hashes : List ℕ) (rs : List NodeRecord) where
     past-same : (k : ℕ) → length rs ≤ i → walkCount one i k ≡ walkCount other i k
     unfolding walkCount
     past-same k h =
-        ap count (walk-past one i (omega (arith, length-nodes bits hashes rs)) (upFrom 0 k) ∙ sym (walk-past other i (omega (arith, length-nodes [] hashes rs)) (upFrom 0 k)))
+        ap count
+        (walk-past one i (omega (arith, length-nodes bits hashes rs)) (upFrom 0 k)
+        ∙ sym (walk-past other i (omega (arith, length-nodes [] hashes rs)) (upFrom 0 k)))
 
     -- the walk from node i, where those from the nodes below are the same
     step-same : ((j k : ℕ) → j < i → walkCount one j k ≡ walkCount other j k) → (k : ℕ) → i < length rs → walkCount one i k ≡ walkCount other i k
@@ -130,7 +133,8 @@ module _ (bits hashes : List ℕ) (rs : List NodeRecord) where
   pub walk-any-bits : checkWalk (nodesOf bits hashes rs) ≡ checkWalk (nodesOf [] hashes rs)
   walk-any-bits =
       check-walk-count one
-      ∙ ap (λ (n : ℕ). walkCount one (n - 1) 0 >>= λ all. require (not (hiddenAt one (n - 1))) (HiddenElsewhere (n - 1))) (length-nodes bits hashes rs ∙ sym (length-nodes [] hashes rs))
+      ∙ ap (λ (n : ℕ). walkCount one (n - 1) 0 >>= λ all. require (not (hiddenAt one (n - 1))) (HiddenElsewhere (n - 1)))
+      (length-nodes bits hashes rs ∙ sym (length-nodes [] hashes rs))
       ∙ ap₂ (λ (c : Check ℕ) (b : Bool). c >>= λ all. require (not b) (HiddenElsewhere (length other - 1)))
       (walks-same (suc (length other - 1)) (length other - 1) (omega arith) 0) (hidden-same (length other - 1))
       ∙ sym (check-walk-count other)

@@ -125,7 +125,8 @@ by-kind P a b c d e f g h i j k l m n o rest (suc (suc (suc (suc (suc (suc (suc 
 pub unknown : (k : ℕ) → 14 < k → kindOf k ≡ kUnknown
 unfolding kindOf
 unknown k h =
-    List·getD-eq-default (kComp ∷ kCase ∷ kPair ∷ kDisconnect ∷ kInjl ∷ kInjr ∷ kTake ∷ kDrop ∷ kIden ∷ kUnit ∷ kFail ∷ kDisconnect1 ∷ kWitness ∷ kHidden ∷ kWord ∷ [])
+    List·getD-eq-default
+    (kComp ∷ kCase ∷ kPair ∷ kDisconnect ∷ kInjl ∷ kInjr ∷ kTake ∷ kDrop ∷ kIden ∷ kUnit ∷ kFail ∷ kDisconnect1 ∷ kWitness ∷ kHidden ∷ kWord ∷ [])
     kUnknown h
 
 -- how many children a kind has, by the tests on its number

@@ -76,11 +76,13 @@ module _ (hashes nodes : List ℕ) (fine : counted (length (nodeRecords nodes)) 
       >>= λ all. require (not (hiddenAt (lentNodes hashes nodes) (length nodes / nodeNumbers - 1))) (HiddenElsewhere (length nodes / nodeNumbers - 1)))
   by-count =
       walk-then ∙ check-walk-count (lentNodes hashes nodes)
-      ∙ ap (λ (n : ℕ). walkCount (lentNodes hashes nodes) (n - 1) 0 >>= λ all. require (not (hiddenAt (lentNodes hashes nodes) (n - 1))) (HiddenElsewhere (n - 1)))
+      ∙ ap (λ (n : ℕ). walkCount (lentNodes hashes nodes) (n - 1) 0
+      >>= λ all. require (not (hiddenAt (lentNodes hashes nodes) (n - 1))) (HiddenElsewhere (n - 1)))
       (length-nodes [] hashes (nodeRecords nodes) ∙ length-records nodes)
 
   -- it stops on its way, or its last node is hidden, or it passes
-  pub walk-stops : (why : Refusal) → walkCount (lentNodes hashes nodes) (length nodes / nodeNumbers - 1) 0 ≡ refused why → refused why ≡ countedWalk hashes nodes
+  pub walk-stops : (why : Refusal) → walkCount (lentNodes hashes nodes) (length nodes / nodeNumbers - 1) 0 ≡ refused why
+      → refused why ≡ countedWalk hashes nodes
   walk-stops why e = sym (by-count ∙ then-refuses _ _ why e)
 
   pub walk-ends : (k : ℕ) (b : Bool) → walkCount (lentNodes hashes nodes) (length nodes / nodeNumbers - 1) 0 ≡ passed k

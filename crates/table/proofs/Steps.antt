@@ -59,7 +59,8 @@ module _ (nodes : List Node) (i : ℕ) where
       → allowed nodes i (nodeOf [] hashes (kindOf k) a b)
       ≡ childrenRule false (hiddenAt nodes (leftOf (nodeOf [] [] (kindOf k) a b) i)) (hiddenAt nodes (rightOf (nodeOf [] [] (kindOf k) a b) i)) i)
       (λ e n p. two-shown a b) (λ e n p. absurd (n refl)) (λ e n p. two-shown a b) (λ e n p. two-shown a b)
-      (λ e n p. one-shown a (own-shown _ e refl)) (λ e n p. one-shown a (own-shown _ e refl)) (λ e n p. one-shown a (own-shown _ e refl)) (λ e n p. one-shown a (own-shown _ e refl))
+      (λ e n p. one-shown a (own-shown _ e refl)) (λ e n p. one-shown a (own-shown _ e refl)) (λ e n p. one-shown a (own-shown _ e refl))
+      (λ e n p. one-shown a (own-shown _ e refl))
       (λ e n p. none-shown (own-shown _ e refl)) (λ e n p. none-shown (own-shown _ e refl)) (λ e n p. none-shown (own-shown _ e refl))
       (λ e n p. one-shown a (own-shown _ e refl))
       (λ e n p. none-shown (own-shown _ e refl)) (λ e n p. clash (cc)) (λ e n p. none-shown (own-shown _ e refl))
@@ -195,28 +196,36 @@ module _ (hashes nodes : List ℕ) (i : ℕ) (r : NodeRecord) (is : r ≡ getD (
   node-is = node-at [] hashes (nodeRecords nodes) i ∙ ap (nodeIs hashes) (sym is)
 
   -- what a hidden node asks
-  pub asks-hidden : hiddenKind (r .kind) ≡ true → allowed (lentNodes hashes nodes) i (nodeAt (lentNodes hashes nodes) i) ≡ repeatRule (lentNodes hashes nodes) (nodeIs hashes r) i
+  pub asks-hidden : hiddenKind (r .kind) ≡ true
+      → allowed (lentNodes hashes nodes) i (nodeAt (lentNodes hashes nodes) i) ≡ repeatRule (lentNodes hashes nodes) (nodeIs hashes r) i
   asks-hidden h = ap (allowed (lentNodes hashes nodes) i) node-is ∙ allowed-hidden (lentNodes hashes nodes) i hashes (r .first) (r .second) (r .kind) h
 
   module _ (a b : ℕ) (left right : Bool) (at-a : a ≡ leftOf (nodeIs [] r) i) (at-b : b ≡ rightOf (nodeIs [] r) i)
       (on-a : left ≡ hiddenAt (lentNodes [] nodes) a) (on-b : right ≡ hiddenAt (lentNodes [] nodes) b) where
-    both-told : (t : Bool) → childrenRule t (hiddenAt (lentNodes hashes nodes) (leftOf (nodeIs [] r) i)) (hiddenAt (lentNodes hashes nodes) (rightOf (nodeIs [] r) i)) i
+    both-told : (t : Bool) → childrenRule t (hiddenAt (lentNodes hashes nodes) (leftOf (nodeIs [] r) i))
+        (hiddenAt (lentNodes hashes nodes) (rightOf (nodeIs [] r) i)) i
         ≡ childrenRule t left right i
     both-told t =
         sym (ap₂ (λ (x y : Bool). childrenRule t x y i)
-        (on-a ∙ ap (hiddenAt (lentNodes [] nodes)) at-a ∙ hidden-same (leftOf (nodeIs [] r) i)) (on-b ∙ ap (hiddenAt (lentNodes [] nodes)) at-b ∙ hidden-same (rightOf (nodeIs [] r) i)))
+        (on-a ∙ ap (hiddenAt (lentNodes [] nodes)) at-a ∙ hidden-same (leftOf (nodeIs [] r) i))
+        (on-b ∙ ap (hiddenAt (lentNodes [] nodes)) at-b ∙ hidden-same (rightOf (nodeIs [] r) i)))
       where
         hidden-same : (j : ℕ) → hiddenAt (lentNodes [] nodes) j ≡ hiddenAt (lentNodes hashes nodes) j
         hidden-same j = sym (hidden-alike [] hashes (nodeRecords nodes) j)
 
     -- what a case asks, and what any other node asks
     pub asks-case : r .kind ≡ 1 → allowed (lentNodes hashes nodes) i (nodeAt (lentNodes hashes nodes) i) ≡ childrenRule true left right i
-    asks-case e = ap (allowed (lentNodes hashes nodes) i) node-is ∙ allowed-case (lentNodes hashes nodes) i hashes (r .first) (r .second) (r .kind) e ∙ both-told true
+    asks-case e =
+        ap (allowed (lentNodes hashes nodes) i) node-is
+        ∙ allowed-case (lentNodes hashes nodes) i hashes (r .first) (r .second) (r .kind) e
+        ∙ both-told true
 
     pub asks-other : (r .kind ≡ 1 → ⊥) → hiddenKind (r .kind) ≡ false
         → allowed (lentNodes hashes nodes) i (nodeAt (lentNodes hashes nodes) i) ≡ childrenRule false left right i
     asks-other n h =
-        ap (allowed (lentNodes hashes nodes) i) node-is ∙ allowed-other (lentNodes hashes nodes) i hashes (r .first) (r .second) (r .kind) node-is n h ∙ both-told false
+        ap (allowed (lentNodes hashes nodes) i) node-is
+        ∙ allowed-other (lentNodes hashes nodes) i hashes (r .first) (r .second) (r .kind) node-is n h
+        ∙ both-told false
 
   module _ (k : ℕ) (within : i < length (nodeRecords nodes)) where
     step : walkCount (lentNodes hashes nodes) i k

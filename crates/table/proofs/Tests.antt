@@ -30,17 +30,20 @@ module _ (bytes a b c : ℕ) where
   pub word-over : 1 ≤ a → wordMost < a → false ≡ wordRule (8 * bytes) a b c
   unfolding numbersRule every
   word-over l h =
-      sym (ap₂ (λ (s t : Bool). elim (every (s ∷ t ∷ eqb c 0 ∷ [])) [ true ↦ leb (b + 2 ^ (a - 1)) (8 * bytes) | false ↦ false ]) (le-leb 1 a l) (lt-leb a wordMost h))
+      sym (ap₂ (λ (s t : Bool). elim (every (s ∷ t ∷ eqb c 0 ∷ [])) [ true ↦ leb (b + 2 ^ (a - 1)) (8 * bytes) | false ↦ false ])
+      (le-leb 1 a l) (lt-leb a wordMost h))
 
   pub word-third : 1 ≤ a → a ≤ wordMost → (c ≡ 0 → ⊥) → false ≡ wordRule (8 * bytes) a b c
   unfolding numbersRule every
   word-third l h n =
-      sym (ap₂ (λ (s t : Bool). elim (every (s ∷ t ∷ eqb c 0 ∷ [])) [ true ↦ leb (b + 2 ^ (a - 1)) (8 * bytes) | false ↦ false ]) (le-leb 1 a l) (le-leb a wordMost h)
+      sym (ap₂ (λ (s t : Bool). elim (every (s ∷ t ∷ eqb c 0 ∷ [])) [ true ↦ leb (b + 2 ^ (a - 1)) (8 * bytes) | false ↦ false ])
+      (le-leb 1 a l) (le-leb a wordMost h)
       ∙ ap (λ (t : Bool). elim (every (t ∷ [])) [ true ↦ leb (b + 2 ^ (a - 1)) (8 * bytes) | false ↦ false ]) (ne-eqb c 0 n))
 
   pub word-end : 1 ≤ a → a ≤ wordMost → c ≡ 0 → leb ((b + 2 ^ (a - 1) + 7) / 8) bytes ≡ wordRule (8 * bytes) a b c
   unfolding numbersRule every
   word-end l h n =
-      sym (ap₂ (λ (s t : Bool). elim (every (s ∷ t ∷ eqb c 0 ∷ [])) [ true ↦ leb (b + 2 ^ (a - 1)) (8 * bytes) | false ↦ false ]) (le-leb 1 a l) (le-leb a wordMost h)
+      sym (ap₂ (λ (s t : Bool). elim (every (s ∷ t ∷ eqb c 0 ∷ [])) [ true ↦ leb (b + 2 ^ (a - 1)) (8 * bytes) | false ↦ false ])
+      (le-leb 1 a l) (le-leb a wordMost h)
       ∙ ap (λ (t : Bool). elim (every (t ∷ [])) [ true ↦ leb (b + 2 ^ (a - 1)) (8 * bytes) | false ↦ false ]) (eq-eqb c 0 n)
       ∙ whole-bytes (b + 2 ^ (a - 1)) bytes)

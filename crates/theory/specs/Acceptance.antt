@@ -1,5 +1,6 @@
--- Which dossiers are run: just those that hold the report's code of a table in canonical order, types and hashes that keep their rules, arrows that are the report's typing,
--- a program within the limits, bits of values of the right types, and that are lent stores which fit. So is told what each answers.
+-- Which dossiers are run: just those that hold the report's code of a table in canonical order, types and hashes that keep their rules,
+-- arrows that are the report's typing, a program within the limits, bits of values of the right types, and that are lent stores which fit.
+-- So is told what each answers.
 use mathlib.Core.Path.{_≡_, refl, sym, ap, _∙_, subst}
 use mathlib.Core.List.{List, []}
 use Prim.Native.Nat.{ℕ, _/_, _≤_, _<_}
@@ -136,7 +137,8 @@ module _ (d nodes hashes cells frames answer : List ℕ) where
         let after : NodeTable → Check NodeTable = λ t. checkTables (tablesOf d t) >>= λ tables. passed t in
         let fit = h .program .formed .fit in
         let tables : checkTables (T ns) ≡ passed tt =
-        then-passes (checkArrows types ns arrows) (λ fine. checkHashes ns (section d sHashes)) tt (typed-arrows types (h .types) ns arrows (λ i l. fit-at ns i fit l .below) (h .arrows))
+        then-passes (checkArrows types ns arrows) (λ fine. checkHashes ns (section d sHashes)) tt
+        (typed-arrows types (h .types) ns arrows (λ i l. fit-at ns i fit l .below) (h .arrows))
         ∙ fit-hashes ns (section d sHashes) (h .supplied) in
         then-passes (checkHeader d) (λ header. checkTypes types >>= λ fine. read >>= after) tt (fits-header d (h .header))
         ∙ then-passes (checkTypes types) (λ fine. read >>= after) tt (pass-types types (h .types))
@@ -161,7 +163,8 @@ module _ (d nodes hashes cells frames answer : List ℕ) where
         (fits-witness types arrows ns (section d sWitness) (count d sWitness) values (h .witness))
         ∙ then-passes (checkInput (wholeSource Q) (section d sInput) (count d sInput)) (λ v. last values v) v
         (fits-input (wholeSource Q) (section d sInput) (count d sInput) v (input-alike d ns values [] (h .input)))
-        ∙ then-passes (checkStores Q cells frames answer) (λ stored. passed (made values v)) tt (fit-stores Q cells frames answer (stores-alike d ns values [] (h .stores)))
+        ∙ then-passes (checkStores Q cells frames answer) (λ stored. passed (made values v)) tt
+        (fit-stores Q cells frames answer (stores-alike d ns values [] (h .stores)))
 
   -- ONLY SUCH A DOSSIER DOES
   module _ (t : NodeTable) (R : Ready) (e : checkDossier d nodes hashes ≡ passed t) (f : checkReady (tablesOf d t) cells frames answer ≡ passed R) where
@@ -196,11 +199,19 @@ module _ (d nodes hashes cells frames answer : List ℕ) where
         let rules : TypesPass types = types-pass types (b .1) in
         let fit = p .1 .formed .fit in (
           ns,
-          (header-fits d (a .1), rules, p .1, p .2, arrows-typed types rules ns arrows (λ i l. fit-at ns i fit l .below) (k .1), hashes-fit ns (section d sHashes) (k .2)),
+          (
+            header-fits d (a .1),
+            rules,
+            p .1,
+            p .2,
+            arrows-typed types rules ns arrows (λ i l. fit-at ns i fit l .below) (k .1),
+            hashes-fit ns (section d sHashes) (k .2),
+          ),
         )
 
     -- and 14 to 17 the values, the input and the stores
-    pub passes-kept : (ns : List Node) × (values : List Val) × RulesKept d nodes hashes cells frames answer ns values (R .input) × (t ≡ layout ns) × (R .program ≡ programWith d ns values)
+    pub passes-kept : (ns : List Node) × (values : List Val) × RulesKept d nodes hashes cells frames answer ns values (R .input)
+        × (t ≡ layout ns) × (R .program ≡ programWith d ns values)
     unfolding checkReady programOf
     passes-kept =
         let ns : List Node = checked .0 in
@@ -308,7 +319,8 @@ module _ (d nodes hashes cells frames answer : List ℕ) where
         let e = kept-passes d nodes hashes cells frames answer ns values v h in
         let p = kept-ready d nodes hashes cells frames answer ns values v h in
         subst FromRun (sym kept-says)
-        (good-told (value-of-target (R .program) (job-sound d nodes hashes (layout ns) e cells frames answer R p) v (job-input d nodes hashes (layout ns) e cells frames answer R p)))
+        (good-told (value-of-target (R .program) (job-sound d nodes hashes (layout ns) e cells frames answer R p) v
+        (job-input d nodes hashes (layout ns) e cells frames answer R p)))
 
   -- a dossier that holds a table, values and an input by the rules
   abbrev pub Acceptable : Type 0
@@ -325,8 +337,12 @@ module _ (d nodes hashes cells frames answer : List ℕ) where
       tables : (t : NodeTable) → checkDossier d nodes hashes ≡ passed t → (x : Check Ready) → checkReady (tablesOf d t) cells frames answer ≡ x → Acceptable
       tables t e (passed R) p = let k = passes-kept d nodes hashes cells frames answer t R e p in (k .0, k .1, R .input, k .2)
       tables t e (refused r) p =
-          absurd (not-run (checkReady (tablesOf d t) cells frames answer) r (ready-refuses OfCheck ready-checks (tablesOf d t) cells frames answer) p (job-unready d nodes hashes cells frames answer t r e p) f)
+          absurd (not-run (checkReady (tablesOf d t) cells frames answer) r (ready-refuses OfCheck ready-checks
+          (tablesOf d t) cells frames answer) p (job-unready d nodes hashes cells frames answer t r e p) f)
 
       go : (x : Check NodeTable) → checkDossier d nodes hashes ≡ x → Acceptable
       go (passed t) e = tables t e (checkReady (tablesOf d t) cells frames answer) refl
-      go (refused r) e = absurd (not-run (checkDossier d nodes hashes) r (dossier-refuses OfCheck decoding-checks (λ at h. omega arith) tables-check d nodes hashes) e (job-refused d nodes hashes cells frames answer r e) f)
+      go (refused r) e =
+          absurd
+          (not-run (checkDossier d nodes hashes) r (dossier-refuses OfCheck decoding-checks (λ at h. omega arith) tables-check d nodes hashes) e
+          (job-refused d nodes hashes cells frames answer r e) f)

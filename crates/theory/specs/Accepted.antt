@@ -58,7 +58,8 @@ module _ (T : Tables) (ok : Checked T) where
     where
       go : Dec (i < length (T .nodes)) → hiddenAt (T .nodes) b ≡ false
       go (yes h) =
-          let f : allowed (T .nodes) i (disconnect a b) ≡ passed tt = subst (λ (n : Node). allowed (T .nodes) i n ≡ passed tt) e (places-allowed (T .nodes) places i h) in
+          let f : allowed (T .nodes) i (disconnect a b) ≡ passed tt =
+          subst (λ (n : Node). allowed (T .nodes) i n ≡ passed tt) e (places-allowed (T .nodes) places i h) in
           none-hidden (T .nodes) i (a ∷ b ∷ []) f .1 .0
       go (no h) = let f : nodeAt (T .nodes) i ≡ noNode = List·getD-eq-default (T .nodes) noNode {n = i} (omega arith) in clash (cc)
 
@@ -106,7 +107,8 @@ module _ (T : Tables) (ok : Checked T) where
     unfolding wholeSource sourceTy last programOf
     ready-input =
         let r = ready in
-        subst (λ (Q : Ready). HasTy (Q .input) (wholeSource (Q .program))) (sym (r .4)) (input-typed (wholeSource (programOf T [])) (T .input) (T .inputBits) (r .1) (r .3))
+        subst (λ (Q : Ready). HasTy (Q .input) (wholeSource (Q .program))) (sym (r .4))
+        (input-typed (wholeSource (programOf T [])) (T .input) (T .inputBits) (r .1) (r .3))
 
     -- the run over such tables
     ran-tables : runTables T cells frames answer ≡ ran R cells frames answer

@@ -47,14 +47,16 @@ module _ (P : Program) (ok : Sound P) (v : Val) (hv : HasTy v (wholeSource P)) (
   said (RanPrune k) = refl
 
   -- what it leaves in the answer store
-  put-out : {o : Means} {s : Step} → Ran (wholeTarget P) (width (wholeSource P)) (wholeCells P) (cellsOf cells) o s → (ends P s cells frames answer) .answer ≡ output o answer
+  put-out : {o : Means} {s : Step} → Ran (wholeTarget P) (width (wholeSource P)) (wholeCells P) (cellsOf cells) o s
+      → (ends P s cells frames answer) .answer ≡ output o answer
   unfolding ends output
   put-out (RanValue k) = refl
   put-out (RanFail k) = refl
   put-out (RanPrune k) = refl
 
   -- what it leaves in the frame store
-  swept : {o : Means} {s : Step} → Ran (wholeTarget P) (width (wholeSource P)) (wholeCells P) (cellsOf cells) o s → (ends P s cells frames answer) .frames ≡ cleared (wholeFrames P) frames
+  swept : {o : Means} {s : Step} → Ran (wholeTarget P) (width (wholeSource P)) (wholeCells P) (cellsOf cells) o s
+      → (ends P s cells frames answer) .frames ≡ cleared (wholeFrames P) frames
   unfolding ends
   swept (RanValue k) = refl
   swept (RanFail k) = refl

@@ -170,7 +170,8 @@ module _ (P : Program) (ok : Sound P) (i : ℕ) (s : State) (h : AtNode P i s) w
   Room m k j = Beside m k (bounds (termAt P j)) (bounds (termAt P i))
 
   -- the children of a node that allows no hidden one
-  two-children : (n : Node) (a b : ℕ) → nodeAt (P .nodes) i ≡ n → children n ≡ a ∷ b ∷ [] → allowed (P .nodes) i n ≡ noneHidden (P .nodes) i (a ∷ b ∷ []) → Child a × Child b
+  two-children : (n : Node) (a b : ℕ) → nodeAt (P .nodes) i ≡ n → children n ≡ a ∷ b ∷ []
+      → allowed (P .nodes) i n ≡ noneHidden (P .nodes) i (a ∷ b ∷ []) → Child a × Child b
   two-children n a b e q r =
       let m = node-is P ok n h e in
       let l : AllBelow i (a ∷ b ∷ []) = subst (AllBelow i) q (m .below) in
@@ -182,7 +183,9 @@ module _ (P : Program) (ok : Sound P) (i : ℕ) (s : State) (h : AtNode P i s) w
     -- room for its middle and each child
     comp-room : Room (width (targetTy P a)) 1 a × Room (width (targetTy P a)) 1 b
     unfolding termOf bounds compRow
-    comp-room = rw (node-is P ok (comp a b) h e .term) (record { cells = omega arith; frames = omega arith }, record { cells = omega arith; frames = omega arith })
+    comp-room =
+        rw (node-is P ok (comp a b) h e .term)
+        (record { cells = omega arith; frames = omega arith }, record { cells = omega arith; frames = omega arith })
 
     -- its children
     comp-children : Child a × Child b
@@ -207,7 +210,9 @@ module _ (P : Program) (ok : Sound P) (i : ℕ) (s : State) (h : AtNode P i s) w
     -- room for each child
     pair-room : Room 0 0 a × Room 0 0 b
     unfolding termOf bounds pairRow
-    pair-room = rw (node-is P ok (pair a b) h e .term) (record { cells = omega arith; frames = omega arith }, record { cells = omega arith; frames = omega arith })
+    pair-room =
+        rw (node-is P ok (pair a b) h e .term)
+        (record { cells = omega arith; frames = omega arith }, record { cells = omega arith; frames = omega arith })
 
     -- its children
     pair-children : Child a × Child b
@@ -297,7 +302,8 @@ module _ (P : Program) (ok : Sound P) (i : ℕ) (s : State) (h : AtNode P i s) w
     right-room q = rw (node-is P ok (case a b) h e .term, termOf, q) (right-beside (hiddenAt (P .nodes) a) i (sourceTy P i) (termAt P a) (termAt P b))
 
     -- the left branch is entered
-    at-case-left : hiddenAt (P .nodes) a ≡ false → {t : State} → fwd (1 + padL (leftOf (leftOf (sourceTy P i))) (rightOf (leftOf (sourceTy P i)))) s ≡ done t → AtNode P a t
+    at-case-left : hiddenAt (P .nodes) a ≡ false → {t : State}
+        → fwd (1 + padL (leftOf (leftOf (sourceTy P i))) (rightOf (leftOf (sourceTy P i)))) s ≡ done t → AtNode P a t
     at-case-left q {t} g =
         let k = case-arrows (node-is P ok (case a b) h e .typed) in
         let l = branch-arrow q (k .4) in
@@ -305,7 +311,8 @@ module _ (P : Program) (ok : Sound P) (i : ℕ) (s : State) (h : AtNode P i s) w
         (rw (l .ends) (behind-way size most _ (left-room q) (left-wide (sourceTy P i) (sourceTy P a) (k .0) (k .1) (k .2) (k .3) (l .starts)) (h .entry) g))
 
     -- the right branch is entered
-    at-case-right : hiddenAt (P .nodes) b ≡ false → {t : State} → fwd (1 + padR (leftOf (leftOf (sourceTy P i))) (rightOf (leftOf (sourceTy P i)))) s ≡ done t → AtNode P b t
+    at-case-right : hiddenAt (P .nodes) b ≡ false → {t : State}
+        → fwd (1 + padR (leftOf (leftOf (sourceTy P i))) (rightOf (leftOf (sourceTy P i)))) s ≡ done t → AtNode P b t
     at-case-right q {t} g =
         let k = case-arrows (node-is P ok (case a b) h e .typed) in
         let l = branch-arrow q (k .5) in
@@ -326,7 +333,8 @@ module _ (P : Program) (ok : Sound P) (i : ℕ) (s : State) (h : AtNode P i s) w
     disconnect-room : Room (width (wordTy 8) + width (sourceTy P i) + width both) 2 a × Room (width (wordTy 8) + width (sourceTy P i) + width both) 2 b
     unfolding termOf bounds disconnectRow width
     disconnect-room =
-        rw (node-is P ok (disconnect a b) h e .term) (record { cells = omega arith; frames = omega arith }, record { cells = omega arith; frames = omega arith })
+        rw (node-is P ok (disconnect a b) h e .term)
+        (record { cells = omega arith; frames = omega arith }, record { cells = omega arith; frames = omega arith })
 
     -- its children
     disconnect-children : Child a × Child b
@@ -346,14 +354,16 @@ module _ (P : Program) (ok : Sound P) (i : ℕ) (s : State) (h : AtNode P i s) w
     unfolding handed width
     at-disconnect-left {t} g =
         at-child a t (disconnect-children .0) (rw (left-goes .0 .starts, left-goes .0 .ends)
-        (disconnect-left size most (P .hash b) (ok .hashValues i a b e) (sourceTy P i) kept (sourceTy P b) (targetTy P i) (bounds (termAt P i)) s (h .entry) (disconnect-room .0) g))
+        (disconnect-left size most (P .hash b) (ok .hashValues i a b e) (sourceTy P i) kept (sourceTy P b) (targetTy P i)
+        (bounds (termAt P i)) s (h .entry) (disconnect-room .0) g))
 
     -- the right child is entered
     at-disconnect-right : {s₁ s₂ s₃ s₄ t : State} → handed P i b s ≡ done s₁ → runNode P a s₁ ≡ done s₂ → moveFrame s₂ ≡ done s₃
         → copy (width kept) s₃ ≡ done s₄ → fwd (width kept) s₄ ≡ done t → AtNode P b t
     unfolding handed width
     at-disconnect-right {t = t} g₁ g₂ g₃ g₄ g₅ =
-        let left : Typed (termAt P a) (prod (wordTy 8) (sourceTy P i)) both = rw (left-goes .0 .starts, left-goes .0 .ends) at (child-typed a (disconnect-children .0)) in
+        let left : Typed (termAt P a) (prod (wordTy 8) (sourceTy P i)) both =
+        rw (left-goes .0 .starts, left-goes .0 .ends) at (child-typed a (disconnect-children .0)) in
         let wide : width kept + width (targetTy P b) ≤ width (targetTy P i) = omega (arith, ap width (left-goes .1)) in
         at-child b t (disconnect-children .1)
         (disconnect-right size most (P .hash b) (ok .hashValues i a b e) (sourceTy P i) kept (sourceTy P b) (targetTy P i) (bounds (termAt P i)) s (h .entry)

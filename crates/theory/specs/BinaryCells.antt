@@ -26,8 +26,16 @@ zeros-bits (suc n) = (omega arith, zeros-bits n)
 pub padded-bits : (A : Ty) (v : Val) → AreBits (padded A v)
 unfolding padded
 padded-bits A ⟨⟩ = tt
-padded-bits A (inl v) = (omega arith, below-append 2 (replicate (padL (leftOf A) (rightOf A)) 0) (padded (leftOf A) v) (zeros-bits (padL (leftOf A) (rightOf A))) (padded-bits (leftOf A) v))
-padded-bits A (inr v) = (omega arith, below-append 2 (replicate (padR (leftOf A) (rightOf A)) 0) (padded (rightOf A) v) (zeros-bits (padR (leftOf A) (rightOf A))) (padded-bits (rightOf A) v))
+padded-bits A (inl v) = (
+  omega arith,
+  below-append 2 (replicate (padL (leftOf A) (rightOf A)) 0) (padded (leftOf A) v) (zeros-bits (padL (leftOf A) (rightOf A)))
+      (padded-bits (leftOf A) v),
+)
+padded-bits A (inr v) = (
+  omega arith,
+  below-append 2 (replicate (padR (leftOf A) (rightOf A)) 0) (padded (rightOf A) v) (zeros-bits (padR (leftOf A) (rightOf A)))
+      (padded-bits (rightOf A) v),
+)
 padded-bits A (v & w) = below-append 2 (padded (leftOf A) v) (padded (rightOf A) w) (padded-bits (leftOf A) v) (padded-bits (rightOf A) w)
 
 -- a bit written, bits written, cells copied: the cells stay bits
@@ -71,7 +79,8 @@ after-need true o h = h
 after-need false o h = BitsStuck
 
 -- a step that asks for a frame
-after-frames : (fs : List Frame) (f : Frame → List Frame → Step) → ((g : Frame) (gs : List Frame) → BitsAfter (f g gs)) → BitsAfter (elim fs [ [] ↦ stuck | g ∷ gs ↦ f g gs ])
+after-frames : (fs : List Frame) (f : Frame → List Frame → Step) → ((g : Frame) (gs : List Frame) → BitsAfter (f g gs))
+    → BitsAfter (elim fs [ [] ↦ stuck | g ∷ gs ↦ f g gs ])
 after-frames [] f h = BitsStuck
 after-frames (g ∷ gs) f h = h g gs
 
@@ -135,7 +144,9 @@ module _ (s : State) (h : BitCells (s .cells)) where
   after-back : (n : ℕ) → BitsAfter (back n s)
   unfolding back state
   after-back zero = BitsDone h
-  after-back (suc n) = after-frames (s .reads) (λ f rs. need (leb (f .start + suc n) (f .cursor)) (done (state (s .cells) (backward (suc n) f ∷ rs) (s .writes) (s .next))))
+  after-back (suc n) =
+      after-frames (s .reads)
+      (λ f rs. need (leb (f .start + suc n) (f .cursor)) (done (state (s .cells) (backward (suc n) f ∷ rs) (s .writes) (s .next))))
       (λ f rs. after-need (leb (f .start + suc n) (f .cursor)) (done (state (s .cells) (backward (suc n) f ∷ rs) (s .writes) (s .next))) (BitsDone h))
 
 -- the bit at the cursor of the active read frame
@@ -191,7 +202,8 @@ module _ (size most : ℕ) where
 
   -- disconnect: a frame for the hash and the input, a frame for the left result, and the right part
   disconnect-bits : (m n a b : ℕ) (bs : List Bit) (f g : State → Step) → AreBits bs → KeepsBits f → KeepsBits g
-      → KeepsBits (λ s. newFrame size most m s >>= λ s. writeBits bs s >>= λ s. copy a s >>= λ s. moveFrame s >>= λ s. newFrame size most n s >>= λ s. f s >>= λ s.
+      → KeepsBits (λ s. newFrame size most m s >>= λ s. writeBits bs s >>= λ s. copy a s >>= λ s. moveFrame s
+      >>= λ s. newFrame size most n s >>= λ s. f s >>= λ s.
       moveFrame s >>= λ s. copy b s >>= λ s. fwd b s >>= λ s. g s >>= λ s. dropFrame s >>= λ s. dropFrame s)
   disconnect-bits m n a b bs f g w k l s h =
       after-bind (newFrame size most m s) _ (after-newFrame s h size most m) (λ s h.
@@ -217,7 +229,8 @@ module _ (size most : ℕ) where
   exec-bits (pair B f g) s h = after-bind (exec size most f s) (exec size most g) (exec-bits f s h) (exec-bits g)
   exec-bits (take t) s h = exec-bits t s h
   exec-bits (drop A t) s h = on-bits (width A) (exec size most t) (exec-bits t) s h
-  exec-bits (case A B f g) s h = case-bits _ _ (on-bits (1 + padL A B) (exec size most f) (exec-bits f)) (on-bits (1 + padR A B) (exec size most g) (exec-bits g)) s h
+  exec-bits (case A B f g) s h =
+      case-bits _ _ (on-bits (1 + padL A B) (exec size most f) (exec-bits f)) (on-bits (1 + padR A B) (exec size most g) (exec-bits g)) s h
   exec-bits (assertl p A B f) s h = case-bits _ (λ s. pruned p s) (on-bits (1 + padL A B) (exec size most f) (exec-bits f)) (λ s h. BitsPruned h) s h
   exec-bits (assertr p A B g) s h = case-bits (λ s. pruned p s) _ (λ s h. BitsPruned h) (on-bits (1 + padR A B) (exec size most g) (exec-bits g)) s h
   exec-bits (fail p) s h = BitsFailed h

@@ -21,13 +21,15 @@ use Rattle.theory.specs.Frames.{bare, does}
 -- How a run of a term to B ends, at any point of a larger run: frames rs and ws, write cursor wr, nx the first free cell, of which it may use x, cells c.
 -- It never ends stuck.
 pub data Ends (B : Ty) (wr nx x : ℕ) (rs ws : List Frame) (c : Cells) : Means → Step → Type 0 where
-  Value : {v : Val} {d : Cells} → valueAt B d wr ≡ v → Kept wr (width B) nx x c d → Ends B wr nx x rs ws c (done v) (done (state d rs (advance (width B) ws) nx))
+  Value : {v : Val} {d : Cells} → valueAt B d wr ≡ v → Kept wr (width B) nx x c d
+      → Ends B wr nx x rs ws c (done v) (done (state d rs (advance (width B) ws) nx))
   Fails : {p : ℕ} {s : State} → Kept wr (width B) nx x c (s .cells) → Ends B wr nx x rs ws c (failed p tt) (failed p s)
   Prunes : {p : ℕ} {s : State} → Kept wr (width B) nx x c (s .cells) → Ends B wr nx x rs ws c (pruned p tt) (pruned p s)
 
 module _ (B : Ty) (wr nx x : ℕ) (rs ws : List Frame) (c : Cells) where
   -- the cells' agreement and the frames' come to the same end
-  ends : {o : Means} {r : Out Cells Cells} → Agrees B wr nx x c o r → (e : Step) → bare e ≡ (r >>= λ c. done (state c rs (advance (width B) ws) nx)) → Ends B wr nx x rs ws c o e
+  ends : {o : Means} {r : Out Cells Cells} → Agrees B wr nx x c o r → (e : Step)
+      → bare e ≡ (r >>= λ c. done (state c rs (advance (width B) ws) nx)) → Ends B wr nx x rs ws c o e
   unfolding bare _>>=_
   ends (Agrees.Done {v} {d} q k) (done s) h =
       let e : state d rs (advance (width B) ws) nx ≡ s = cc in
@@ -55,7 +57,8 @@ pub exec-within : {t : Term} {A B : Ty} → Typed t A B → (size most : ℕ) (r
     → nx + (bounds t) .cells ≤ size → length rs + length ws + (bounds t) .frames ≤ most
     → Ends B wr nx ((bounds t) .cells) rs ws c (eval t (valueAt A c rd)) (exec size most t (state c rs ws nx))
 exec-within {t} {A} {B} h size most rs ws rd wr nx c hr hw ra wb apart hc hf =
-    ends B wr nx ((bounds t) .cells) rs ws c (meets h rd wr nx c ra wb apart) (exec size most t (state c rs ws nx)) (does h size most rs ws rd wr nx c hr hw hc hf)
+    ends B wr nx ((bounds t) .cells) rs ws c (meets h rd wr nx c ra wb apart) (exec size most t (state c rs ws nx))
+    (does h size most rs ws rd wr nx c hr hw hc hf)
 
 -- the value that a run to B leaves at a place, or how and where it stopped
 unfoldable pub endAt : (B : Ty) → (wr : ℕ) → Step → Means

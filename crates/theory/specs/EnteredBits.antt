@@ -26,7 +26,8 @@ module _ (P : Program) where
   unfolding handed
   handed-bits i b s h =
       after-bind (push P (width (wordTy 8) + width (sourceTy P i)) s) _ (after-newFrame s h (wholeCells P) (wholeFrames P) _) λ s h.
-      after-bind (writeBits (padded (wordTy 8) (P .hash b)) s) _ (after-writeBits s h (padded (wordTy 8) (P .hash b)) (padded-bits (wordTy 8) (P .hash b))) λ s h.
+      after-bind (writeBits (padded (wordTy 8) (P .hash b)) s) _
+      (after-writeBits s h (padded (wordTy 8) (P .hash b)) (padded-bits (wordTy 8) (P .hash b))) λ s h.
       after-bind (copy (width (sourceTy P i)) s) _ (after-copy s h (width (sourceTy P i))) λ s h.
       after-bind (moveFrame s) _ (after-moveFrame s h) λ s h.
       after-newFrame s h (wholeCells P) (wholeFrames P) (width (leftOf (targetTy P i)) + width (sourceTy P b))
@@ -56,7 +57,8 @@ module _ (P : Program) where
   unfolding state
   entered-bits v c k (LastNode {s = s} e f) =
       bits-done (output-bits (wholeCells P) (wholeFrames P) (width (wholeTarget P)) s
-      (bits-done (input-bits (wholeCells P) (wholeFrames P) (width (wholeSource P)) (padded (wholeSource P) v) (padded-bits (wholeSource P) v) (state c [] [] 0) k) e)) f
+      (bits-done (input-bits (wholeCells P) (wholeFrames P) (width (wholeSource P)) (padded (wholeSource P) v)
+      (padded-bits (wholeSource P) v) (state c [] [] 0) k) e)) f
   entered-bits v c k (CompLeft {s = s} h e f) = push-bits _ s (entered-bits v c k h) f
   entered-bits v c k (CompRight {a = a} {s = s} {s₁ = s₁} {s₂ = s₂} h e f g m) = move-bits s₂ (run-bits a s₁ (push-bits _ s (entered-bits v c k h) f) g) m
   entered-bits v c k (PairLeft h e) = entered-bits v c k h

@@ -1,5 +1,6 @@
 -- What a node of an arrow A to B finds when it is entered: a value to read, room to write one, frames that lie below the first free cell and share no cell,
--- and as many cells and frames beyond them as its bounds say. From such a state the machine is the meaning; and each way into a child leads to such a state again.
+-- and as many cells and frames beyond them as its bounds say. From such a state the machine is the meaning; and each way into a child leads
+-- to such a state again.
 use mathlib.Core.Path.{_≡_, refl, sym, ap, _∙_}
 use mathlib.Core.List.{List, [], _∷_, _++_}
 use Prim.Native.Nat.{ℕ, _+_, _≤_}
@@ -109,7 +110,8 @@ unfolding advance forward
 separate-reads n [] [] h = tt
 separate-reads n [] (f ∷ rs) h = h
 separate-reads n (f ∷ ws) rs h = (
-  clear-both (f .start) (f .len) ws (advance n rs) (clear-left (f .start) (f .len) ws rs (h .0)) (clear-advance (f .start) (f .len) n rs (clear-right (f .start) (f .len) ws rs (h .0))),
+  clear-both (f .start) (f .len) ws (advance n rs) (clear-left (f .start) (f .len) ws rs (h .0))
+      (clear-advance (f .start) (f .len) n rs (clear-right (f .start) (f .len) ws rs (h .0))),
   separate-reads n ws rs (h .1),
 )
 
@@ -194,7 +196,8 @@ module _ {size most : ℕ} {A B : Ty} {x : Bound} {s : State} (h : Entry size mo
 
 -- THE MACHINE IS THE MEANING at every such state
 pub entry-ends : {t : Term} {A B : Ty} {size most : ℕ} {s : State} → Typed t A B → Entry size most A B (bounds t) s
-    → Ends B (cursorOf (s .writes)) (s .next) ((bounds t) .cells) (s .reads) (s .writes) (s .cells) (eval t (valueAt A (s .cells) (cursorOf (s .reads)))) (exec size most t s)
+    → Ends B (cursorOf (s .writes)) (s .next) ((bounds t) .cells) (s .reads) (s .writes) (s .cells)
+    (eval t (valueAt A (s .cells) (cursorOf (s .reads)))) (exec size most t s)
 unfolding state
 entry-ends {size = size} {most = most} {s = s} typed h =
     exec-within typed size most (s .reads) (s .writes) (cursorOf (s .reads)) (cursorOf (s .writes)) (s .next) (s .cells)

@@ -19,7 +19,8 @@ use Rattle.theory.specs.Cursors.{onCells}
 use Rattle.theory.specs.Instructions.{At, advance, advance-none, advance-advance, length-advance, at-less, at-advance, newFrame-does, writeBits-does, skip-does, copy-does, fwd-does, back-does, peek-does, dropFrame-does, value-does}
 
 -- one after the other
-bind-last : {W X Y Z : Type 0} (o : Out W X) (f : X → Y) (k : Y → Out W Z) (g : X → Out W Z) → ((x : X) → k (f x) ≡ g x) → ((o >>= λ x. done (f x)) >>= k) ≡ (o >>= g)
+bind-last : {W X Y Z : Type 0} (o : Out W X) (f : X → Y) (k : Y → Out W Z) (g : X → Out W Z) → ((x : X) → k (f x) ≡ g x)
+    → ((o >>= λ x. done (f x)) >>= k) ≡ (o >>= g)
 unfolding _>>=_
 bind-last (done x) f k g h = h x
 bind-last (failed p y) f k g h = refl
@@ -76,7 +77,10 @@ does-comp s t B n m hs ht size most rs ws rd wr nx c hr hw hc hf =
       hs size most rs (fr ∷ ws) rd nx (nx + width B) c hr (refl, omega arith, omega arith) (omega arith) (omega arith),
     )
     (bind-then (onCells s rd nx (nx + width B) c) _ _ _ _ (λ c.
-    rw (bare-bind (exec size most t (state c (fr ∷ rs) ws (nx + width B))), ht size most (fr ∷ rs) ws nx wr (nx + width B) c (refl, omega arith, omega arith) hw (omega arith) (omega arith))
+    rw (
+      bare-bind (exec size most t (state c (fr ∷ rs) ws (nx + width B))),
+      ht size most (fr ∷ rs) ws nx wr (nx + width B) c (refl, omega arith, omega arith) hw (omega arith) (omega arith),
+    )
     (bind-last (onCells t nx wr (nx + width B) c) _ _ _ (λ c. rw (dropFrame-does c fr rs (advance m ws) (nx + width B) refl)))))
 
 -- unit
@@ -85,9 +89,11 @@ unfolding bare exec onCells _>>=_
 does-unit n size most rs ws rd wr nx c hr hw hc hf = rw (advance-none ws)
 
 -- an injection: the tag, padding passed over, and the part
-does-inj : (b : Bit) (pad : ℕ) (t : Term) (n m : ℕ) → Does t n m → (size most : ℕ) (rs ws : List Frame) (rd wr nx : ℕ) (c : Cells) → At rs rd n → At ws wr (1 + pad + m)
+does-inj : (b : Bit) (pad : ℕ) (t : Term) (n m : ℕ) → Does t n m → (size most : ℕ) (rs ws : List Frame) (rd wr nx : ℕ) (c : Cells)
+    → At rs rd n → At ws wr (1 + pad + m)
     → EnoughCells size nx t → EnoughFrames most rs ws t
-    → bare (writeBits (b ∷ []) (state c rs ws nx) >>= λ s. skip pad s >>= λ s. exec size most t s) ≡ (onCells t rd (wr + (1 + pad)) nx (putBits c wr (b ∷ [])) >>= λ c. done (state c rs (advance (1 + pad + m) ws) nx))
+    → bare (writeBits (b ∷ []) (state c rs ws nx) >>= λ s. skip pad s >>= λ s. exec size most t s)
+    ≡ (onCells t rd (wr + (1 + pad)) nx (putBits c wr (b ∷ [])) >>= λ c. done (state c rs (advance (1 + pad + m) ws) nx))
 unfolding bare _>>=_
 does-inj b pad t n m h size most rs ws rd wr nx c hr hw hc hf =
     let c₁ : Cells = putBits c wr (b ∷ []) in
@@ -120,10 +126,14 @@ does-injr t B C n h size most rs ws rd wr nx c hr hw hc hf =
 does-pair : (s t : Term) (B : Ty) (n m : ℕ) → Does s n (width B) → Does t n m → Does (pair B s t) n (width B + m)
 unfolding bare exec onCells _>>=_ bounds
 does-pair s t B n m hs ht size most rs ws rd wr nx c hr hw hc hf =
-    rw (bare-bind (exec size most s (state c rs ws nx)), hs size most rs ws rd wr nx c hr (at-less ws wr (width B + m) (width B) (omega arith) hw) (omega arith) (omega arith))
+    rw (
+      bare-bind (exec size most s (state c rs ws nx)),
+      hs size most rs ws rd wr nx c hr (at-less ws wr (width B + m) (width B) (omega arith) hw) (omega arith) (omega arith),
+    )
     (bind-then (onCells s rd wr nx c) _ _ _ _ (λ c.
     rw (
-      ht size most rs (advance (width B) ws) rd (wr + width B) nx c hr (at-advance ws wr (width B) m hw) (omega arith) (omega (arith, length-advance (width B) ws)),
+      ht size most rs (advance (width B) ws) rd (wr + width B) nx c hr (at-advance ws wr (width B) m hw) (omega arith)
+          (omega (arith, length-advance (width B) ws)),
       advance-advance (width B) m ws,
     )
     refl))
@@ -153,7 +163,8 @@ unfolding bare exec onCells bounds
 does-drop t A n m h size most rs ws rd wr nx c hr hw hc hf = does-on t (width A) n m h size most rs ws rd wr nx c hr hw hc hf
 
 -- the branch of a case, or of an assertion
-does-branch : (t : Term) (k x n y m : ℕ) → y ≡ k + x → Does t (x + n) m → (size most : ℕ) (rs ws : List Frame) (rd wr nx : ℕ) (c : Cells) → At rs rd (y + n) → At ws wr m
+does-branch : (t : Term) (k x n y m : ℕ) → y ≡ k + x → Does t (x + n) m → (size most : ℕ) (rs ws : List Frame) (rd wr nx : ℕ) (c : Cells)
+    → At rs rd (y + n) → At ws wr m
     → EnoughCells size nx t → EnoughFrames most rs ws t
     → bare (fwd k (state c rs ws nx) >>= λ s. exec size most t s >>= λ s. back k s) ≡ (onCells t (rd + k) wr nx c >>= λ c. done (state c rs (advance m ws) nx))
 does-branch t k x n y m e h size most rs ws rd wr nx c hr =
@@ -171,8 +182,12 @@ does-case s t A B n m hs ht size most rs ws rd wr nx c hr hw hc hf =
       | suc b ↦ (fwd (1 + padR A B) (state c rs ws nx) >>= λ s. exec size most t s >>= λ s. back (1 + padR A B) s)
     ])
         ≡ (onCells (case A B s t) rd wr nx c >>= λ c. done (state c rs (advance m ws) nx))
-    go zero e = rw (e, onCells) (does-branch s (1 + padL A B) (width A) n (width (sum A B)) m (omega arith) hs size most rs ws rd wr nx c hr hw (omega arith) (omega arith))
-    go (suc b) e = rw (e, onCells) (does-branch t (1 + padR A B) (width B) n (width (sum A B)) m (omega arith) ht size most rs ws rd wr nx c hr hw (omega arith) (omega arith))
+    go zero e =
+        rw (e, onCells)
+        (does-branch s (1 + padL A B) (width A) n (width (sum A B)) m (omega arith) hs size most rs ws rd wr nx c hr hw (omega arith) (omega arith))
+    go (suc b) e =
+        rw (e, onCells)
+        (does-branch t (1 + padR A B) (width B) n (width (sum A B)) m (omega arith) ht size most rs ws rd wr nx c hr hw (omega arith) (omega arith))
 
 -- a case with its right branch pruned
 does-assertl : (p : ℕ) (s : Term) (A B : Ty) (n m : ℕ) → Does s (width A + n) m → Does (assertl p A B s) (width (sum A B) + n) m
@@ -203,7 +218,8 @@ does-assertr p t A B n m ht size most rs ws rd wr nx c hr hw hc hf =
     go (suc b) e = rw (e, onCells) (does-branch t (1 + padR A B) (width B) n (width (sum A B)) m (omega arith) ht size most rs ws rd wr nx c hr hw hc hf)
 
 -- disconnect: two frames, which go in order
-does-disconnect : (s t : Term) (h : Val) (A B C : Ty) (m : ℕ) → HasTy h (wordTy 8) → Does s (width (wordTy 8) + width A) (width B + width C) → Does t (width C) m
+does-disconnect : (s t : Term) (h : Val) (A B C : Ty) (m : ℕ) → HasTy h (wordTy 8) → Does s (width (wordTy 8) + width A) (width B + width C)
+    → Does t (width C) m
     → Does (disconnect A B C h s t) (width A) (width B + m)
 unfolding bare exec onCells _>>=_ bounds At advance forward moveFrame reset state
 does-disconnect s t h A B C m hh hs ht size most rs ws rd wr nx c hr hw hc hf =
@@ -228,7 +244,8 @@ does-disconnect s t h A B C m hh hs ht size most rs ws rd wr nx c hr hw hc hf =
       copy-does c (f₂ ∷ f₁ ∷ rs) ws e₂ (width B) e₁ wr (refl, omega arith, omega arith) (at-less ws wr (width B + m) (width B) (omega arith) hw),
       fwd-does c₂ (f₂ ∷ f₁ ∷ rs) (advance (width B) ws) e₂ (width B) e₁ (refl, omega arith, omega arith),
       bare-bind (exec size most t (state c₂ (forward (width B) f₂ ∷ f₁ ∷ rs) (advance (width B) ws) e₂)),
-      ht size most (forward (width B) f₂ ∷ f₁ ∷ rs) (advance (width B) ws) (e₁ + width B) (wr + width B) e₂ c₂ (refl, omega arith, omega arith) (at-advance ws wr (width B) m hw)
+      ht size most (forward (width B) f₂ ∷ f₁ ∷ rs) (advance (width B) ws) (e₁ + width B) (wr + width B) e₂ c₂
+          (refl, omega arith, omega arith) (at-advance ws wr (width B) m hw)
           (omega arith) (omega (arith, length-advance (width B) ws)),
       advance-advance (width B) m ws,
     )

@@ -106,6 +106,7 @@ module _ (nodes : List Node) (given : List ℕ) where
       let count : length given / hashBytes ≡ length (rights nodes) =
       eqb-true _ _ (require-holds (eqb (length given / hashBytes) (length (rights nodes))) (Hash (countPlace (length given / hashBytes))) _ (p .1)) in
       let f = entry-found b 0 (rights nodes) (among-rights nodes i a b q) in
-      let g : branchHash nodes given b ≡ wholeHash (entry given (f .0)) = on-shown (nodeAt nodes b) wholeHash (entryFor nodes given b 0 (rights nodes)) shown ∙ f .2 in
+      let g : branchHash nodes given b ≡ wholeHash (entry given (f .0)) =
+      on-shown (nodeAt nodes b) wholeHash (entryFor nodes given b 0 (rights nodes)) shown ∙ f .2 in
       let l : length (branchHash nodes given b) ≡ hashBytes = ap length g ∙ entry-whole (f .0) (omega (arith, f .1)) in
       word-from 8 (bitsOf (branchHash nodes given b)) (omega (arith, length-bits (branchHash nodes given b)))

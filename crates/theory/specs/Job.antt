@@ -1,4 +1,5 @@
--- The whole job, from a dossier's bytes: where all checks pass, what is said and what is left in the answer store is told by the meaning of the dossier's program.
+-- The whole job, from a dossier's bytes: where all checks pass, what is said and what is left in the answer store is told by the meaning of
+-- the dossier's program.
 -- And the old contents of all five stores change nothing of what is said.
 use mathlib.Core.Path.{_≡_, refl, sym, ap, ap₂, _∙_, subst}
 use mathlib.Core.List.{List, [], _++_}
@@ -89,7 +90,8 @@ module _ (d nodes hashes : List ℕ) (t : NodeTable) (e : checkDossier d nodes h
   dossier-checked =
       let tables : NodeTable → Check (Unit {0}) = λ t. checkTables (tablesOf d t) in
       let read : Check NodeTable = decode (section d sProgram) (length nodes / nodeNumbers) (length hashes) in
-      let a = both-passed (checkHeader d) (λ header. checkTypes (typeRecords (section d sTypes)) >>= λ types. read >>= λ t. tables t >>= λ passing. passed t) t e in
+      let a = both-passed (checkHeader d)
+      (λ header. checkTypes (typeRecords (section d sTypes)) >>= λ types. read >>= λ t. tables t >>= λ passing. passed t) t e in
       let b = both-passed (checkTypes (typeRecords (section d sTypes))) (λ types. read >>= λ t. tables t >>= λ passing. passed t) t (a .2) in
       let c = both-passed read (λ t. tables t >>= λ passing. passed t) t (b .2) in
       let f = both-passed (tables (c .0)) (λ passing. passed (c .0)) t (c .2) in
@@ -134,7 +136,8 @@ module _ (d nodes hashes : List ℕ) (t : NodeTable) (e : checkDossier d nodes h
     job-cells = rw (e, run) (tables-cells (tablesOf d t) dossier-checked cells frames answer R p)
 
     -- the bytes that hold the output are those of the meaning's value alone
-    pub job-bytes : outputBytes ((run d nodes hashes cells frames answer) .says) ((run d nodes hashes cells frames answer) .answer) ≡ meantBytes (eval (whole (R .program)) (R .input))
+    pub job-bytes : outputBytes ((run d nodes hashes cells frames answer) .says) ((run d nodes hashes cells frames answer) .answer)
+        ≡ meantBytes (eval (whole (R .program)) (R .input))
     job-bytes = ap₂ outputBytes job-says job-output ∙ meant-bytes (eval (whole (R .program)) (R .input)) answer
 
 -- a dossier that is refused by 1 to 13, or by 14 to 17, is told so
@@ -175,7 +178,8 @@ module _ (d nodes nodes′ hashes hashes′ cells cells′ frames frames′ answ
   alike = go (checkDossier d nodes hashes) refl
     where
       -- two refusals for one reason
-      alike-refused : (r : Refusal) → (run d nodes hashes cells frames answer) .says ≡ Refused r → (run d nodes′ hashes′ cells′ frames′ answer′) .says ≡ Refused r → Alike
+      alike-refused : (r : Refusal) → (run d nodes hashes cells frames answer) .says ≡ Refused r
+          → (run d nodes′ hashes′ cells′ frames′ answer′) .says ≡ Refused r → Alike
       alike-refused r p q = (
         p ∙ sym q,
         ap (λ (a : Answer). outputBytes a ((run d nodes hashes cells frames answer) .answer)) p
@@ -195,7 +199,9 @@ module _ (d nodes nodes′ hashes hashes′ cells cells′ frames frames′ answ
 
       go : (x : Check NodeTable) → checkDossier d nodes hashes ≡ x → Alike
       go (passed t) e = tables t e (checkReady (tablesOf d t) cells frames answer) refl
-      go (refused r) e = alike-refused r (job-refused d nodes hashes cells frames answer r e) (job-refused d nodes′ hashes′ cells′ frames′ answer′ r (sym same-dossier ∙ e))
+      go (refused r) e =
+          alike-refused r (job-refused d nodes hashes cells frames answer r e)
+          (job-refused d nodes′ hashes′ cells′ frames′ answer′ r (sym same-dossier ∙ e))
 
   -- OLD CONTENTS OF THE FIVE STORES CHANGE NO OUTPUT, NO REFUSAL AND NO PLACE: nothing that is said
   pub old-stores : (run d nodes hashes cells frames answer) .says ≡ (run d nodes′ hashes′ cells′ frames′ answer′) .says

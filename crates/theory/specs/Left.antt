@@ -1,4 +1,5 @@
--- What a run leaves in the lent stores beside its answer: the cells of the machine's last state, and every cell from the bound on as it was; frame records within the bound zero.
+-- What a run leaves in the lent stores beside its answer: the cells of the machine's last state, and every cell from the bound on as it
+-- was; frame records within the bound zero.
 -- And the bytes of the output are the same whatever the five stores held before.
 use mathlib.Core.Path.{_≡_, refl, ap, _∙_}
 use mathlib.Core.List.{List, [], _∷_, _++_}
@@ -50,7 +51,8 @@ bits-from i (suc n) c h = (omega (arith, h i), bits-from (suc i) n c h)
 packed-cell : (n : ℕ) (c : Cells) → BitCells c → (j : ℕ) → j < 8 * n → cellsOf (packed n c) j ≡ c j
 unfolding cellsOf packed tabulate
 packed-cell n c h j l =
-    ap (λ (bs : List Bit). getD bs j 0) (bits-of-bytes n (tabulate (8 * n) c) (length-tabulate c (8 * n)) (bits-from 0 (8 * n) c h) .0) ∙ tabulate-at c (8 * n) j 0 l
+    ap (λ (bs : List Bit). getD bs j 0) (bits-of-bytes n (tabulate (8 * n) c) (length-tabulate c (8 * n)) (bits-from 0 (8 * n) c h) .0)
+    ∙ tabulate-at c (8 * n) j 0 l
 
 -- the cells of a store are bits
 bit-below : (bs : List Bit) → AreBits bs → (j : ℕ) → getD bs j 0 ≤ 1
@@ -68,7 +70,8 @@ module _ (P : Program) (ok : Sound P) (v : Val) (hv : HasTy v (wholeSource P)) (
   cells-of : (o : Step) (s : State) → LastState o s → BitCells (s .cells) → ((j : ℕ) → wholeCells P ≤ j → s .cells j ≡ cellsOf cells j)
       → (left : List ℕ) → left ≡ packed (length cells) (s .cells) → CellsLeft o (wholeCells P) cells left
   cells-of o s last bits kept left e =
-      let same : (j : ℕ) → j < 8 * length cells → cellsOf left j ≡ s .cells j = λ j l. ap (λ (b : List ℕ). cellsOf b j) e ∙ packed-cell (length cells) (s .cells) bits j l in
+      let same : (j : ℕ) → j < 8 * length cells → cellsOf left j ≡ s .cells j =
+      λ j l. ap (λ (b : List ℕ). cellsOf b j) e ∙ packed-cell (length cells) (s .cells) bits j l in
       record { last = s; ended = last; bytes = e; held = same; beyond = λ j m l. same j l ∙ kept j m }
 
   -- by how the run ended
@@ -90,7 +93,9 @@ outputBytes (Value n) answer = take (bytesFor n) answer
 outputBytes (Refused why) answer = []
 
 -- the output's bytes are made of its bits alone
-pub written-bytes : (bits : List Bit) (answer : List ℕ) → outputBytes (Value (length bits)) (written bits answer) ≡ bytesOf (bytesFor (length bits)) (bits ++ zeros 7)
+pub written-bytes : (bits : List Bit) (answer : List ℕ)
+    → outputBytes (Value (length bits)) (written bits answer) ≡ bytesOf (bytesFor (length bits)) (bits ++ zeros 7)
 unfolding outputBytes written
 written-bytes bits answer =
-    take-at (bytesOf (bytesFor (length bits)) (bits ++ zeros 7)) (drop (bytesFor (length bits)) answer) (bytesFor (length bits)) (length-bytes (bytesFor (length bits)) (bits ++ zeros 7))
+    take-at (bytesOf (bytesFor (length bits)) (bits ++ zeros 7)) (drop (bytesFor (length bits)) answer) (bytesFor (length bits))
+    (length-bytes (bytesFor (length bits)) (bits ++ zeros 7))

@@ -45,12 +45,15 @@ module _ (types nodes arrows program hashes given witness : List ℕ) (witnessBi
       let a = both-passed (lentTables types nodes program hashes) (λ tables. checkTables (tablesLent types nodes arrows program hashes given [] 0 [] 0)) tt e in
       let b = both-passed (counted (length records) nodeCount) (λ some. counted (length (typeRecords types)) typeCount >>= λ some.
       checkRecords program hashes records >>= λ kept. fits >>= λ fitting. types′ >>= λ typed. walk) tt (a .1) in
-      let c = both-passed (counted (length (typeRecords types)) typeCount) (λ some. checkRecords program hashes records >>= λ kept. fits >>= λ fitting. types′ >>= λ typed. walk) tt (b .2) in
+      let c = both-passed (counted (length (typeRecords types)) typeCount)
+      (λ some. checkRecords program hashes records >>= λ kept. fits >>= λ fitting. types′ >>= λ typed. walk) tt (b .2) in
       let d = both-passed (checkRecords program hashes records) (λ kept. fits >>= λ fitting. types′ >>= λ typed. walk) tt (c .2) in
       let f = both-passed fits (λ fitting. types′ >>= λ typed. walk) tt (d .2) in
       let g = both-passed types′ (λ typed. walk) tt (f .2) in
-      let some = every-all (leb 1 (length records) ∷ leb (length records) nodeCount ∷ []) (require-holds (every (leb 1 (length records) ∷ leb (length records) nodeCount ∷ [])) (Natural 0) _ (b .1)) in
-      let l : length bits ≡ 8 * length program = length-within program (leb-true (length program) dossierBytes (require-holds (leb (length program) dossierBytes) (Header 0) _ (f .1))) in
+      let some = every-all (leb 1 (length records) ∷ leb (length records) nodeCount ∷ [])
+      (require-holds (every (leb 1 (length records) ∷ leb (length records) nodeCount ∷ [])) (Natural 0) _ (b .1)) in
+      let l : length bits ≡ 8 * length program = length-within program
+      (leb-true (length program) dossierBytes (require-holds (leb (length program) dossierBytes) (Header 0) _ (f .1))) in
       let kept : (i : ℕ) → i < length records → recordRule (length bits) (length hashes) records i ≡ true =
       λ i h. subst (λ (n : ℕ). recordRule n (length hashes) records i ≡ true) (sym l) (records-kept (d .1) i h) in
       let same : length (nodesOf bits hashes records) ≡ length records = length-nodes bits hashes records in
@@ -69,11 +72,13 @@ module _ (types nodes arrows program hashes given witness : List ℕ) (witnessBi
 
   module _ (cells frames answer : List ℕ) (R : Ready) (p : checkReady T cells frames answer ≡ passed R) where
     -- THE RUN OVER LENT TABLES SAYS WHAT THEIR PROGRAM MEANS, and leaves that value's bits in the answer store
-    pub stage-says : (runStage types nodes arrows program hashes given witness witnessBits input inputBits cells frames answer) .says ≡ told (eval (whole (R .program)) (R .input))
+    pub stage-says : (runStage types nodes arrows program hashes given witness witnessBits input inputBits cells frames answer) .says
+        ≡ told (eval (whole (R .program)) (R .input))
     unfolding runStage
     stage-says = rw (e, runStage) (tables-say T lent-checked cells frames answer R p)
 
     -- the answer store
-    pub stage-output : (runStage types nodes arrows program hashes given witness witnessBits input inputBits cells frames answer) .answer ≡ output (eval (whole (R .program)) (R .input)) answer
+    pub stage-output : (runStage types nodes arrows program hashes given witness witnessBits input inputBits cells frames answer) .answer
+        ≡ output (eval (whole (R .program)) (R .input)) answer
     unfolding runStage
     stage-output = rw (e, runStage) (tables-output T lent-checked cells frames answer R p)

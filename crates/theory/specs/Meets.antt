@@ -71,7 +71,8 @@ meets-comp s t A B C hs ht rd wr nx c ra wb apart = agrees-bind _ _ (hs rd nx (n
     (λ d k. agrees-from (ht nx wr (nx + width B) d (omega arith) (omega arith) (omega arith))
     (λ e l j out free. l j out (λ i. free (omega arith)) ∙ keep d k j out free))
   where
-    keep : (d : Cells) → Kept nx (width B) (nx + width B) ((bounds s) .cells) c d → Kept wr (width C) nx (width B + max ((bounds s) .cells) ((bounds t) .cells)) c d
+    keep : (d : Cells) → Kept nx (width B) (nx + width B) ((bounds s) .cells) c d
+        → Kept wr (width C) nx (width B + max ((bounds s) .cells) ((bounds t) .cells)) c d
     keep d k j out free = k j (λ i. free (omega arith)) (λ i. free (omega arith))
 
 -- unit writes nothing
@@ -117,7 +118,8 @@ meets-case : (s t : Term) (A B C D : Ty) → Meets s (prod A C) D → Meets t (p
 unfolding eval onCells valueAt split branch width padL padR bounds
 meets-case s t A B C D hs ht rd wr nx c ra wb apart = go (c rd) refl
   where
-    go : (b : Bit) → c rd ≡ b → Agrees D wr nx ((bounds (case A B s t)) .cells) c (eval (case A B s t) (valueAt (prod (sum A B) C) c rd)) (onCells (case A B s t) rd wr nx c)
+    go : (b : Bit) → c rd ≡ b → Agrees D wr nx ((bounds (case A B s t)) .cells) c (eval (case A B s t) (valueAt (prod (sum A B) C) c rd))
+        (onCells (case A B s t) rd wr nx c)
     go zero e = rw (e, onCells, valueAt) (meets-branch s A C D (padL A B) (width (sum A B)) (omega arith) hs rd wr nx c ra wb apart _ (omega arith))
     go (suc b) e = rw (e, onCells, valueAt) (meets-branch t B C D (padR A B) (width (sum A B)) (omega arith) ht rd wr nx c ra wb apart _ (omega arith))
 
@@ -145,7 +147,8 @@ meets-assertr p t A B C D ht rd wr nx c ra wb apart = go (c rd) refl
 meets-pair : (s t : Term) (A B C : Ty) → Meets s A B → Meets t A C → Meets (pair B s t) A (prod B C)
 unfolding eval onCells valueAt width bounds
 meets-pair s t A B C hs ht rd wr nx c ra wb apart = agrees-bind _ _ (hs rd wr nx c ra (omega arith) (λ j p q. apart j p (omega arith))) keep
-    (λ d k. subst (λ (v : Val). Agrees (prod B C) wr nx ((bounds (pair B s t)) .cells) c (eval t v >>= λ y. done (valueAt B d wr & y)) (onCells t rd (wr + width B) nx d))
+    (λ d k. subst (λ (v : Val). Agrees (prod B C) wr nx ((bounds (pair B s t)) .cells) c (eval t v >>= λ y. done (valueAt B d wr & y))
+    (onCells t rd (wr + width B) nx d))
     (value-kept A c d rd wr (width B) nx ((bounds s) .cells) k ra (λ j p q. apart j p (omega arith)))
     (agrees-map (λ y. valueAt B d wr & y) (ht rd (wr + width B) nx d ra (omega arith) (λ j p q. apart j p (omega arith)))
     (λ e l j out free. l j (λ i. out (omega arith)) (λ i. free (omega arith)) ∙ keep d k j out free)
@@ -197,7 +200,8 @@ meets-disconnect s t h A B C D hh hs ht rd wr nx c ra wb apart =
     λ d k j out free. k j (λ i. free (omega arith)) (λ i. free (omega arith))
     ∙ copy-out c₀ rd (nx + W) (width A) j (λ i. free (omega arith))
     ∙ bits-out c nx bs j (λ i. free (omega arith)) in
-    subst (λ (v : Val). Agrees (prod B D) wr nx x c (eval s v >>= λ bc. split bc λ b c. eval t c >>= λ d. done (b & d)) (onCells (disconnect A B C h s t) rd wr nx c))
+    subst (λ (v : Val). Agrees (prod B D) wr nx x c (eval s v >>= λ bc. split bc λ b c. eval t c >>= λ d. done (b & d))
+    (onCells (disconnect A B C h s t) rd wr nx c))
     (handed (wordTy 8) A h hh rd nx c ra)
     (agrees-bind _ _ (hs nx m e c₁ (omega arith) (omega arith) (omega arith)) keep
     (λ d k.

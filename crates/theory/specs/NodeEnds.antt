@@ -1,4 +1,5 @@
--- How the run of a node ends that was entered in a state of its arrow: with the meaning's value in the target's cells and all frames back, or stopped where the meaning stops.
+-- How the run of a node ends that was entered in a state of its arrow: with the meaning's value in the target's cells and all frames back,
+-- or stopped where the meaning stops.
 -- The cells of every other frame that stands are as they were, also where the run stops.
 use mathlib.Core.Path.{_≡_, refl}
 use mathlib.Core.List.{List, [], _∷_, _++_}
@@ -73,7 +74,9 @@ module _ {size most : ℕ} {A B : Ty} {y : Bound} {s : State} (h : Entry size mo
       let wr : ℕ = cursorOf (s .writes) in
       let clear = clear-others (s .writes) (s .reads) (width B) (h .write) (h .stacked .apart) in
       record {
-        reads = frames-kept wr (width B) (s .next) x (s .cells) (t .cells) (s .reads) k (h .stacked .reads) (clear-right wr (width B) (below (s .writes)) (s .reads) clear);
+        reads =
+            frames-kept wr (width B) (s .next) x (s .cells) (t .cells) (s .reads) k (h .stacked .reads)
+            (clear-right wr (width B) (below (s .writes)) (s .reads) clear);
         writes = frames-kept wr (width B) (s .next) x (s .cells) (t .cells) (below (s .writes)) k (below-inside (s .next) (s .writes) (h .stacked .writes))
             (clear-left wr (width B) (below (s .writes)) (s .reads) clear);
       }
@@ -93,7 +96,8 @@ module _ {size most : ℕ} {A B : Ty} {y : Bound} {s : State} (h : Entry size mo
 
 -- A NODE THAT IS ENTERED DOES WHAT ITS TERM MEANS of the value that it reads
 pub node-means : (P : Program) → Sound P → {i : ℕ} {s : State} → AtNode P i s
-    → NodeEnds (targetTy P i) s (eval (termAt P i) (valueAt (sourceTy P i) (s .cells) (cursorOf (s .reads)))) (exec (wholeCells P) (wholeFrames P) (termAt P i) s)
+    → NodeEnds (targetTy P i) s (eval (termAt P i) (valueAt (sourceTy P i) (s .cells) (cursorOf (s .reads))))
+    (exec (wholeCells P) (wholeFrames P) (termAt P i) s)
 node-means P ok {i} h = node-ends (h .entry) (entry-ends (term-typed P ok i (h .inTable) (h .shown)) (h .entry))
 
 -- so it is not stuck

@@ -106,7 +106,9 @@ module _ (types : List TypeRecord) (nodes : List Node) (arrows : List Arrow) whe
         let m′ : Term = termMake (withValues w′ h′) before′ n in
         let l : length before ≡ length before′ = sym (length-map before bounds) ∙ ap length e ∙ length-map before′ bounds in
         let child : (j : ℕ) → bounds (getD before j (failTerm j)) ≡ bounds (getD before′ j (failTerm j)) =
-        λ j. sym (List·getD-map bounds before j (failTerm j)) ∙ ap (λ (bs : List Bound). getD bs j (bounds (failTerm j))) e ∙ List·getD-map bounds before′ j (failTerm j) in
+        λ j. sym (List·getD-map bounds before j (failTerm j))
+        ∙ ap (λ (bs : List Bound). getD bs j (bounds (failTerm j))) e
+        ∙ List·getD-map bounds before′ j (failTerm j) in
         let f : bounds m ≡ bounds m′ =
         ap (λ (i : ℕ). bounds (termOf (withValues w h) i n (λ j. getD before j (failTerm j)))) l
         ∙ node-alike (length before′) (λ j. getD before j (failTerm j)) (λ j. getD before′ j (failTerm j)) child n in
@@ -119,7 +121,9 @@ module _ (types : List TypeRecord) (nodes : List Node) (arrows : List Arrow) whe
     values-alike i =
         let E : List Term = entriesFrom (termMake (withValues w h)) [] nodes in
         let E′ : List Term = entriesFrom (termMake (withValues w′ h′)) [] nodes in
-        sym (List·getD-map bounds E i (failTerm i)) ∙ ap (λ (bs : List Bound). getD bs i (bounds (failTerm i))) (entries-alike nodes [] [] refl) ∙ List·getD-map bounds E′ i (failTerm i)
+        sym (List·getD-map bounds E i (failTerm i))
+        ∙ ap (λ (bs : List Bound). getD bs i (bounds (failTerm i))) (entries-alike nodes [] [] refl)
+        ∙ List·getD-map bounds E′ i (failTerm i)
 
 -- BOUNDS DEPEND ON TYPES, NODES AND ARROWS ALONE
 pub bounds-alike : (P Q : Program) → P .types ≡ Q .types → P .nodes ≡ Q .nodes → P .arrows ≡ Q .arrows → (i : ℕ) → bounds (termAt P i) ≡ bounds (termAt Q i)

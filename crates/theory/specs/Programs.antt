@@ -41,7 +41,8 @@ module _ (P : Program) (ok : Sound P) where
       → At rs rd (width (sourceTy P i)) → At ws wr (width (targetTy P i)) → rd + width (sourceTy P i) ≤ nx → wr + width (targetTy P i) ≤ nx
       → Apart rd (width (sourceTy P i)) wr (width (targetTy P i))
       → nx + (bounds (termAt P i)) .cells ≤ size → length rs + length ws + (bounds (termAt P i)) .frames ≤ most
-      → Ends (targetTy P i) wr nx ((bounds (termAt P i)) .cells) rs ws c (eval (termAt P i) (valueAt (sourceTy P i) c rd)) (exec size most (termAt P i) (state c rs ws nx))
+      → Ends (targetTy P i) wr nx ((bounds (termAt P i)) .cells) rs ws c (eval (termAt P i) (valueAt (sourceTy P i) c rd))
+      (exec size most (termAt P i) (state c rs ws nx))
   node-ends i h shown = exec-within (term-typed P ok i h shown)
 
   -- the whole program goes from its source to its target

@@ -53,7 +53,8 @@ module _ (bits : List Bit) (hashes : List ℕ) where
 
   -- the bits of a word
   word-bits : (a b c n′ : ℕ) (bs : List Bit) (x : Bool) → every (leb 1 a ∷ leb a wordMost ∷ eqb c 0 ∷ []) ≡ x
-      → (elim x [ true ↦ leb (b + 2 ^ (a - 1)) (length bits) | false ↦ false ]) ≡ true → word a (takeL (2 ^ (a - 1)) (dropL b bits)) ≡ word n′ bs → length bs ≡ 2 ^ (n′ - 1)
+      → (elim x [ true ↦ leb (b + 2 ^ (a - 1)) (length bits) | false ↦ false ]) ≡ true
+      → word a (takeL (2 ^ (a - 1)) (dropL b bits)) ≡ word n′ bs → length bs ≡ 2 ^ (n′ - 1)
   word-bits a b c n′ bs true e f q =
       let l : b + 2 ^ (a - 1) ≤ length bits = leb-true (b + 2 ^ (a - 1)) (length bits) f in
       let p : a ≡ n′ = cc in
@@ -62,7 +63,8 @@ module _ (bits : List Bit) (hashes : List ℕ) where
   word-bits a b c n′ bs false e f q = not-both f refl
 
   -- and where it is a word it has its bits
-  numbers-word : (n i : ℕ) (k : Kind) (a b c : ℕ) → numbersRule (length bits) n i k a b c ≡ true → (n′ : ℕ) (bs : List Bit) → nodeOf bits hashes k a b ≡ word n′ bs
+  numbers-word : (n i : ℕ) (k : Kind) (a b c : ℕ) → numbersRule (length bits) n i k a b c ≡ true → (n′ : ℕ) (bs : List Bit)
+      → nodeOf bits hashes k a b ≡ word n′ bs
       → length bs ≡ 2 ^ (n′ - 1)
   unfolding numbersRule nodeOf
   numbers-word n i kComp a b c e n′ bs q = clash (cc)
@@ -97,5 +99,6 @@ module _ (bits : List Bit) (hashes : List ℕ) where
         go : Dec (i < length records) → length bs ≡ 2 ^ (n′ - 1)
         go (yes h) = numbers-word n i (kindOf ((getD records i noRecord) .kind)) _ _ _ (ok i h) n′ bs (sym (node-at bits hashes records i) ∙ q)
         go (no h) =
-            let e : nodeAt (nodesOf bits hashes records) i ≡ noNode = List·getD-eq-default (nodesOf bits hashes records) noNode {n = i} (omega (arith, length-nodes bits hashes records)) in
+            let e : nodeAt (nodesOf bits hashes records) i ≡ noNode =
+            List·getD-eq-default (nodesOf bits hashes records) noNode {n = i} (omega (arith, length-nodes bits hashes records)) in
             clash (cc)

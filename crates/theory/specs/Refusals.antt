@@ -107,7 +107,8 @@ module _ (Fine : Refusal → Type 0) (may : OfDecoding Fine) where
   header-refuses : (d : List ℕ) → Refuses Fine (checkHeader d)
   unfolding checkHeader
   header-refuses d =
-      then-refuses Fine (require (every (leb headerBytes (length d) ∷ leb (length d) dossierBytes ∷ [])) (Header 0)) (λ fits. each 14 (headerRule d) (λ j. Header (4 * j)))
+      then-refuses Fine (require (every (leb headerBytes (length d) ∷ leb (length d) dossierBytes ∷ [])) (Header 0))
+      (λ fits. each 14 (headerRule d) (λ j. Header (4 * j)))
       (require-refuses Fine (every (leb headerBytes (length d) ∷ leb (length d) dossierBytes ∷ [])) (Header 0) (may .header 0))
       (λ fits. each-refuses Fine 14 (headerRule d) (λ j. Header (4 * j)) (λ j. may .header (4 * j)))
 
@@ -121,12 +122,15 @@ module _ (Fine : Refusal → Type 0) (may : OfDecoding Fine) where
   fault-refuses i hashesShort = may .hashes-short
 
   -- the nodes from node i on
-  nodes-refuse : (bits : List Bit) (room k i : ℕ) (records : List NodeRecord) (hashes : List ℕ) (at : ℕ) → Refuses Fine (nodesFrom bits room k i records hashes at)
+  nodes-refuse : (bits : List Bit) (room k i : ℕ) (records : List NodeRecord) (hashes : List ℕ) (at : ℕ)
+      → Refuses Fine (nodesFrom bits room k i records hashes at)
   unfolding nodesFrom
   nodes-refuse bits room zero i records hashes at = passed-refuses Fine _
-  nodes-refuse bits room (suc k) i records hashes at = go (nodeIn bits room i (length hashes) at) (λ records hashes at. nodes-refuse bits room k (suc i) records hashes at)
+  nodes-refuse bits room (suc k) i records hashes at =
+      go (nodeIn bits room i (length hashes) at) (λ records hashes at. nodes-refuse bits room k (suc i) records hashes at)
     where
-      go : (x : Got Item) → ((records : List NodeRecord) (hashes : List ℕ) (at : ℕ) → Refuses {X = NodeTable} Fine (nodesFrom bits room k (suc i) records hashes at))
+      go : (x : Got Item)
+          → ((records : List NodeRecord) (hashes : List ℕ) (at : ℕ) → Refuses {X = NodeTable} Fine (nodesFrom bits room k (suc i) records hashes at))
           → Refuses {X = NodeTable} Fine (elim x [
             | got x next ↦ nodesFrom bits room k (suc i) (records ++ x .node ∷ []) (hashes ++ x .stored) next
             | fault e ↦ refused (refusalAt i e)
@@ -187,7 +191,8 @@ module _ (Fine : Refusal → Type 0) (may : OfDecoding Fine) where
     each-walk : (walks : List (Walk nodes)) → ((j : ℕ) → WalkRefuses (getD walks j (λ d. passed d))) → (js : List ℕ) → WalkRefuses (walkEach nodes walks js)
     unfolding walkEach
     each-walk walks h [] done = passed-refuses Fine done
-    each-walk walks h (j ∷ js) done = then-refuses Fine ((getD walks j (λ d. passed d)) done) (λ d. walkEach nodes walks js d) (h j done) (λ d. each-walk walks h js d)
+    each-walk walks h (j ∷ js) done =
+        then-refuses Fine ((getD walks j (λ d. passed d)) done) (λ d. walkEach nodes walks js d) (h j done) (λ d. each-walk walks h js d)
 
     -- and the walk from a node
     make-walk : (walks : List (Walk nodes)) → ((j : ℕ) → WalkRefuses (getD walks j (λ d. passed d))) → (n : Node) → WalkRefuses (walkMake nodes walks n)
@@ -203,7 +208,8 @@ module _ (Fine : Refusal → Type 0) (may : OfDecoding Fine) where
         go : (b : Bool) → Refuses {X = List ℕ} Fine (elim b [ true ↦ passed done | false ↦ walkEach nodes walks (children n) done >>= rest ])
         go true = passed-refuses Fine done
         go false = then-refuses Fine (walkEach nodes walks (children n) done) rest (each-walk walks h (children n) done)
-            (λ d. then-refuses Fine (require (eqb i (length d)) (CanonicalOrder (length d))) _ (require-refuses Fine (eqb i (length d)) (CanonicalOrder (length d)) (may .order (length d)))
+            (λ d. then-refuses Fine (require (eqb i (length d)) (CanonicalOrder (length d))) _
+            (require-refuses Fine (eqb i (length d)) (CanonicalOrder (length d)) (may .order (length d)))
             (λ next. then-refuses Fine (allowed nodes i n) _ (allowed-refuses i n) (λ fine. passed-refuses Fine (d ++ i ∷ []))))
 
     -- the walks from the nodes below n
@@ -223,7 +229,8 @@ module _ (Fine : Refusal → Type 0) (may : OfDecoding Fine) where
             children-refuse j = elim (decLt j i) [
               | yes m ↦ subst WalkRefuses (sym (getD-take i E j (λ d. passed d) m)) (below j m)
               | no m ↦ subst WalkRefuses
-                  (sym (List·getD-eq-default (takeL i E) (λ d. passed d) {n = j} (omega (arith, length-take-le i E (omega (arith, length-entries (walkMake nodes) nodes))))))
+                  (sym (List·getD-eq-default (takeL i E)
+                  (λ d. passed d) {n = j} (omega (arith, length-take-le i E (omega (arith, length-entries (walkMake nodes) nodes))))))
                   (λ done. passed-refuses Fine done)
             ]
         go (no h) below = subst WalkRefuses (sym (entries-past (walkMake nodes) nodes i (λ d. passed d) (omega arith))) (λ done. passed-refuses Fine done)
@@ -239,13 +246,15 @@ module _ (Fine : Refusal → Type 0) (may : OfDecoding Fine) where
   decode-refuses : (program : List ℕ) (records bytes : ℕ) → Refuses Fine (decode program records bytes)
   unfolding decode
   decode-refuses program records bytes =
-      then-refuses Fine (require (leb (length program) dossierBytes) (Header 0)) _ (require-refuses Fine (leb (length program) dossierBytes) (Header 0) (may .header 0))
+      then-refuses Fine (require (leb (length program) dossierBytes) (Header 0)) _
+      (require-refuses Fine (leb (length program) dossierBytes) (Header 0) (may .header 0))
       (λ fits. then-refuses Fine (readNodes (streamOf program) records bytes) _
       (reading-refuses (streamOf program) records bytes)
       (λ t. then-refuses Fine (checkWalk (nodesOf (streamOf program) (t .hashes) (t .records))) _
       (walk-refuses (nodesOf (streamOf program) (t .hashes) (t .records)))
       (λ walked. then-refuses Fine (require (closes (streamOf program) (t .end)) (Closing (length (t .records)))) _
-      (require-refuses Fine (closes (streamOf program) (t .end)) (Closing (length (t .records))) (may .closing (length (t .records)))) (λ closed. passed-refuses Fine t))))
+      (require-refuses Fine (closes (streamOf program) (t .end)) (Closing (length (t .records))) (may .closing (length (t .records))))
+      (λ closed. passed-refuses Fine t))))
 
 module _ (Fine : Refusal → Type 0) (may : OfTables Fine) where
   -- 11, 12 and 13
@@ -258,8 +267,10 @@ module _ (Fine : Refusal → Type 0) (may : OfTables Fine) where
       (λ whole. then-refuses Fine (require (eqb (length (T .arrows)) (length (T .nodes))) (BadArrow (length (T .nodes)))) _
       (require-refuses Fine (eqb (length (T .arrows)) (length (T .nodes))) (BadArrow (length (T .nodes))) (may .arrow (length (T .nodes))))
       (λ count. each-refuses Fine (length (T .nodes)) (arrowRule (T .types) (T .nodes) (T .arrows)) BadArrow (may .arrow))))
-      (λ arrows. then-refuses Fine (require (eqb (length (T .given) / hashBytes) (length (rights (T .nodes)))) (Hash (countPlace (length (T .given) / hashBytes)))) _
-      (require-refuses Fine (eqb (length (T .given) / hashBytes) (length (rights (T .nodes)))) (Hash (countPlace (length (T .given) / hashBytes))) (may .hash (countPlace (length (T .given) / hashBytes))))
+      (λ arrows. then-refuses Fine
+      (require (eqb (length (T .given) / hashBytes) (length (rights (T .nodes)))) (Hash (countPlace (length (T .given) / hashBytes)))) _
+      (require-refuses Fine (eqb (length (T .given) / hashBytes) (length (rights (T .nodes))))
+      (Hash (countPlace (length (T .given) / hashBytes))) (may .hash (countPlace (length (T .given) / hashBytes))))
       (λ count. each-refuses Fine (length (rights (T .nodes))) _ Hash (may .hash)))
 
 module _ (Fine : Refusal → Type 0) (may : OfReady Fine) where
@@ -275,7 +286,8 @@ module _ (Fine : Refusal → Type 0) (may : OfReady Fine) where
   unfolding checkStores
   stores-refuse P cells frames answer =
       three-refuse Fine (leb (bytesFor (wholeCells P)) (length cells)) (leb (wholeFrames P) (length frames / frameNumbers))
-      (leb (bytesFor (width (wholeTarget P))) (length answer)) (StoreShort 0) (StoreShort 1) (StoreShort 2) (may .cells-short) (may .frames-short) (may .answer-short)
+      (leb (bytesFor (width (wholeTarget P))) (length answer)) (StoreShort 0) (StoreShort 1) (StoreShort 2) (may .cells-short)
+      (may .frames-short) (may .answer-short)
 
   -- 15
   values-refuse : (types : List TypeRecord) (arrows : List Arrow) (i : ℕ) (ns : List Node) (values : List Val) (rest : List Bit)
@@ -286,15 +298,18 @@ module _ (Fine : Refusal → Type 0) (may : OfReady Fine) where
       go (λ values rest. values-refuse types arrows (suc i) ns values rest) (onWitness n (readValue (tyAt types (target arrows i)) rest) (value ⟨⟩ rest))
     where
       go : ((values : List Val) (rest : List Bit) → Refuses {X = Values} Fine (valuesFrom types arrows (suc i) ns values rest))
-          → (x : Read) → Refuses {X = Values} Fine (elim x [ value v rest ↦ valuesFrom types arrows (suc i) ns (values ++ v ∷ []) rest | short ↦ refused (Witness i) ])
+          → (x : Read) → Refuses {X = Values} Fine
+          (elim x [ value v rest ↦ valuesFrom types arrows (suc i) ns (values ++ v ∷ []) rest | short ↦ refused (Witness i) ])
       go later (value v rest) = later (values ++ v ∷ []) rest
       go later short = refused-refuses Fine (Witness i) (may .witness i)
 
   -- the whole witness
-  witness-refuses : (types : List TypeRecord) (nodes : List Node) (arrows : List Arrow) (bytes : List ℕ) (count : ℕ) → Refuses Fine (checkWitness types nodes arrows bytes count)
+  witness-refuses : (types : List TypeRecord) (nodes : List Node) (arrows : List Arrow) (bytes : List ℕ) (count : ℕ)
+      → Refuses Fine (checkWitness types nodes arrows bytes count)
   unfolding checkWitness
   witness-refuses types nodes arrows bytes count =
-      then-refuses Fine (valuesFrom types arrows 0 nodes [] (takeL count (heldBits bytes))) _ (values-refuse types arrows 0 nodes [] (takeL count (heldBits bytes)))
+      then-refuses Fine (valuesFrom types arrows 0 nodes [] (takeL count (heldBits bytes))) _
+      (values-refuse types arrows 0 nodes [] (takeL count (heldBits bytes)))
       (λ read. then-refuses Fine (require (usedUp bytes count (read .rest)) (Witness (length nodes))) _
       (require-refuses Fine (usedUp bytes count (read .rest)) (Witness (length nodes)) (may .witness (length nodes)))
       (λ used. passed-refuses Fine (read .values)))

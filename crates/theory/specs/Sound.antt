@@ -123,7 +123,8 @@ unfolding fromTy toTy sourceTy targetTy
 arrow-typed-in P pass i e = arrow-typed (P .types) pass (P .nodes) (P .arrows) i e
 
 -- the terms of the nodes below n are typed
-typed-below : (P : Program) → Sound P → (n i : ℕ) → i < n → i < length (P .nodes) → hiddenAt (P .nodes) i ≡ false → Typed (termAt P i) (sourceTy P i) (targetTy P i)
+typed-below : (P : Program) → Sound P → (n i : ℕ) → i < n → i < length (P .nodes) → hiddenAt (P .nodes) i ≡ false
+    → Typed (termAt P i) (sourceTy P i) (targetTy P i)
 typed-below P ok zero i l h shown = absurd (not-suc-le-zero l)
 typed-below P ok (suc n) i l h shown =
     rw (term-step P i (ok .childrenBelow i h))

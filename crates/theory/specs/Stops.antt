@@ -1,4 +1,5 @@
--- A run that stops has entered the node at which it stops, and its last state is the one in which it entered that node: the fail node, or the assertion whose pruned branch was picked.
+-- A run that stops has entered the node at which it stops, and its last state is the one in which it entered that node: the fail node, or
+-- the assertion whose pruned branch was picked.
 -- So the nodes that a run enters reach as far as the run does.
 use mathlib.Core.Path.{_≡_, refl}
 use mathlib.Core.Bool.{Bool, true, false}
@@ -116,8 +117,10 @@ module _ (Q : ℕ → State → Type 0) where
     peeks (f ∷ rs) ws nx = asks (inFrame 1 f) _
 
 -- what is done before the left child of a disconnect, step by step
-hands-on : (P : Program) (i b : ℕ) (s : State) {s₁ s₂ s₃ s₄ s₅ : State} → push P (width (wordTy 8) + width (sourceTy P i)) s ≡ done s₁ → writeBits (padded (wordTy 8) (P .hash b)) s₁ ≡ done s₂
-    → copy (width (sourceTy P i)) s₂ ≡ done s₃ → moveFrame s₃ ≡ done s₄ → push P (width (leftOf (targetTy P i)) + width (sourceTy P b)) s₄ ≡ done s₅ → handed P i b s ≡ done s₅
+hands-on : (P : Program) (i b : ℕ) (s : State) {s₁ s₂ s₃ s₄ s₅ : State} → push P (width (wordTy 8) + width (sourceTy P i)) s ≡ done s₁
+    → writeBits (padded (wordTy 8) (P .hash b)) s₁ ≡ done s₂
+    → copy (width (sourceTy P i)) s₂ ≡ done s₃ → moveFrame s₃ ≡ done s₄
+    → push P (width (leftOf (targetTy P i)) + width (sourceTy P b)) s₄ ≡ done s₅ → handed P i b s ≡ done s₅
 unfolding handed _>>=_
 hands-on P i b s e₁ e₂ e₃ e₄ e₅ = rw e₁ (rw e₂ (rw e₃ (rw e₄ e₅)))
 
@@ -182,7 +185,8 @@ module _ (P : Program) (ok : Sound P) (v : Val) (hv : HasTy v (wholeSource P)) (
     there-and-back n j t l e = stops-then In (child j t l e) (λ u q. last-back n u)
 
     -- by the bit at the read cursor
-    by-bit : (left right : Step) → (peek s ≡ done 0 → Ok left) → ((k : ℕ) → peek s ≡ done (suc k) → Ok right) → Ok (peek s >>= λ bit. elim bit [ zero ↦ left | suc k ↦ right ])
+    by-bit : (left right : Step) → (peek s ≡ done 0 → Ok left) → ((k : ℕ) → peek s ≡ done (suc k) → Ok right)
+        → Ok (peek s >>= λ bit. elim bit [ zero ↦ left | suc k ↦ right ])
     by-bit left right f g = after-peek s go
       where
         go : (bit : Bit) → peek s ≡ done bit → Ok (elim bit [ zero ↦ left | suc k ↦ right ])
@@ -232,8 +236,12 @@ module _ (P : Program) (ok : Sound P) (v : Val) (hv : HasTy v (wholeSource P)) (
         let hands : handed P i b s ≡ done s₅ = hands-on P i b s e₁ e₂ e₃ e₄ e₅ in
         stops-then In (child a s₅ (l .0) (DisconnectLeft h e hands)) λ s₆ e₆. after-move s₆ λ s₇ e₇. after-copy B s₇ λ s₈ e₈. after-fwd B s₈ λ s₉ e₉.
         stops-then In (child b s₉ (l .1 .0) (DisconnectRight h e hands e₆ e₇ e₈ e₉)) λ t q. stops-then In (last-drop t) λ u z. last-drop u
-    stops-node (injl a) e l = after-write (0 ∷ []) s λ s₁ e₁. after-skip (padL (leftOf (targetTy P i)) (rightOf (targetTy P i))) s₁ λ s₂ e₂. child a s₂ (l .0) (InInjl h e e₁ e₂)
-    stops-node (injr a) e l = after-write (1 ∷ []) s λ s₁ e₁. after-skip (padR (leftOf (targetTy P i)) (rightOf (targetTy P i))) s₁ λ s₂ e₂. child a s₂ (l .0) (InInjr h e e₁ e₂)
+    stops-node (injl a) e l =
+        after-write (0 ∷ []) s λ s₁ e₁. after-skip (padL (leftOf (targetTy P i)) (rightOf (targetTy P i))) s₁ λ s₂ e₂.
+        child a s₂ (l .0) (InInjl h e e₁ e₂)
+    stops-node (injr a) e l =
+        after-write (1 ∷ []) s λ s₁ e₁. after-skip (padR (leftOf (targetTy P i)) (rightOf (targetTy P i))) s₁ λ s₂ e₂.
+        child a s₂ (l .0) (InInjr h e e₁ e₂)
     stops-node (take a) e l = child a s (l .0) (InTake h e)
     stops-node (drop a) e l = after-fwd (width (leftOf (sourceTy P i))) s λ s₁ e₁. there-and-back (width (leftOf (sourceTy P i))) a s₁ (l .0) (InDrop h e e₁)
     stops-node (disconnect1 a) e l = NoRule

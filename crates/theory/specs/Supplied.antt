@@ -82,9 +82,11 @@ module _ (types : List TypeRecord) (arrows : List Arrow) where
   unfolding valuesFrom
   values-typed [] i vs rest R e p = let q : vs ≡ R .values = cc in (λ k l. ap (λ (ws : List Val). getD ws k ⟨⟩) (sym q), λ k w. clash (cc))
   values-typed (n ∷ ns) i vs rest R e p =
-      go (onWitness n (readValue (to i) rest) (value ⟨⟩ rest)) (read-for-node i n rest) p (λ v rest′ q. values-typed ns (suc i) (vs ++ v ∷ []) rest′ R (ap suc e ∙ sym (length-snoc vs v)) q)
+      go (onWitness n (readValue (to i) rest) (value ⟨⟩ rest)) (read-for-node i n rest) p
+      (λ v rest′ q. values-typed ns (suc i) (vs ++ v ∷ []) rest′ R (ap suc e ∙ sym (length-snoc vs v)) q)
     where
-      go : (r : Read) → ReadFor i n r → (elim r [ value v rest ↦ valuesFrom types arrows (suc i) ns (vs ++ v ∷ []) rest | short ↦ refused (Witness i) ]) ≡ passed R
+      go : (r : Read) → ReadFor i n r
+          → (elim r [ value v rest ↦ valuesFrom types arrows (suc i) ns (vs ++ v ∷ []) rest | short ↦ refused (Witness i) ]) ≡ passed R
           → ((v : Val) (rest : List Bit) → valuesFrom types arrows (suc i) ns (vs ++ v ∷ []) rest ≡ passed R → TypedFrom (suc i) ns (vs ++ v ∷ []) (R .values))
           → TypedFrom i (n ∷ ns) vs (R .values)
       go r (readFor {v} {rest} h) q later = typed-from-step i n ns vs (R .values) v e h (later v rest q)

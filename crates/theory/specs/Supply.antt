@@ -1,5 +1,6 @@
 -- What is supplied beside a program's tables passes its checks exactly if it fits: the header (1), the hashes (13), the limits (14), the witness bits (15),
--- the input bits (16) and the stores (17). Bits fit if they are the compact bits of values of the right types, one after the other, then fewer than eight zeros.
+-- the input bits (16) and the stores (17). Bits fit if they are the compact bits of values of the right types, one after the other, then
+-- fewer than eight zeros.
 use mathlib.Core.Path.{_≡_, refl, sym, ap, ap₂, _∙_, subst}
 use mathlib.Core.Bool.{Bool, true, false, not}
 use mathlib.Core.List.{List, [], _∷_, _++_, append-nil, append-assoc}
@@ -132,13 +133,15 @@ module _ (P : Program) where
     fit-stores h =
         then-passes (require first (StoreShort 0)) (λ one. require second (StoreShort 1) >>= λ two. require third (StoreShort 2)) tt
         (holds-require first (StoreShort 0) (le-leb _ _ (h .cellBytes)))
-        ∙ then-passes (require second (StoreShort 1)) (λ two. require third (StoreShort 2)) tt (holds-require second (StoreShort 1) (le-leb _ _ (h .frameRecords)))
+        ∙ then-passes (require second (StoreShort 1)) (λ two. require third (StoreShort 2)) tt
+        (holds-require second (StoreShort 1) (le-leb _ _ (h .frameRecords)))
         ∙ holds-require third (StoreShort 2) (le-leb _ _ (h .answerBytes))
 
 -- THE HASHES: as many as disconnects with two children, and one child gets one hash
 pub record HashesFit (nodes : List Node) (given : List ℕ) : Type 0 where
   pub many : length given / hashBytes ≡ length (rights nodes)
-  pub alike : (e f : ℕ) → e < length (rights nodes) → f < length (rights nodes) → getD (rights nodes) e 0 ≡ getD (rights nodes) f 0 → entry given e ≡ entry given f
+  pub alike : (e f : ℕ) → e < length (rights nodes) → f < length (rights nodes) → getD (rights nodes) e 0 ≡ getD (rights nodes) f 0
+      → entry given e ≡ entry given f
 
 module _ (nodes : List Node) (given : List ℕ) where
   -- the child that entry e is for
@@ -177,9 +180,11 @@ module _ (nodes : List Node) (given : List ℕ) where
   pub hashes-fit : checkHashes nodes given ≡ passed tt → HashesFit nodes given
   unfolding checkHashes clash
   hashes-fit e =
-      let p = both-passed (require count (Hash (countPlace (length given / hashBytes)))) (λ counted. each (length (rights nodes)) (λ e. not (clash nodes given e)) Hash) tt e in
+      let p = both-passed (require count (Hash (countPlace (length given / hashBytes))))
+      (λ counted. each (length (rights nodes)) (λ e. not (clash nodes given e)) Hash) tt e in
       let fine : (e d : ℕ) → e < length (rights nodes) → d < e → right d ≡ right e → entry given d ≡ entry given e =
-      λ e d l m. no-clash e d (none-below e (unlike e) (not-true _ (each-holds (length (rights nodes)) (λ e. not (clash nodes given e)) Hash tt (p .2) e l)) d m) in
+      λ e d l m. no-clash e d
+      (none-below e (unlike e) (not-true _ (each-holds (length (rights nodes)) (λ e. not (clash nodes given e)) Hash tt (p .2) e l)) d m) in
       record {
         many = eqb-true _ _ (require-holds count (Hash (countPlace (length given / hashBytes))) (p .0) (p .1));
         alike = λ e f le lf q. elim (decLt e f) [
@@ -192,7 +197,8 @@ module _ (nodes : List Node) (given : List ℕ) where
   pub fit-hashes : HashesFit nodes given → checkHashes nodes given ≡ passed tt
   unfolding checkHashes clash
   fit-hashes h =
-      then-passes (require count (Hash (countPlace (length given / hashBytes)))) (λ counted. each (length (rights nodes)) (λ e. not (clash nodes given e)) Hash) tt
+      then-passes (require count (Hash (countPlace (length given / hashBytes))))
+      (λ counted. each (length (rights nodes)) (λ e. not (clash nodes given e)) Hash) tt
       (holds-require count (Hash (countPlace (length given / hashBytes))) (eq-eqb _ _ (h .many)))
       ∙ holds-each (length (rights nodes)) (λ e. not (clash nodes given e)) Hash
       (λ e l. ap not (below-none e (unlike e) (λ d m. clash-none e d (h .alike d e (omega arith) l))))
@@ -261,7 +267,8 @@ module _ (A : Ty) (bytes : List ℕ) (count : ℕ) (v : Val) where
       go (value w rest) p q =
           let a = both-passed (require (used rest) (Input 0)) (λ fine. passed w) v q in
           let same : w ≡ v = (let z = a .2 in cc) in
-          let t = every-all (eqb (length rest) 0 ∷ leb (length bytes) dossierBytes ∷ closes (streamOf bytes) count ∷ []) (require-holds (used rest) (Input 0) (a .0) (a .1)) in
+          let t = every-all (eqb (length rest) 0 ∷ leb (length bytes) dossierBytes ∷ closes (streamOf bytes) count ∷ [])
+          (require-holds (used rest) (Input 0) (a .0) (a .1)) in
           let r = read-is-compact A (take count (heldBits bytes)) w rest (below-take 2 count (heldBits bytes) (stream-bits (take dossierBytes bytes))) p in
           let bits : take count (heldBits bytes) ≡ compact v =
           r .1 ∙ ap₂ (λ (u : Val) (l : List Bit). compact u ++ l) same (no-bits rest (eqb-true _ _ (t .0))) ∙ append-nil (compact v) in
@@ -276,7 +283,8 @@ module _ (A : Ty) (bytes : List ℕ) (count : ℕ) (v : Val) where
       let r : readValue A (take count (heldBits bytes)) ≡ value v [] = ap (readValue A) (b .0 ∙ sym (append-nil (compact v))) ∙ reads-compact (h .typed) [] in
       rw (r, checkInput)
       (then-passes (require (used []) (Input 0)) (λ fine. passed v) tt
-      (holds-require (used []) (Input 0) (all-every (eqb 0 0 ∷ leb (length bytes) dossierBytes ∷ closes (streamOf bytes) count ∷ []) (refl, (b .1, (b .2, tt))))))
+      (holds-require (used []) (Input 0)
+      (all-every (eqb 0 0 ∷ leb (length bytes) dossierBytes ∷ closes (streamOf bytes) count ∷ []) (refl, (b .1, (b .2, tt))))))
 
 -- the compact bits of values one after the other
 unfoldable pub allBits : List Val → List Bit
@@ -360,7 +368,8 @@ module _ (types : List TypeRecord) (arrows : List Arrow) where
   values-read (n ∷ ns) [] i before rest h = absurd h
   values-read (n ∷ ns) (v ∷ vs) i before rest h =
       rw (append-assoc (compact v) (allBits vs) rest, read-one i n v (allBits vs ++ rest) (h .0), valuesFrom)
-      (values-read ns vs (suc i) (before ++ v ∷ []) rest (h .1) ∙ ap (λ (vs : List Val). passed (record { values = vs; rest = rest })) (append-assoc before (v ∷ []) vs))
+      (values-read ns vs (suc i) (before ++ v ∷ []) rest (h .1)
+      ∙ ap (λ (vs : List Val). passed (record { values = vs; rest = rest })) (append-assoc before (v ∷ []) vs))
 
   -- what was read: values for the nodes, whose bits stood there
   abbrev WasRead : (i : ℕ) → List Node → (before : List Val) → List Bit → Values → Type 0
@@ -389,7 +398,8 @@ module _ (types : List TypeRecord) (arrows : List Arrow) where
     where
       go : (r : Read) → readFor i n bits ≡ r
           → (elim r [ value v rest ↦ valuesFrom types arrows (suc i) ns (before ++ v ∷ []) rest | short ↦ refused (Witness i) ]) ≡ passed R
-          → ((v : Val) (rest : List Bit) → AreBits rest → valuesFrom types arrows (suc i) ns (before ++ v ∷ []) rest ≡ passed R → WasRead (suc i) ns (before ++ v ∷ []) rest R)
+          → ((v : Val) (rest : List Bit) → AreBits rest → valuesFrom types arrows (suc i) ns (before ++ v ∷ []) rest ≡ passed R
+          → WasRead (suc i) ns (before ++ v ∷ []) rest R)
           → WasRead i (n ∷ ns) before bits R
       go (value v rest) p q later =
           let r = one-read i n bits v rest are p in
@@ -405,10 +415,13 @@ module _ (types : List TypeRecord) (arrows : List Arrow) where
     pub witness-fits : checkWitness types nodes arrows bytes count ≡ passed values → WitnessFits types nodes arrows bytes count values
     unfolding checkWitness
     witness-fits e =
-        let a = both-passed (valuesFrom types arrows 0 nodes [] (take count (heldBits bytes))) (λ read. require (left (read .rest)) (Witness (length nodes)) >>= λ fine. passed (read .values)) values e in
+        let a = both-passed (valuesFrom types arrows 0 nodes [] (take count (heldBits bytes)))
+        (λ read. require (left (read .rest)) (Witness (length nodes)) >>= λ fine. passed (read .values)) values e in
         let b = both-passed (require (left (a .0 .rest)) (Witness (length nodes))) (λ fine. passed (a .0 .values)) values (a .2) in
-        let t = every-all (eqb (length (a .0 .rest)) 0 ∷ leb (length bytes) dossierBytes ∷ closes (streamOf bytes) count ∷ []) (require-holds (left (a .0 .rest)) (Witness (length nodes)) (b .0) (b .1)) in
-        let r = read-values nodes 0 [] (take count (heldBits bytes)) (a .0) (below-take 2 count (heldBits bytes) (stream-bits (take dossierBytes bytes))) (a .1) in
+        let t = every-all (eqb (length (a .0 .rest)) 0 ∷ leb (length bytes) dossierBytes ∷ closes (streamOf bytes) count ∷ [])
+        (require-holds (left (a .0 .rest)) (Witness (length nodes)) (b .0) (b .1)) in
+        let r = read-values nodes 0 [] (take count (heldBits bytes)) (a .0)
+        (below-take 2 count (heldBits bytes) (stream-bits (take dossierBytes bytes))) (a .1) in
         let same : r .0 ≡ values = (let z = b .2 in let y = r .2 in cc) in
         let bits : take count (heldBits bytes) ≡ allBits values =
         r .3 ∙ ap₂ (λ (vs : List Val) (l : List Bit). allBits vs ++ l) same (no-bits (a .0 .rest) (eqb-true _ _ (t .0))) ∙ append-nil (allBits values) in
@@ -421,7 +434,9 @@ module _ (types : List TypeRecord) (arrows : List Arrow) where
         let b = are-bits bytes count (allBits values) (h .bits) in
         let r : valuesFrom types arrows 0 nodes [] (take count (heldBits bytes)) ≡ passed (record { values = values; rest = [] }) =
         ap (valuesFrom types arrows 0 nodes []) (b .0 ∙ sym (append-nil (allBits values))) ∙ values-read nodes values 0 [] [] (h .each) in
-        then-passes (valuesFrom types arrows 0 nodes [] (take count (heldBits bytes))) (λ read. require (left (read .rest)) (Witness (length nodes)) >>= λ fine. passed (read .values))
+        then-passes (valuesFrom types arrows 0 nodes [] (take count (heldBits bytes)))
+        (λ read. require (left (read .rest)) (Witness (length nodes)) >>= λ fine. passed (read .values))
         (record { values = values; rest = [] }) r
         ∙ then-passes (require (left []) (Witness (length nodes))) (λ fine. passed values) tt
-        (holds-require (left []) (Witness (length nodes)) (all-every (eqb 0 0 ∷ leb (length bytes) dossierBytes ∷ closes (streamOf bytes) count ∷ []) (refl, (b .1, (b .2, tt)))))
+        (holds-require (left []) (Witness (length nodes))
+        (all-every (eqb 0 0 ∷ leb (length bytes) dossierBytes ∷ closes (streamOf bytes) count ∷ []) (refl, (b .1, (b .2, tt)))))

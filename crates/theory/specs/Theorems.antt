@@ -3,7 +3,8 @@
 -- the nodes that a run enters, the job, the store machine, and the checks. A statement `P ↔ Q` is read "P exactly if Q".
 -- Notions that the statements name, beside the definitions of `report` and `scope`: Good (Safety), El and den (Denotation), Apart (Cells), At (Instructions),
 -- Ends and endAt (Correct), Ran (WholeRuns), Sound (Sound), Entered (Entered), Stacked and cursorOf (Entry), NodeEnds (NodeEnds), StopsIn (Stops),
--- told and output (Answers), CellsLeft and outputBytes (Left), HeaderFits to StoresFit (Supply), RulesKept, Acceptable and FromRun (Acceptance), BitCells and BitsAfter (BinaryCells);
+-- told and output (Answers), CellsLeft and outputBytes (Left), HeaderFits to StoresFit (Supply), RulesKept, Acceptable and FromRun
+-- (Acceptance), BitCells and BitsAfter (BinaryCells);
 -- those of `layout` and `exactness` stand in the modules that the names begin with, or that they are taken from.
 use mathlib.Core.Path.{_≡_, refl, sym, ap, _∙_, subst}
 use mathlib.Core.Logic.{_↔_}
@@ -138,7 +139,8 @@ pub node-is-meaning : (P : Program) → Sound P → (i : ℕ) → i < length (P 
     → At rs rd (width (sourceTy P i)) → At ws wr (width (targetTy P i)) → rd + width (sourceTy P i) ≤ nx → wr + width (targetTy P i) ≤ nx
     → Apart rd (width (sourceTy P i)) wr (width (targetTy P i))
     → nx + (bounds (termAt P i)) .cells ≤ size → length rs + length ws + (bounds (termAt P i)) .frames ≤ most
-    → Ends (targetTy P i) wr nx ((bounds (termAt P i)) .cells) rs ws c (eval (termAt P i) (valueAt (sourceTy P i) c rd)) (exec size most (termAt P i) (state c rs ws nx))
+    → Ends (targetTy P i) wr nx ((bounds (termAt P i)) .cells) rs ws c (eval (termAt P i) (valueAt (sourceTy P i) c rd))
+    (exec size most (termAt P i) (state c rs ws nx))
 node-is-meaning = Programs.node-ends
 
 -- WHOLE RUNS of a sound program on a value of its source, on cells with any old bits, in just the cells and frames that its bounds give.
@@ -181,8 +183,8 @@ module _ (P : Program) (ok : Sound P) (v : Val) (hv : HasTy v (wholeSource P)) (
   pub entered-shown : (i < length (P .nodes)) × (hiddenAt (P .nodes) i ≡ false)
   entered-shown = (entered-at P ok v hv c h .inTable, entered-at P ok v hv c h .shown)
 
-  -- The state meets what `machine-is-meaning` asks for that arrow, in the cells and frames of the whole program: a value to read and room to write at the cursors,
-  -- below the first free cell and apart, and as many cells and frames beyond as the bounds of its term.
+  -- The state meets what `machine-is-meaning` asks for that arrow, in the cells and frames of the whole program: a value to read and room
+  -- to write at the cursors, below the first free cell and apart, and as many cells and frames beyond as the bounds of its term.
   pub entered-meets : At (s .reads) (cursorOf (s .reads)) (width (sourceTy P i)) × At (s .writes) (cursorOf (s .writes)) (width (targetTy P i))
       × (cursorOf (s .reads) + width (sourceTy P i) ≤ s .next) × (cursorOf (s .writes) + width (targetTy P i) ≤ s .next)
       × Apart (cursorOf (s .reads)) (width (sourceTy P i)) (cursorOf (s .writes)) (width (targetTy P i))
@@ -199,9 +201,10 @@ module _ (P : Program) (ok : Sound P) (v : Val) (hv : HasTy v (wholeSource P)) (
   pub entered-frames : Stacked (s .reads) (s .writes) (s .next)
   entered-frames = entered-at P ok v hv c h .entry .stacked
 
-  -- So the node does what its term means of the value that it reads: the value stands in the target's cells, the write cursor is on by the target's width, the read cursor
-  -- is back, and every other frame's cells and record are as they were; or it stops where the meaning does.
-  pub entered-does : NodeEnds (targetTy P i) s (eval (termAt P i) (valueAt (sourceTy P i) (s .cells) (cursorOf (s .reads)))) (exec (wholeCells P) (wholeFrames P) (termAt P i) s)
+  -- So the node does what its term means of the value that it reads: the value stands in the target's cells, the write cursor is on by the
+  -- target's width, the read cursor is back, and every other frame's cells and record are as they were; or it stops where the meaning does.
+  pub entered-does : NodeEnds (targetTy P i) s (eval (termAt P i) (valueAt (sourceTy P i) (s .cells) (cursorOf (s .reads))))
+      (exec (wholeCells P) (wholeFrames P) (termAt P i) s)
   entered-does = node-means P ok (entered-at P ok v hv c h)
 
 -- A run that stops has entered the node at which it stops, and its last state is the one in which it entered that node.
@@ -210,7 +213,8 @@ pub stops-where-entered : (P : Program) → Sound P → (v : Val) → HasTy v (w
 unfolding Programs.runOf
 stops-where-entered P ok v hv c = run-stops P ok v hv c
 
--- THE JOB. A dossier that passes the checks 1 to 13 with stores of these sizes, and whose values and stores pass 14 to 17, holds a sound program and a value of its source.
+-- THE JOB. A dossier that passes the checks 1 to 13 with stores of these sizes, and whose values and stores pass 14 to 17, holds a sound
+-- program and a value of its source.
 module _ (d nodes hashes cells frames answer : List ℕ) (t : NodeTable) (R : Ready)
     (e : checkDossier d nodes hashes ≡ passed t) (p : checkReady (tablesOf d t) cells frames answer ≡ passed R) where
   -- The program and its input.
@@ -230,18 +234,23 @@ module _ (d nodes hashes cells frames answer : List ℕ) (t : NodeTable) (R : Re
   job-clears-frames = Job.job-frames d nodes hashes t e cells frames answer R p
 
   -- The cells are those of the machine's last state, and from the bound on as they were.
-  pub job-leaves-cells : CellsLeft (machine (wholeCells (R .program)) (wholeFrames (R .program)) (whole (R .program)) (wholeSource (R .program)) (wholeTarget (R .program)) (R .input) (cellsOf cells))
+  pub job-leaves-cells : CellsLeft (machine (wholeCells (R .program)) (wholeFrames (R .program)) (whole (R .program))
+      (wholeSource (R .program)) (wholeTarget (R .program)) (R .input) (cellsOf cells))
       (wholeCells (R .program)) cells ((run d nodes hashes cells frames answer) .cells)
   unfolding Programs.runOf
   job-leaves-cells = Job.job-cells d nodes hashes t e cells frames answer R p
 
--- Of any dossier: it keeps the rules, that is, it holds the report's code of a table in canonical order, types and hashes by their rules, arrows that are the report's typing,
--- is within the limits, with the bits of values of the right types and stores that fit, exactly if its answer comes from a run: an output, 18 or 19.
-pub kept-exactly : (d nodes hashes cells frames answer : List ℕ) → FromRun ((run d nodes hashes cells frames answer) .says) ↔ Acceptable d nodes hashes cells frames answer
-kept-exactly d nodes hashes cells frames answer = (run-kept d nodes hashes cells frames answer, λ k. kept-runs d nodes hashes cells frames answer (k .0) (k .1) (k .2) (k .3))
+-- Of any dossier: it keeps the rules, that is, it holds the report's code of a table in canonical order, types and hashes by their rules,
+-- arrows that are the report's typing, is within the limits, with the bits of values of the right types and stores that fit, exactly if its
+-- answer comes from a run: an output, 18 or 19.
+pub kept-exactly : (d nodes hashes cells frames answer : List ℕ) → FromRun ((run d nodes hashes cells frames answer) .says)
+    ↔ Acceptable d nodes hashes cells frames answer
+kept-exactly d nodes hashes cells frames answer =
+    (run-kept d nodes hashes cells frames answer, λ k. kept-runs d nodes hashes cells frames answer (k .0) (k .1) (k .2) (k .3))
 
 -- And then it is answered by what that program means of that input.
-pub kept-means : (d nodes hashes cells frames answer : List ℕ) (ns : List Node) (values : List Val) (v : Val) → RulesKept d nodes hashes cells frames answer ns values v
+pub kept-means : (d nodes hashes cells frames answer : List ℕ) (ns : List Node) (values : List Val) (v : Val)
+    → RulesKept d nodes hashes cells frames answer ns values v
     → ((run d nodes hashes cells frames answer) .says ≡ told (eval (whole (programWith d ns values)) v))
     × ((run d nodes hashes cells frames answer) .answer ≡ output (eval (whole (programWith d ns values)) v) answer)
 kept-means d nodes hashes cells frames answer ns values v h =
@@ -249,13 +258,15 @@ kept-means d nodes hashes cells frames answer ns values v h =
 
 -- Old contents of the five stores change no output, no refusal and no place, of any dossier: nothing that is said.
 pub old-stores-change-nothing : (d nodes nodes′ hashes hashes′ cells cells′ frames frames′ answer answer′ : List ℕ)
-    → length nodes ≡ length nodes′ → length hashes ≡ length hashes′ → length cells ≡ length cells′ → length frames ≡ length frames′ → length answer ≡ length answer′
+    → length nodes ≡ length nodes′ → length hashes ≡ length hashes′ → length cells ≡ length cells′ → length frames ≡ length frames′
+    → length answer ≡ length answer′
     → (run d nodes hashes cells frames answer) .says ≡ (run d nodes′ hashes′ cells′ frames′ answer′) .says
 old-stores-change-nothing = Job.old-stores
 
 -- And no bit of an output: the bytes that hold it are the same.
 pub old-stores-change-no-bit : (d nodes nodes′ hashes hashes′ cells cells′ frames frames′ answer answer′ : List ℕ)
-    → length nodes ≡ length nodes′ → length hashes ≡ length hashes′ → length cells ≡ length cells′ → length frames ≡ length frames′ → length answer ≡ length answer′
+    → length nodes ≡ length nodes′ → length hashes ≡ length hashes′ → length cells ≡ length cells′ → length frames ≡ length frames′
+    → length answer ≡ length answer′
     → outputBytes ((run d nodes hashes cells frames answer) .says) ((run d nodes hashes cells frames answer) .answer)
     ≡ outputBytes ((run d nodes′ hashes′ cells′ frames′ answer′) .says) ((run d nodes′ hashes′ cells′ frames′ answer′) .answer)
 old-stores-change-no-bit = Job.old-output
@@ -264,7 +275,8 @@ old-stores-change-no-bit = Job.old-output
 pub stage-says-meaning : (types nodes arrows program hashes given witness : List ℕ) (witnessBits : ℕ) (input : List ℕ) (inputBits : ℕ)
     → hashStage types nodes arrows program hashes given ≡ passed tt → (cells frames answer : List ℕ) (R : Ready)
     → checkReady (tablesLent types nodes arrows program hashes given witness witnessBits input inputBits) cells frames answer ≡ passed R
-    → (runStage types nodes arrows program hashes given witness witnessBits input inputBits cells frames answer) .says ≡ told (eval (whole (R .program)) (R .input))
+    → (runStage types nodes arrows program hashes given witness witnessBits input inputBits cells frames answer) .says
+    ≡ told (eval (whole (R .program)) (R .input))
 stage-says-meaning = stage-says
 
 -- THE STORE MACHINE is the machine as the code holds it: `lentCells` is the number of cells lent, `size` and `most` are the bounds on cells and frames

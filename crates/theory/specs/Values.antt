@@ -17,7 +17,8 @@ pub data ReadTyped (A : Ty) : Read → Type 0 where
   tooFew : ReadTyped A short
 
 -- what is read after a value
-read-then : {A B : Ty} (r : Read) (f : Val → List Bit → Read) → ReadTyped A r → ((v : Val) (rest : List Bit) → HasTy v A → ReadTyped B (f v rest)) → ReadTyped B (andThen r f)
+read-then : {A B : Ty} (r : Read) (f : Val → List Bit → Read) → ReadTyped A r
+    → ((v : Val) (rest : List Bit) → HasTy v A → ReadTyped B (f v rest)) → ReadTyped B (andThen r f)
 unfolding andThen
 read-then r f (aValue {v} {rest} h) k = k v rest h
 read-then r f tooFew k = tooFew

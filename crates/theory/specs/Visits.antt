@@ -74,7 +74,8 @@ visits-paid (injl B C t) v = omega (arith, visits-paid t v, owed-map (eval t v) 
 visits-paid (injr B C t) v = omega (arith, visits-paid t v, owed-map (eval t v) inr)
 visits-paid (case A B s t) v = omega (
   arith,
-  paid-split v (λ x c. branch x (λ a. eval s (a & c)) (λ b. eval t (b & c))) (λ x c. inSum x (λ a. visits s (a & c)) (λ b. visits t (b & c))) (max (cost s) (cost t))
+  paid-split v (λ x c. branch x (λ a. eval s (a & c)) (λ b. eval t (b & c)))
+      (λ x c. inSum x (λ a. visits s (a & c)) (λ b. visits t (b & c))) (max (cost s) (cost t))
       (λ x c. paid-branch x (λ a. eval s (a & c)) (λ b. eval t (b & c)) (λ a. visits s (a & c)) (λ b. visits t (b & c)) (max (cost s) (cost t))
       (λ a. omega (arith, visits-paid s (a & c))) (λ b. omega (arith, visits-paid t (b & c)))),
 )
@@ -102,7 +103,8 @@ visits-paid (disconnect A B C h s t) v = omega (
   arith,
   paid-both (eval s (h & v)) (λ bc. split bc λ b c. eval t c >>= λ d. done (b & d)) (λ bc. inPair bc λ b c. visits t c) (visits s (h & v)) (cost s) (cost t)
       (visits-paid s (h & v))
-      (λ bc. paid-split bc (λ b c. eval t c >>= λ d. done (b & d)) (λ b c. visits t c) (cost t) (λ b c. omega (arith, visits-paid t c, owed-map (eval t c) (b &_)))),
+      (λ bc. paid-split bc (λ b c. eval t c >>= λ d. done (b & d)) (λ b c. visits t c) (cost t)
+      (λ b c. omega (arith, visits-paid t c, owed-map (eval t c) (b &_)))),
 )
 visits-paid bad v = omega arith
 

@@ -49,7 +49,9 @@ module _ (size most : ℕ) where
       let wr : ℕ = cursorOf (s .writes) in
       record {
         read = h .read;
-        write = at-cursor (advance n (s .writes)) (wr + n) (width B′) (at-advance (s .writes) wr n (width B′) (at-less (s .writes) wr (width B) (n + width B′) b (h .write)));
+        write =
+            at-cursor (advance n (s .writes)) (wr + n) (width B′)
+            (at-advance (s .writes) wr n (width B′) (at-less (s .writes) wr (width B) (n + width B′) b (h .write)));
         stacked = stacked-writes n (h .stacked);
         cells = h .cells;
         frames = omega (arith, h .frames, length-advance n (s .writes));
@@ -62,7 +64,9 @@ module _ (size most : ℕ) where
   read-on n {A = A} {A′ = A′} {s = s} a h =
       let rd : ℕ = cursorOf (s .reads) in
       record {
-        read = at-cursor (advance n (s .reads)) (rd + n) (width A′) (at-advance (s .reads) rd n (width A′) (at-less (s .reads) rd (width A) (n + width A′) a (h .read)));
+        read =
+            at-cursor (advance n (s .reads)) (rd + n) (width A′)
+            (at-advance (s .reads) rd n (width A′) (at-less (s .reads) rd (width A) (n + width A′) a (h .read)));
         write = h .write;
         stacked = stacked-reads n (h .stacked);
         cells = h .cells;
@@ -70,11 +74,13 @@ module _ (size most : ℕ) where
       }
 
   -- behind n cells of what is read: drop, and the branches of a case
-  pub behind-way : (n : ℕ) {A A′ B : Ty} {x z : Bound} {s t : State} → Beside 0 0 x z → n + width A′ ≤ width A → Enters A B z s → fwd n s ≡ done t → Enters A′ B x t
+  pub behind-way : (n : ℕ) {A A′ B : Ty} {x z : Bound} {s t : State} → Beside 0 0 x z → n + width A′ ≤ width A → Enters A B z s
+      → fwd n s ≡ done t → Enters A′ B x t
   unfolding state
   behind-way n {A} {s = s} k a h e =
       reached
-      (fwd-does (s .cells) (s .reads) (s .writes) (s .next) n (cursorOf (s .reads)) (at-less (s .reads) (cursorOf (s .reads)) (width A) n (omega arith) (h .read)))
+      (fwd-does (s .cells) (s .reads) (s .writes) (s .next) n (cursorOf (s .reads))
+      (at-less (s .reads) (cursorOf (s .reads)) (width A) n (omega arith) (h .read)))
       e (read-on n a (same-way k (omega arith) (omega arith) h))
 
   -- an injection: the tag b and n cells of padding, and behind them the part
@@ -85,25 +91,30 @@ module _ (size most : ℕ) where
       let wr : ℕ = cursorOf (s .writes) in
       let c₁ : Cells = putBits (s .cells) wr (b ∷ []) in
       let one : At (s .writes) wr 1 = at-less (s .writes) wr (width B) 1 (omega arith) (h .write) in
-      let wrote : writeBits (b ∷ []) s ≡ done (state c₁ (s .reads) (advance 1 (s .writes)) (s .next)) = writeBits-does (s .cells) (s .reads) (s .writes) (s .next) (b ∷ []) wr one in
+      let wrote : writeBits (b ∷ []) s ≡ done (state c₁ (s .reads) (advance 1 (s .writes)) (s .next)) =
+      writeBits-does (s .cells) (s .reads) (s .writes) (s .next) (b ∷ []) wr one in
       let is : state c₁ (s .reads) (advance 1 (s .writes)) (s .next) ≡ s₁ = cc in
       let rest : At (advance 1 (s .writes)) (wr + 1) n = at-advance (s .writes) wr 1 n (at-less (s .writes) wr (width B) (1 + n) (omega arith) (h .write)) in
       reached
-      (skip-does c₁ (s .reads) (advance 1 (s .writes)) (s .next) n (wr + 1) rest ∙ ap (λ (ws : List Frame). done (state c₁ (s .reads) ws (s .next))) (advance-advance 1 n (s .writes)))
+      (skip-does c₁ (s .reads) (advance 1 (s .writes)) (s .next) n (wr + 1) rest
+      ∙ ap (λ (ws : List Frame). done (state c₁ (s .reads) ws (s .next))) (advance-advance 1 n (s .writes)))
       (ap (skip n) is ∙ g)
       (write-on (1 + n) room c₁ (same-way k (omega arith) (omega arith) h))
 
   -- the right child of a pair, behind what the left one wrote
-  pub pair-way : {f : Term} {A B B′ C : Ty} {y z : Bound} {s t : State} → Typed f A B → Beside 0 0 (bounds f) z → Beside 0 0 y z → width B + width C ≤ width B′ → Enters A B′ z s
+  pub pair-way : {f : Term} {A B B′ C : Ty} {y z : Bound} {s t : State} → Typed f A B → Beside 0 0 (bounds f) z → Beside 0 0 y z
+      → width B + width C ≤ width B′ → Enters A B′ z s
       → exec size most f s ≡ done t → Enters A C y t
   pair-way {B = B} {t = t} typed k l room h e =
-      subst (Enters _ _ _) (ran typed (same-way k (omega arith) (omega arith) h) e) (write-on (width B) room (t .cells) (same-way l (omega arith) (omega arith) h))
+      subst (Enters _ _ _) (ran typed (same-way k (omega arith) (omega arith) h) e)
+      (write-on (width B) room (t .cells) (same-way l (omega arith) (omega arith) h))
 
   -- comp: a new frame is what the left child writes
   pub comp-left : {A B C : Ty} {x z : Bound} {s t : State} → Beside (width B) 1 x z → Enters A C z s → newFrame size most (width B) s ≡ done t → Enters A B x t
   unfolding state At cursorOf
   comp-left {B = B} {s = s} k h e =
-      reached (newFrame-does size most (s .cells) (s .reads) (s .writes) (s .next) (width B) (omega (arith, h .cells, k .cells)) (omega (arith, h .frames, k .frames))) e (record {
+      reached (newFrame-does size most (s .cells) (s .reads) (s .writes) (s .next) (width B) (omega (arith, h .cells, k .cells))
+      (omega (arith, h .frames, k .frames))) e (record {
         read = h .read;
         write = (refl, omega arith, omega arith);
         stacked = stacked-push (width B) (h .stacked);
@@ -120,7 +131,8 @@ module _ (size most : ℕ) where
       ap moveFrame (sym (ran typed h e)) ∙ ap (λ (s : State). moveFrame (state (s₂ .cells) (s .reads) (advance (width B) (s .writes)) (s .next))) is
 
   -- and the right child reads it
-  pub comp-right : {f : Term} {A B C : Ty} {y z : Bound} {s s₁ s₂ t : State} → Typed f A B → Beside (width B) 1 (bounds f) z → Beside (width B) 1 y z → Enters A C z s
+  pub comp-right : {f : Term} {A B C : Ty} {y z : Bound} {s s₁ s₂ t : State} → Typed f A B → Beside (width B) 1 (bounds f) z
+      → Beside (width B) 1 y z → Enters A C z s
       → newFrame size most (width B) s ≡ done s₁ → exec size most f s₁ ≡ done s₂ → moveFrame s₂ ≡ done t → Enters B C y t
   unfolding state At cursorOf reset
   comp-right {B = B} {s = s} {s₁ = s₁} typed k l h e₁ e₂ e₃ =
@@ -139,7 +151,9 @@ module _ (size most : ℕ) where
 
   -- a disconnect with the hash h, from A: a read frame with the hash and the source, and a write frame for what the left child makes
   abbrev pub hand : (h : Val) → (A : Ty) → (n : ℕ) → State → Step
-  hand h A n s = newFrame size most (width (wordTy 8) + width A) s >>= λ s. writeBits (padded (wordTy 8) h) s >>= λ s. copy (width A) s >>= λ s. moveFrame s >>= λ s. newFrame size most n s
+  hand h A n s =
+      newFrame size most (width (wordTy 8) + width A) s >>= λ s. writeBits (padded (wordTy 8) h) s >>= λ s. copy (width A) s
+      >>= λ s. moveFrame s >>= λ s. newFrame size most n s
 
   module _ (v : Val) (hv : HasTy v (wordTy 8)) (A B C E : Ty) (z : Bound) (s : State) (h : Enters A E z s) where
     -- the two frames
@@ -187,8 +201,10 @@ module _ (size most : ℕ) where
 
     -- the right child reads the second part of what the left one made, and writes behind the first part
     pub disconnect-right : {f : Term} {D : Ty} {y : Bound} {s₁ s₂ s₃ s₄ t : State} → Typed f (prod (wordTy 8) A) (prod B C)
-        → Beside (width (wordTy 8) + width A + width (prod B C)) 2 (bounds f) z → Beside (width (wordTy 8) + width A + width (prod B C)) 2 y z → width B + width D ≤ width E
-        → hand v A (width (prod B C)) s ≡ done s₁ → exec size most f s₁ ≡ done s₂ → moveFrame s₂ ≡ done s₃ → copy (width B) s₃ ≡ done s₄ → fwd (width B) s₄ ≡ done t
+        → Beside (width (wordTy 8) + width A + width (prod B C)) 2 (bounds f) z
+        → Beside (width (wordTy 8) + width A + width (prod B C)) 2 y z → width B + width D ≤ width E
+        → hand v A (width (prod B C)) s ≡ done s₁ → exec size most f s₁ ≡ done s₂ → moveFrame s₂ ≡ done s₃ → copy (width B) s₃ ≡ done s₄
+        → fwd (width B) s₄ ≡ done t
         → Enters C D y t
     unfolding state At cursorOf width reset
     disconnect-right {y = y} {s₁ = s₁} {s₂ = s₂} {s₃ = s₃} {s₄ = s₄} typed k l room e₁ e₂ e₃ e₄ e₅ =
@@ -210,5 +226,6 @@ module _ (size most : ℕ) where
         (at-less (s .writes) (cursorOf (s .writes)) (width E) (width B) (omega arith) (h .write)) in
         let d : Cells = copyCells (u .cells) middle (cursorOf (s .writes)) (width B) in
         let is₄ : state d (u .reads) (advance (width B) (s .writes)) (u .next) ≡ s₄ = (let e = ap (copy (width B)) is₃ ∙ e₄ in cc) in
-        reached (fwd-does d (u .reads) (advance (width B) (s .writes)) (u .next) (width B) middle (refl, omega arith, omega arith)) (ap (fwd (width B)) is₄ ∙ e₅)
+        reached (fwd-does d (u .reads) (advance (width B) (s .writes)) (u .next) (width B) middle (refl, omega arith, omega arith))
+        (ap (fwd (width B)) is₄ ∙ e₅)
         (read-on (width B) {A = prod B C} (omega arith) (write-on (width B) room d entered))

@@ -71,7 +71,8 @@ ran A B v x rs ws c hv h = go h
 
     go : {o : Means} {e : Step} → Ends B (width A) (width A + width B) x rs ws (putBits c 0 (padded A v)) o e → Ran B (width A) (width A + width B + x) c o e
     go (Value {v = w} {d = d} q k) =
-        subst (λ (w : Val). Ran B (width A) (width A + width B + x) c (done w) (done (state d rs (advance (width B) ws) (width A + width B)))) q (RanValue (old d k))
+        subst (λ (w : Val). Ran B (width A) (width A + width B + x) c (done w) (done (state d rs (advance (width B) ws) (width A + width B)))) q
+        (RanValue (old d k))
     go (Fails {s = s} k) = RanFail (old (s .cells) k)
     go (Prunes {s = s} k) = RanPrune (old (s .cells) k)
 
@@ -88,9 +89,11 @@ machine-within {t} {A} {B} {v} h hv size most c hc hf =
     let o = output-does size most (width B) c₁ rs (width A) (omega arith) (omega arith) in
     let ws : List Frame = o .0 in
     rw (i .1, o .1)
-    (subst (λ (v′ : Val). Ran B (width A) (width A + width B + (bounds t) .cells) c (eval t v′) (exec size most t (state c₁ rs ws (width A + width B)))) (value-written hv c 0)
+    (subst (λ (v′ : Val). Ran B (width A) (width A + width B + (bounds t) .cells) c (eval t v′) (exec size most t (state c₁ rs ws (width A + width B))))
+    (value-written hv c 0)
     (ran A B v ((bounds t) .cells) rs ws c hv
-    (exec-within h size most rs ws 0 (width A) (width A + width B) c₁ (i .2) (o .2) (omega arith) (omega arith) (omega arith) (omega arith) (omega (arith, i .3, o .3)))))
+    (exec-within h size most rs ws 0 (width A) (width A + width B) c₁ (i .2) (o .2) (omega arith) (omega arith) (omega arith) (omega arith)
+    (omega (arith, i .3, o .3)))))
 
 -- a run that ended so answers the meaning
 pub ran-answer : (A : Ty) {B : Ty} {total : ℕ} {c : Cells} {o : Means} {e : Step} → Ran B (width A) total c o e → answer A B e ≡ o

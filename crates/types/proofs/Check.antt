@@ -61,7 +61,8 @@ module _ (T : List TypeRecord) where
   next-found i zero a b e = refl
   next-found i (suc t) a b e =
       let l = parts-below T i (suc t) a b (λ z. omega arith) e in
-      ap₂ (λ (x y : ℕ). nextFrom (suc t) x y (getD (arrayOf i (nextAt T)) a 0) (getD (arrayOf i (nextAt T)) b 0) i) (array-at widthFor i a (l .0)) (array-at widthFor i b (l .1))
+      ap₂ (λ (x y : ℕ). nextFrom (suc t) x y (getD (arrayOf i (nextAt T)) a 0) (getD (arrayOf i (nextAt T)) b 0) i)
+      (array-at widthFor i a (l .0)) (array-at widthFor i b (l .1))
       ∙ ap₂ (λ (x y : ℕ). nextFrom (suc t) (widthFor a) (widthFor b) x y i) (array-at (nextAt T) i a (l .0)) (array-at (nextAt T) i b (l .1))
 
   module _ (i : ℕ) (h : i < length T) where
@@ -75,9 +76,12 @@ module _ (T : List TypeRecord) where
     -- a record that is given a width keeps the rules, and the width is its type's
     pub good-record : (x : ℕ) → Width x ≡ recordJudged T (arrayOf i widthFor) i → PartsKept T i × (typeRule T i ≡ true) × (x ≡ widthFor i)
     unfolding found typeRule every
-    good-record x e = go (partsRule T i ((typeAt T i) .tag) ((typeAt T i) .left) ((typeAt T i) .right)) (leb found typeWidth) (anyBelow i (sameType T i)) refl refl refl e
+    good-record x e =
+        go (partsRule T i ((typeAt T i) .tag) ((typeAt T i) .left) ((typeAt T i) .right)) (leb found typeWidth)
+        (anyBelow i (sameType T i)) refl refl refl e
       where
-        go : (p f r : Bool) → partsRule T i ((typeAt T i) .tag) ((typeAt T i) .left) ((typeAt T i) .right) ≡ p → leb found typeWidth ≡ f → anyBelow i (sameType T i) ≡ r
+        go : (p f r : Bool) → partsRule T i ((typeAt T i) .tag) ((typeAt T i) .left) ((typeAt T i) .right) ≡ p → leb found typeWidth ≡ f
+            → anyBelow i (sameType T i) ≡ r
             → Width x ≡ verdict p f r found → PartsKept T i × (typeRule T i ≡ true) × (x ≡ widthFor i)
         go true true false p f r e =
             let w = record-width p in
@@ -91,9 +95,12 @@ module _ (T : List TypeRecord) where
     -- a record that is not, breaks one
     pub bad-record : Broken ≡ recordJudged T (arrayOf i widthFor) i → typeRule T i ≡ false
     unfolding found typeRule every
-    bad-record e = go (partsRule T i ((typeAt T i) .tag) ((typeAt T i) .left) ((typeAt T i) .right)) (leb found typeWidth) (anyBelow i (sameType T i)) refl refl refl e
+    bad-record e =
+        go (partsRule T i ((typeAt T i) .tag) ((typeAt T i) .left) ((typeAt T i) .right)) (leb found typeWidth)
+        (anyBelow i (sameType T i)) refl refl refl e
       where
-        go : (p f r : Bool) → partsRule T i ((typeAt T i) .tag) ((typeAt T i) .left) ((typeAt T i) .right) ≡ p → leb found typeWidth ≡ f → anyBelow i (sameType T i) ≡ r
+        go : (p f r : Bool) → partsRule T i ((typeAt T i) .tag) ((typeAt T i) .left) ((typeAt T i) .right) ≡ p → leb found typeWidth ≡ f
+            → anyBelow i (sameType T i) ≡ r
             → Broken ≡ verdict p f r found → typeRule T i ≡ false
         go true true false p f r e = let z : _≡_ {A = ℕ} 0 1 = cc in absurd (omega arith)
         go true true true p f r e = rw (p, r)

@@ -73,7 +73,10 @@ pub left-nothing : (A B : Ty) → width A ≡ 0 → Alike B (prod A B)
 unfolding width readValue andThen spelled compact padded leftOf rightOf valueAt
 left-nothing A B e = record {
   wide = omega arith;
-  reads = λ bs. go (readValue B bs) ∙ ap (λ (r : Read). spelled (prod A B) (andThen r λ v bs. andThen (readValue B bs) λ w rest. value (v & w) rest)) (sym (read-nothing A bs e));
+  reads =
+      λ bs. go (readValue B bs)
+      ∙ ap (λ (r : Read). spelled (prod A B) (andThen r λ v bs. andThen (readValue B bs) λ w rest. value (v & w) rest))
+      (sym (read-nothing A bs e));
   cells = λ c at.
       let x : compact (valueAt A c at) ≡ [] = ap compact (value-nothing A c at e) ∙ compact-nothing A e in
       let y : at ≡ at + width A = omega arith in

@@ -235,7 +235,8 @@ module _ (bytes : List ℕ) (n : ℕ) (ok : Passed bytes n) where
   pub widths-are : (i : ℕ) → getD (typeWidths bytes) i 0 ≡ width (tyAt (typeRecords bytes) i)
   unfolding typeWidths width
   widths-are i = elim (decLt i (length (typeRecords bytes))) [
-    | yes l ↦ ap (λ (k : ℕ). getD (arrayOf k (widthFor (typeRecords bytes))) i 0) (ok .all) ∙ array-at (widthFor (typeRecords bytes)) (length (typeRecords bytes)) i l
+    | yes l ↦ ap (λ (k : ℕ). getD (arrayOf k (widthFor (typeRecords bytes))) i 0) (ok .all)
+        ∙ array-at (widthFor (typeRecords bytes)) (length (typeRecords bytes)) i l
     | no m ↦ ap (λ (k : ℕ). getD (arrayOf k (widthFor (typeRecords bytes))) i 0) (ok .all)
         ∙ array-past (widthFor (typeRecords bytes)) (length (typeRecords bytes)) i (omega arith)
         ∙ sym (ap width (type-past (typeRecords bytes) i (omega arith)))

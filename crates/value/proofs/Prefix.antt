@@ -79,7 +79,8 @@ module _ (A B : Ty) where
         | no l ↦ ap (λ (r : Read). andThen r λ v bs. andThen (readValue B bs) λ w rest. value (v & w) rest) (within-yes n v m (omega arith))
             ∙ ap (λ (r : Read). andThen r λ w rest. value (v & w) rest) (k (n - length (compact v)) m)
             ∙ within-part (λ w. v & w) (length (compact v)) (longer v) (n - length (compact v)) (readValue B m)
-            ∙ ap (λ (j : ℕ). within j (andThen (readValue B m) λ w rest. value (v & w) rest)) (let z : length (compact v) + (n - length (compact v)) ≡ n = omega arith in z)
+            ∙ ap (λ (j : ℕ). within j (andThen (readValue B m) λ w rest. value (v & w) rest))
+            (let z : length (compact v) + (n - length (compact v)) ≡ n = omega arith in z)
       ]
       go short = refl
 

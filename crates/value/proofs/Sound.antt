@@ -217,12 +217,16 @@ skip-type A p bs = ap (skipped p) (skip-reads A bs) ∙ go (readValue A bs)
     go (value v rest) = refl
     go short = refl
 
-pad-type : (A : Ty) (bits : List Bit) (p : ℕ) (cells : List Bit) (at : ℕ) → padStage (shapeOf A) (width A) bits p cells at ≡ paddedTo A p cells at (readValue A (drop p bits))
+pad-type : (A : Ty) (bits : List Bit) (p : ℕ) (cells : List Bit) (at : ℕ)
+    → padStage (shapeOf A) (width A) bits p cells at ≡ paddedTo A p cells at (readValue A (drop p bits))
 unfolding padStage paddedTo spelled
 pad-type A bits p cells at = go (readValue A (drop p bits)) refl
   where
     fill : (v : Val) (rest : List Bit) → readValue A (drop p bits) ≡ value v rest → (b : Bool)
-        → _≡_ {A = Padded} (elim b [ true ↦ padding (Next (p + length (compact v))) (padShape (shapeOf A) (drop p bits) cells at) | false ↦ padding Short cells ])
+        → _≡_ {A = Padded} (elim b [
+          | true ↦ padding (Next (p + length (compact v))) (padShape (shapeOf A) (drop p bits) cells at)
+          | false ↦ padding Short cells
+        ])
         (elim b [ true ↦ padding (Next (p + length (compact v))) (sets cells at (padded A v)) | false ↦ padding Short cells ])
     fill v rest e true = ap (padding (Next (p + length (compact v)))) (pad-writes A (drop p bits) (compact v) (padded A v) rest (ap (spelled A) e) cells at)
     fill v rest e false = refl
@@ -231,11 +235,15 @@ pad-type A bits p cells at = go (readValue A (drop p bits)) refl
     go (value v rest) e = rw (skip-reads A (drop p bits) ∙ ap (λ (r : Read). taken (spelled A r)) e, padStage) (fill v rest e (room (width A) at cells))
     go short e = rw (skip-reads A (drop p bits) ∙ ap (λ (r : Read). taken (spelled A r)) e, padStage)
 
-unpad-type : (A : Ty) (cells : List Bit) (c : Cells) (at : ℕ) (store : List Bit) (q : ℕ) → unpadStage (shapeOf A) (width A) cells c at store q ≡ unpaddedTo A cells c at store q
+unpad-type : (A : Ty) (cells : List Bit) (c : Cells) (at : ℕ) (store : List Bit) (q : ℕ)
+    → unpadStage (shapeOf A) (width A) cells c at store q ≡ unpaddedTo A cells c at store q
 unfolding unpadStage unpaddedTo
 unpad-type A cells c at store q = go (every (room (width A) at cells ∷ room (width A) q store ∷ []))
   where
-    go : (b : Bool) → _≡_ {A = Unpadded} (elim b [ true ↦ unpadding (Bits (length (unpadShape (shapeOf A) c at))) (sets store q (unpadShape (shapeOf A) c at)) | false ↦ unpadding NoRoom store ])
+    go : (b : Bool) → _≡_ {A = Unpadded} (elim b [
+      | true ↦ unpadding (Bits (length (unpadShape (shapeOf A) c at))) (sets store q (unpadShape (shapeOf A) c at))
+      | false ↦ unpadding NoRoom store
+    ])
         (elim b [ true ↦ unpadding (Bits (length (compact (valueAt A c at)))) (sets store q (compact (valueAt A c at))) | false ↦ unpadding NoRoom store ])
     go true = ap (λ (x : List Bit). unpadding (Bits (length x)) (sets store q x)) (unpad-writes A c at)
     go false = refl

@@ -225,7 +225,8 @@ module _ (types widths next : List ℕ) where
   shape-made : (i : ℕ) → i < typeCount → shapeAt types widths next i ≡ shapeFrom (take i shapes) (stepAt types widths next i)
   unfolding shapeAt shapes
   shape-made i h =
-      entries-at shapeFrom (tabulate typeCount (stepAt types widths next)) i nothing Nothing (omega (arith, length-tabulate (stepAt types widths next) typeCount))
+      entries-at shapeFrom (tabulate typeCount (stepAt types widths next)) i nothing Nothing
+      (omega (arith, length-tabulate (stepAt types widths next) typeCount))
       ∙ ap (shapeFrom (take i shapes)) (tabulate-at (stepAt types widths next) typeCount i Nothing h)
 
   shape-part : (i j : ℕ) → j < i → getD (take i shapes) j nothing ≡ shapeAt types widths next j

@@ -135,7 +135,11 @@ read-fits (prod A B) bs = go (readValue A bs) (read-fits A bs) (read-fits B)
         let x = h .wide in
         let y = k .wide in
         record {
-          after = k .after ∙ ap (drop (length (compact w))) (h .after) ∙ drop-drop (length (compact w)) (length (compact v)) bs ∙ ap (λ (j : ℕ). drop j bs) (sym p);
+          after =
+              k .after
+              ∙ ap (drop (length (compact w))) (h .after)
+              ∙ drop-drop (length (compact w)) (length (compact v)) bs
+              ∙ ap (λ (j : ℕ). drop j bs) (sym p);
           wide = omega arith;
         }
     then v m h short k = tt
@@ -202,7 +206,8 @@ module _ (A B : Ty) where
       second v short = refl
 
       first : (r : Read) → readValue A bs ≡ r
-          → skipShape (both (width A) (shapeOf A) (shapeOf B)) bs ≡ taken (spelled (prod A B) (andThen r λ v bs. andThen (readValue B bs) λ w rest. value (v & w) rest))
+          → skipShape (both (width A) (shapeOf A) (shapeOf B)) bs
+          ≡ taken (spelled (prod A B) (andThen r λ v bs. andThen (readValue B bs) λ w rest. value (v & w) rest))
       first (value v m) e =
           both-used (width A) (shapeOf A) (shapeOf B) bs (length (compact v)) (h bs ∙ ap (λ (r : Read). taken (spelled A r)) e)
           ∙ ap (λ (x : List Bit). after (length (compact v)) (skipShape (shapeOf B) x)) (sym (read-fit A bs v m e .after))
@@ -225,7 +230,8 @@ skip-reads one = λ bs. refl
 skip-reads (sum A B) =
     skip-either (sum A B) (tag (padL A B) (padR A B) (shapeOf A) (shapeOf B)) (skip-sum A B (skip-reads A) (skip-reads B))
 skip-reads (prod A B) =
-    skip-either (prod A B) (passOver (width A) (width B) (shapeOf A) (shapeOf B) (both (width A) (shapeOf A) (shapeOf B))) (skip-product A B (skip-reads A) (skip-reads B))
+    skip-either (prod A B) (passOver (width A) (width B) (shapeOf A) (shapeOf B) (both (width A) (shapeOf A) (shapeOf B)))
+    (skip-product A B (skip-reads A) (skip-reads B))
 
 -- padding along a type writes the padded cells of the value that is read
 abbrev Pads : Shape → Ty → Type 0
@@ -260,7 +266,8 @@ pad-either A S h = go (unpadded A) refl
 -- a tag with its padding, and then the part
 tag-then : (d : List Bit) (at b pad : ℕ) (cells : List Bit) → sets (sets d at (b ∷ zeros pad)) (at + (1 + pad)) cells ≡ sets d at (b ∷ (zeros pad ++ cells))
 tag-then d at b pad cells =
-    ap (λ (k : ℕ). sets (sets d at (b ∷ zeros pad)) k cells) (let z : at + (1 + pad) ≡ at + length (b ∷ zeros pad) = omega (arith, length-replicate {A = ℕ} pad 0) in z)
+    ap (λ (k : ℕ). sets (sets d at (b ∷ zeros pad)) k cells)
+    (let z : at + (1 + pad) ≡ at + length (b ∷ zeros pad) = omega (arith, length-replicate {A = ℕ} pad 0) in z)
     ∙ sets-append d at (b ∷ zeros pad) cells
 
 module _ (A B : Ty) where
@@ -341,7 +348,8 @@ pad-writes one = pad-unit
 pad-writes (sum A B) =
     pad-either (sum A B) (tag (padL A B) (padR A B) (shapeOf A) (shapeOf B)) (pad-sum A B (pad-writes A) (pad-writes B))
 pad-writes (prod A B) =
-    pad-either (prod A B) (passOver (width A) (width B) (shapeOf A) (shapeOf B) (both (width A) (shapeOf A) (shapeOf B))) (pad-product A B (pad-writes A) (pad-writes B))
+    pad-either (prod A B) (passOver (width A) (width B) (shapeOf A) (shapeOf B) (both (width A) (shapeOf A) (shapeOf B)))
+    (pad-product A B (pad-writes A) (pad-writes B))
 
 -- unpadding along a type writes the compact bits of the value that the cells hold
 abbrev Unpads : Shape → Ty → Type 0
@@ -387,4 +395,5 @@ unpad-writes one = λ c at. refl
 unpad-writes (sum A B) =
     unpad-either (sum A B) (tag (padL A B) (padR A B) (shapeOf A) (shapeOf B)) (unpad-sum A B (unpad-writes A) (unpad-writes B))
 unpad-writes (prod A B) =
-    unpad-either (prod A B) (passOver (width A) (width B) (shapeOf A) (shapeOf B) (both (width A) (shapeOf A) (shapeOf B))) (unpad-product A B (unpad-writes A) (unpad-writes B))
+    unpad-either (prod A B) (passOver (width A) (width B) (shapeOf A) (shapeOf B) (both (width A) (shapeOf A) (shapeOf B)))
+    (unpad-product A B (unpad-writes A) (unpad-writes B))

@@ -108,7 +108,8 @@ module _ (types widths next : List ℕ) (i : ℕ) where
         ∙ ap (skipped p) (sym (both-used w (Sh l) (Sh r) (drop p bits) (m - p) (x .0)))
         ∙ ap (λ (A : Shape). skipped p (skipShape A (drop p bits))) (sym (shape-both types widths next i l r w e))
 
-  pub skip-along : (w p : ℕ) (r : ValueRead) (bs : List Bit) → stepAt types widths next i ≡ Plain w → r ≡ skipped p (skipShape (plain w) bs) → r ≡ skipped p (skipShape (Sh i) bs)
+  pub skip-along : (w p : ℕ) (r : ValueRead) (bs : List Bit) → stepAt types widths next i ≡ Plain w → r ≡ skipped p (skipShape (plain w) bs)
+      → r ≡ skipped p (skipShape (Sh i) bs)
   skip-along w p r bs e f = f ∙ ap (λ (A : Shape). skipped p (skipShape A bs)) (sym (shape-plain types widths next i w e))
 
   -- padding, along the same ways
@@ -181,7 +182,8 @@ unpad-most (tag padLeft padRight A B) c at =
     go (c at) (unpad-most A c (at + (1 + padLeft))) (unpad-most B c (at + (1 + padRight)))
   where
     go : (b : ℕ) → length (unpadShape A c (at + (1 + padLeft))) ≤ most A → length (unpadShape B c (at + (1 + padRight))) ≤ most B
-        → length {A = Bit} (elim b [ zero ↦ 0 ∷ unpadShape A c (at + (1 + padLeft)) | suc k ↦ 1 ∷ unpadShape B c (at + (1 + padRight)) ]) ≤ 1 + max (most A) (most B)
+        → length {A = Bit} (elim b [ zero ↦ 0 ∷ unpadShape A c (at + (1 + padLeft)) | suc k ↦ 1 ∷ unpadShape B c (at + (1 + padRight)) ])
+        ≤ 1 + max (most A) (most B)
     go zero h k = omega arith
     go (suc b) h k = omega arith
 unpad-most (both w A B) c at =
@@ -246,7 +248,8 @@ module _ (types widths next : List ℕ) (i : ℕ) where
 
   module _ (l r padLeft padRight : ℕ) (e : stepAt types widths next i ≡ Tag l r padLeft padRight) where
     side-unpads : (side : ℕ) (c : Cells) (at : ℕ) → side < 2 → c at ≡ side
-        → side % 2 ∷ Bs (part side l r) c (at + (1 + part side padLeft padRight)) ≡ unpadShape (tag padLeft padRight (Sh types widths next i l) (Sh types widths next i r)) c at
+        → side % 2 ∷ Bs (part side l r) c (at + (1 + part side padLeft padRight))
+        ≡ unpadShape (tag padLeft padRight (Sh types widths next i l) (Sh types widths next i r)) c at
     unfolding unpadShape
     side-unpads zero c at h f = rw (f, unpadShape)
     side-unpads (suc zero) c at h f = rw (f, unpadShape)
@@ -320,7 +323,8 @@ module _ (A : Shape) (w : ℕ) (cells : List Bit) (c : Cells) (at : ℕ) (store 
   unfolding unpadStage
   unpad-no-room e f = rw (every-both (room w at cells) (room w q store) (sym e) ∙ sym f, unpadStage)
 
-  pub unpad-done : (end : ℕ) (d : List Bit) → true ≡ room w at cells → true ≡ room w q store → end ≡ q + length (unpadShape A c at) → d ≡ sets store q (unpadShape A c at)
+  pub unpad-done : (end : ℕ) (d : List Bit) → true ≡ room w at cells → true ≡ room w q store → end ≡ q + length (unpadShape A c at)
+      → d ≡ sets store q (unpadShape A c at)
       → unpadding (Bits (end - q)) d ≡ unpadStage A w cells c at store q
   unfolding unpadStage
   unpad-done end d e f g h =

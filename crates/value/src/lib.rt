@@ -158,7 +158,8 @@ pub fn skip<'a>(
     s: &[u8],
     p: usize,
 ) -> ValueRead
-    ensures { λ r. ⌜ r ≡ skipped p (skipShape (shapeAt (now (types .entry)) (now (widths .entry)) (now (next .entry)) i) (drop p (streamOf (now (s .entry))))) ⌝ }
+    ensures { λ r. ⌜ r ≡ skipped p
+        (skipShape (shapeAt (now (types .entry)) (now (widths .entry)) (now (next .entry)) i) (drop p (streamOf (now (s .entry))))) ⌝ }
 {
     let way = step_at(types, widths, next, i);
     match way {
@@ -229,7 +230,8 @@ fn pad_part<'a>(
 ) -> ValueRead
     requires { ⌜ (0 < getD (now widths) i 0 → at + getD (now widths) i 0 ≤ cellCount) ⌝ }
     ensures { λ r. ⌜ (r ≡ skipped p (skipShape (shapeAt (now (types .entry)) (now (widths .entry)) (now (next .entry)) i) (drop p (streamOf (now (s .entry))))))
-        × (bitsOf (now (cells .exit)) ≡ padShape (shapeAt (now (types .entry)) (now (widths .entry)) (now (next .entry)) i) (drop p (streamOf (now (s .entry)))) (bitsOf (now (cells .entry))) at) ⌝ }
+        × (bitsOf (now (cells .exit)) ≡ padShape (shapeAt (now (types .entry)) (now (widths .entry)) (now (next .entry)) i)
+        (drop p (streamOf (now (s .entry)))) (bitsOf (now (cells .entry))) at) ⌝ }
 {
     let way = step_at(types, widths, next, i);
     match way {
@@ -292,7 +294,8 @@ fn unpad_part<'a>(
 ) -> u32
     requires { ⌜ (0 < getD (now widths) i 0 → (at + getD (now widths) i 0 ≤ cellCount) × (q + getD (now widths) i 0 ≤ cellCount)) ⌝ }
     ensures { λ r. ⌜ (r ≡ q + length (unpadShape (shapeAt (now (types .entry)) (now (widths .entry)) (now (next .entry)) i) (cellsOf (now (cells .entry))) at))
-        × (bitsOf (now (answer .exit)) ≡ sets (bitsOf (now (answer .entry))) q (unpadShape (shapeAt (now (types .entry)) (now (widths .entry)) (now (next .entry)) i) (cellsOf (now (cells .entry))) at)) ⌝ }
+        × (bitsOf (now (answer .exit)) ≡ sets (bitsOf (now (answer .entry))) q
+        (unpadShape (shapeAt (now (types .entry)) (now (widths .entry)) (now (next .entry)) i) (cellsOf (now (cells .entry))) at)) ⌝ }
 {
     let way = step_at(types, widths, next, i);
     match way {

@@ -114,9 +114,12 @@ judged-requires c κs = search needs
 returns-2 : tie.Need-returns-2
 unfolding countedBounds
 returns-2 c =
-    let args = c .before .before .before .before .before .before .before .before .before .before .before .before .before .before .before .before .before .before .before .args in
+    let args = c .before .before .before .before .before .before .before .before .before .before .before .before .before .before .before
+    .before .before .before .before .args in
     let nodes = args .nodes .now in
-    let some = sym (c .before .before .before .before .before .before .before .before .before .before .before .before .before .before .check-count .ensures) ∙ ap checkOf (c .before .before .before .before .before .before .before .before .before .before .before .before .enum-told .given .1) in
+    let some =
+    sym (c .before .before .before .before .before .before .before .before .before .before .before .before .before .before .check-count .ensures)
+    ∙ ap checkOf (c .before .before .before .before .before .before .before .before .before .before .before .before .enum-told .given .1) in
     let few = counted-passed (length (nodeRecords nodes)) nodeCount some in
     let last : length nodes / nodeNumbers - 1 ≡ length (nodeRecords nodes) - 1 = omega (arith, length-records nodes) in
     c .judged .ensures

@@ -140,7 +140,8 @@ loop-again c =
     let made-row = c .row in
     let low : turn .i < length (nodeRecords (args .nodes .now)) = omega
     (arith, c .before .before .before .before .before .before .loop-test .taken, turn .inv .1, turn .inv .2) in
-    let made : made-row .result ≡ heldAt (typeRecords (args .types .now)) (args .widths .now) (nodeRecords (args .nodes .now)) (arrowRecords (args .arrows .now)) (turn .i) =
+    let made : made-row .result ≡ heldAt (typeRecords (args .types .now)) (args .widths .now) (nodeRecords (args .nodes .now))
+    (arrowRecords (args .arrows .now)) (turn .i) =
     row-made (typeRecords (args .types .now)) (args .widths .now) (nodeRecords (args .nodes .now)) (arrowRecords (args .arrows .now)) (turn .i)
     low (recordOf (own .result)) (own .ensures) _ _ _
     (child-read (typeRecords (args .types .now)) (args .widths .now) (nodeRecords (args .nodes .now)) (arrowRecords (args .arrows .now))

@@ -52,7 +52,8 @@ returns-2 : tie.Need-returns-2
 returns-2 c =
     let a = c .before .before .before .args in
     let h : a .i + 1 < length (a .s .now) = omega arith in
-    sym (byte-split (a .s .now) (a .i) (a .k) (c .before .before .before .pre .0) h (omega (arith, c .before .shared-slice-known2 .given (a .i))) (omega (arith, c .shared-slice-known3 .given (a .i + 1))))
+    sym (byte-split (a .s .now) (a .i) (a .k) (c .before .before .before .pre .0) h
+    (omega (arith, c .before .shared-slice-known2 .given (a .i))) (omega (arith, c .shared-slice-known3 .given (a .i + 1))))
 
 pub byte-from-spec : {M : Type 1} → statement M
 byte-from-spec =

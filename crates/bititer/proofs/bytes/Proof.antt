@@ -21,7 +21,8 @@ use Rattle.bititer.proofs.bytes.Tie as tie
 
 abbrev Inv-loop : tie.InvT-loop
 Inv-loop s p store₀ at n first k j₀ store j =
-    (store ≡ paste store₀ at (bytesOf n (drop p (streamOf s))) j) × (j ≤ n) × (length store ≡ length store₀) × (p + 8 * n ≤ length (streamOf s)) × (at + n ≤ length store₀)
+    (store ≡ paste store₀ at (bytesOf n (drop p (streamOf s))) j) × (j ≤ n) × (length store ≡ length store₀)
+    × (p + 8 * n ≤ length (streamOf s)) × (at + n ≤ length store₀)
 
 abbrev μ-loop : tie.MeasureT-loop
 μ-loop s p store₀ at n first k j₀ store j = n - j
@@ -39,7 +40,8 @@ returns : tie.Need-returns Inv-loop μ-loop
 returns c =
     let a = c .before .before .before .before .before .args in
     let s = streamOf (a .s .now) in
-    let h = leb-false (a .p + 8 * a .n) (c .before .before .stream-length .result) (sym (c .before .has-room .ensures) ∙ not-true (c .before .has-room .result) (c .if1 .taken)) in
+    let h = leb-false (a .p + 8 * a .n) (c .before .before .stream-length .result)
+    (sym (c .before .has-room .ensures) ∙ not-true (c .before .has-room .result) (c .if1 .taken)) in
     sym (bytes-ended s (a .n) (a .p) (a .store .now) (a .at) (omega (arith, c .before .before .stream-length .ensures)))
 
 has-room-requires-2 : tie.Need-has-room-requires-2 Inv-loop μ-loop
@@ -49,7 +51,9 @@ returns-2 : tie.Need-returns-2 Inv-loop μ-loop
 returns-2 c =
     let a = c .before .before .before .before .before .before .before .args in
     let s = streamOf (a .s .now) in
-    let h = leb-true (a .p + 8 * a .n) (c .before .before .before .before .stream-length .result) (sym (c .before .before .before .has-room .ensures) ∙ not-false (c .before .before .before .has-room .result) (c .before .before .if1 .left)) in
+    let h = leb-true (a .p + 8 * a .n) (c .before .before .before .before .stream-length .result)
+    (sym (c .before .before .before .has-room .ensures)
+    ∙ not-false (c .before .before .before .has-room .result) (c .before .before .if1 .left)) in
     let k = leb-false (a .at + a .n) (length (a .store .now)) (sym (c .before .has-room2 .ensures) ∙ not-true (c .before .has-room2 .result) (c .if2 .taken)) in
     sym (bytes-short s (a .n) (a .p) (a .store .now) (a .at) (omega (arith, c .before .before .before .before .stream-length .ensures)) k)
 
@@ -57,9 +61,17 @@ loop-holds : tie.Need-loop-holds Inv-loop μ-loop
 loop-holds c =
     let a = c .before .before .before .before .before .before .before .args in
     let s = streamOf (a .s .now) in
-    let h = leb-true (a .p + 8 * a .n) (c .before .before .before .before .stream-length .result) (sym (c .before .before .before .has-room .ensures) ∙ not-false (c .before .before .before .has-room .result) (c .before .before .if1 .left)) in
-    let k = leb-true (a .at + a .n) (length (a .store .now)) (sym (c .before .has-room2 .ensures) ∙ not-false (c .before .has-room2 .result) (c .if2 .left)) in
-    (paste-zero (a .store .now) (a .at) (bytesOf (a .n) (drop (a .p) s)), omega arith, refl, omega (arith, c .before .before .before .before .stream-length .ensures), k)
+    let h = leb-true (a .p + 8 * a .n) (c .before .before .before .before .stream-length .result)
+    (sym (c .before .before .before .has-room .ensures)
+    ∙ not-false (c .before .before .before .has-room .result) (c .before .before .if1 .left)) in
+    let k = leb-true (a .at + a .n) (length (a .store .now))
+    (sym (c .before .has-room2 .ensures) ∙ not-false (c .before .has-room2 .result) (c .if2 .left)) in (
+      paste-zero (a .store .now) (a .at) (bytesOf (a .n) (drop (a .p) s)),
+      omega arith,
+      refl,
+      omega (arith, c .before .before .before .before .stream-length .ensures),
+      k,
+    )
 
 add-byte-from : tie.Need-add-byte-from Inv-loop μ-loop
 add-byte-from c =
@@ -94,7 +106,8 @@ loop-again c =
     let l = c .before .before .loop in
     let w = bytesOf (a .n) (drop (a .p) s) in
     let d = length-bytes (a .n) (drop (a .p) s) in
-    let b : c .byte-from .result ≡ getD w (l .j) 0 = c .byte-from .ensures ∙ byte-here (a .s .now) (a .p) (a .n) (l .j) (c .before .loop-test .taken) (l .inv .3) in (
+    let b : c .byte-from .result ≡ getD w (l .j) 0 =
+    c .byte-from .ensures ∙ byte-here (a .s .now) (a .p) (a .n) (l .j) (c .before .loop-test .taken) (l .inv .3) in (
       ap₂ (λ (x : List ℕ) (v : ℕ). set x (a .at + l .j) v) (l .inv .0) b
           ∙ paste-suc (a .store .now) (a .at) w (l .j) 0 (omega arith) (omega arith)
           ∙ ap (paste (a .store .now) (a .at) w) (sym (add-one (l .j))),

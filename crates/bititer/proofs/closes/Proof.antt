@@ -20,7 +20,8 @@ returns c =
 returns-2 : tie.Need-returns-2
 returns-2 c =
     let a = c .before .before .before .before .args in
-    sym (closes-long (streamOf (a .s .now)) (a .p) (omega (arith, c .before .before .stream-length .ensures)) (omega (arith, c .before .before .stream-length .ensures)))
+    sym (closes-long (streamOf (a .s .now)) (a .p) (omega (arith, c .before .before .stream-length .ensures))
+    (omega (arith, c .before .before .stream-length .ensures)))
 
 returns-3 : tie.Need-returns-3
 returns-3 c =
@@ -41,7 +42,8 @@ shl-rest c = search needs
 returns-4 : tie.Need-returns-4
 returns-4 c =
     let a = c .before .before .before .before .before .before .args in
-    sym (closes-rest (a .s .now) (a .p) (omega (arith, c .before .before .before .before .stream-length .ensures)) (omega (arith, c .before .before .before .before .stream-length .ensures)) (omega (arith, c .shared-slice-known2 .given (a .p / 8))))
+    sym (closes-rest (a .s .now) (a .p) (omega (arith, c .before .before .before .before .stream-length .ensures))
+    (omega (arith, c .before .before .before .before .stream-length .ensures)) (omega (arith, c .shared-slice-known2 .given (a .p / 8))))
 
 pub closes-spec : {M : Type 1} → statement M
 closes-spec =

@@ -61,7 +61,8 @@ returns-3 c =
     let s = streamOf (a .s .now) in
     let l = c .before .before .before .before .before .loop in
     let e = subst (BitsMean s (l .at) (l .n)) (c .enum-told2 .given .1) (c .before .before .bits-after-one .ensures) in
-    sym (up-to-ended s (a .bound) (a .p) (l .inv .0 ∙ lengths-cut (l .lengths) (l .n) _ (c .before .before .before .before .loop-test .taken) (c .before .before .before .if1 .left) e))
+    sym (up-to-ended s (a .bound) (a .p) (l .inv .0
+    ∙ lengths-cut (l .lengths) (l .n) _ (c .before .before .before .before .loop-test .taken) (c .before .before .before .if1 .left) e))
 
 sub-lengths : tie.Need-sub-lengths Inv-loop μ-loop
 sub-lengths c = search needs
@@ -76,8 +77,12 @@ loop-again c =
     let l = c .before .before .before .before .before .before .loop in
     let b = c .before .longer .given in
     let m = subst (BitsMean s (l .at) (l .n)) (b .1) (c .before .before .before .bits-after-one .ensures) in
-    let g = bits-got (l .n) 1 (b .0 .0) (drop (l .at) s) (drop (b .0 .1 .0) s) (m .0) in
-    (l .inv .0 ∙ lengths-turn (l .lengths) (l .n) _ _ (c .before .before .before .before .before .loop-test .taken) (c .before .before .before .before .if1 .left) (m .0), omega arith, omega (arith, length-drop (l .at) s))
+    let g = bits-got (l .n) 1 (b .0 .0) (drop (l .at) s) (drop (b .0 .1 .0) s) (m .0) in (
+      l .inv .0 ∙ lengths-turn (l .lengths) (l .n) _ _ (c .before .before .before .before .before .loop-test .taken)
+          (c .before .before .before .before .if1 .left) (m .0),
+      omega arith,
+      omega (arith, length-drop (l .at) s),
+    )
 
 returns-4 : tie.Need-returns-4 Inv-loop μ-loop
 returns-4 c =

@@ -42,15 +42,21 @@ returns-2 c =
 
 mul-t9 : tie.Need-mul-t9
 mul-t9 c =
+    let start = c .before .before .before .before .before .before .before .before .before in
     let high = c .before .before .before .before .before .high .given in
-    omega (arith, bit-below (c .before .before .before .before .before .before .before .before .before .args .s .now) (c .before .before .before .before .before .before .before .before .before .args .p) (high .0 .0) (high .0 .1 .0) (sym (c .before .before .before .before .before .before .before .bit .ensures) ∙ ap gotCode (high .1)))
+    omega (
+      arith,
+      bit-below (start .args .s .now) (start .args .p) (high .0 .0) (high .0 .1 .0)
+          (sym (c .before .before .before .before .before .before .before .bit .ensures) ∙ ap gotCode (high .1)),
+    )
 
 add-t10 : tie.Need-add-t10
 add-t10 c =
     let s = streamOf (c .before .before .before .before .before .before .before .before .before .args .s .now) in
     let p = c .before .before .before .before .before .before .before .before .before .args .p in
     let high = c .before .before .before .before .before .high .given in
-    let a : code s 1 p ≡ got (high .0 .0) (high .0 .1 .0) = sym (c .before .before .before .before .before .before .before .bit .ensures) ∙ ap gotCode (high .1) in
+    let a : code s 1 p ≡ got (high .0 .0) (high .0 .1 .0) =
+    sym (c .before .before .before .before .before .before .before .bit .ensures) ∙ ap gotCode (high .1) in
     let low = c .before .low .given in
     let b : code s 1 (high .0 .1 .0) ≡ got (low .0 .0) (low .0 .1 .0) = sym (c .before .before .before .bit2 .ensures) ∙ ap gotCode (low .1) in
     let x = bit-below (c .before .before .before .before .before .before .before .before .before .args .s .now) p (high .0 .0) (high .0 .1 .0) a in
@@ -62,7 +68,8 @@ returns-3 c =
     let s = streamOf (c .before .before .before .before .before .before .before .before .before .args .s .now) in
     let p = c .before .before .before .before .before .before .before .before .before .args .p in
     let high = c .before .before .before .before .before .high .given in
-    let a : code s 1 p ≡ got (high .0 .0) (high .0 .1 .0) = sym (c .before .before .before .before .before .before .before .bit .ensures) ∙ ap gotCode (high .1) in
+    let a : code s 1 p ≡ got (high .0 .0) (high .0 .1 .0) =
+    sym (c .before .before .before .before .before .before .before .bit .ensures) ∙ ap gotCode (high .1) in
     let low = c .before .low .given in
     let b : code s 1 (high .0 .1 .0) ≡ got (low .0 .0) (low .0 .1 .0) = sym (c .before .before .before .bit2 .ensures) ∙ ap gotCode (low .1) in
     sym (two-got s p (high .0 .0) (high .0 .1 .0) (low .0 .0) (low .0 .1 .0) a b)

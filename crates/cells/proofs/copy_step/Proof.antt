@@ -29,8 +29,12 @@ returns c =
     let a = c .before .before .before .before .before .before .before .before .before .before .before .args in
     let l = bitsOf (a .cells .now) in
     let h : 8 ≤ a .n = c .before .before .before .before .before .before .before .before .before .if1 .taken in
-    let q = eight-put l _ l (a .from) (a .to) (c .before .before .before .before .eight-at .result) (c .before .before .before .before .eight-at .ensures) (eqb-true _ _ (c .before .before .before .before .before .before .before .before .if2 .taken)) (c .before .before .put-byte .ensures) in
-    let apart : (a .to ≤ a .from) ⊎ (a .from + 8 ≤ a .to) = ⊎-elim (λ w. inl (omega arith)) (λ w. inr (far (a .from) (a .to) (w .0 .left) (sym (w .1) ∙ c .before .before .before .before .before .before .if4 .taken))) (c .before .before .before .before .before .before .before .if3 .came) in
+    let q = eight-put l _ l (a .from) (a .to) (c .before .before .before .before .eight-at .result)
+    (c .before .before .before .before .eight-at .ensures)
+    (eqb-true _ _ (c .before .before .before .before .before .before .before .before .if2 .taken)) (c .before .before .put-byte .ensures) in
+    let apart : (a .to ≤ a .from) ⊎ (a .from + 8 ≤ a .to) = ⊎-elim (λ w. inl (omega arith))
+    (λ w. inr (far (a .from) (a .to) (w .0 .left) (sym (w .1) ∙ c .before .before .before .before .before .before .if4 .taken)))
+    (c .before .before .before .before .before .before .before .if3 .came) in
     (search needs, h, copy-step l _ (a .from) (a .to) (a .n) 8 h apart q)
 
 cell-requires : tie.Need-cell-requires
@@ -47,7 +51,8 @@ returns-2 c =
     let a = c .before .before .before .before .before .before .before .before .args in
     let l = bitsOf (a .cells .now) in
     let b = c .before .before .before .before .cell in
-    let q = one-put l _ l (a .from) (a .to) (b .result) (b .ensures) (rw (b .ensures) (bit-small (a .cells .now) (a .from))) (c .before .before .put-cell .ensures) in
+    let q = one-put l _ l (a .from) (a .to) (b .result) (b .ensures) (rw (b .ensures) (bit-small (a .cells .now) (a .from)))
+    (c .before .before .put-cell .ensures) in
     (search needs, search needs, copy-step l _ (a .from) (a .to) (a .n) 1 (search needs) (one-apart (a .from) (a .to)) q)
 
 pub copy-step-spec : {M : Type 1} → statement M

@@ -12,7 +12,8 @@ byte-at-requires c κs = search needs
 returns : tie.Need-returns
 returns c =
     let a = c .before .before .before .args in
-    byte-whole (a .cells .now) (a .p) (c .before .byte-at .result) (λ j. c .before .before .shared-slice-known .given j .fits) (c .before .byte-at .ensures) (c .if1 .taken)
+    byte-whole (a .cells .now) (a .p) (c .before .byte-at .result) (λ j. c .before .before .shared-slice-known .given j .fits)
+    (c .before .byte-at .ensures) (c .if1 .taken)
 
 cast-result : tie.Need-cast-result
 cast-result c = search needs
@@ -43,7 +44,8 @@ add-result c =
 returns-2 : tie.Need-returns-2
 returns-2 c =
     let a = c .before .before .before .before .args in
-    byte-across (a .cells .now) (a .p) (c .before .before .byte-at .result) (c .byte-at2 .result) (λ j. c .before .before .before .shared-slice-known .given j .fits) (c .before .before .byte-at .ensures) (c .byte-at2 .ensures)
+    byte-across (a .cells .now) (a .p) (c .before .before .byte-at .result) (c .byte-at2 .result)
+    (λ j. c .before .before .before .shared-slice-known .given j .fits) (c .before .before .byte-at .ensures) (c .byte-at2 .ensures)
 
 pub eight-at-spec : {M : Type 1} → statement M
 eight-at-spec =

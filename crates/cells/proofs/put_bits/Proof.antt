@@ -13,7 +13,8 @@ use Rattle.cells.proofs.put_bits.Tie as tie
 
 abbrev Inv-loop : tie.InvT-loop
 Inv-loop source p n cells₀ at put₀ cells put =
-    (sets (bitsOf cells₀) at (bitsFrom (bitsOf source) p n) ≡ sets (bitsOf cells) (at + put) (bitsFrom (bitsOf source) (p + put) (n - put))) × (put ≤ n) × (length cells ≡ length cells₀)
+    (sets (bitsOf cells₀) at (bitsFrom (bitsOf source) p n) ≡ sets (bitsOf cells) (at + put) (bitsFrom (bitsOf source) (p + put) (n - put)))
+    × (put ≤ n) × (length cells ≡ length cells₀)
 
 abbrev μ-loop : tie.MeasureT-loop
 μ-loop source p n cells₀ at put₀ cells put = n - put

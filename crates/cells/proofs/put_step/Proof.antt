@@ -23,7 +23,9 @@ returns c =
     let l = bitsOf (a .cells .now) in
     let s = bitsOf (a .source .now) in
     let h : 8 ≤ a .n = c .before .before .before .before .before .before .if1 .taken in
-    let q = eight-put l _ s (a .p) (a .at) (c .before .before .before .before .eight-at .result) (c .before .before .before .before .eight-at .ensures) (eqb-true _ _ (c .before .before .before .before .before .if2 .taken)) (c .before .before .put-byte .ensures) in
+    let q = eight-put l _ s (a .p) (a .at) (c .before .before .before .before .eight-at .result)
+    (c .before .before .before .before .eight-at .ensures) (eqb-true _ _ (c .before .before .before .before .before .if2 .taken))
+    (c .before .before .put-byte .ensures) in
     (search needs, h, put-step l _ s (a .p) (a .at) (a .n) 8 h q)
 
 cell-requires : tie.Need-cell-requires
@@ -41,7 +43,8 @@ returns-2 c =
     let l = bitsOf (a .cells .now) in
     let s = bitsOf (a .source .now) in
     let b = c .before .before .before .before .cell in
-    let q = one-put l _ s (a .p) (a .at) (b .result) (b .ensures) (rw (b .ensures) (bit-small (a .source .now) (a .p))) (c .before .before .put-cell .ensures) in
+    let q = one-put l _ s (a .p) (a .at) (b .result) (b .ensures) (rw (b .ensures) (bit-small (a .source .now) (a .p)))
+    (c .before .before .put-cell .ensures) in
     (search needs, search needs, put-step l _ s (a .p) (a .at) (a .n) 1 (search needs) q)
 
 pub put-step-spec : {M : Type 1} → statement M

@@ -17,8 +17,12 @@ returns : tie.Need-returns
 returns c =
     let a = c .before .before .before .before .before .before .before .args in
     let l = bitsOf (a .cells .now) in
-    let h : 8 ≤ a .n = c .before .before .before .before .before .if1 .taken in
-    (search needs, h, zero-step l _ (a .at) (a .n) 8 h (eight-zeros l _ (a .at) (eqb-true _ _ (c .before .before .before .before .if2 .taken)) (c .before .before .put-byte .ensures)))
+    let h : 8 ≤ a .n = c .before .before .before .before .before .if1 .taken in (
+      search needs,
+      h,
+      zero-step l _ (a .at) (a .n) 8 h
+          (eight-zeros l _ (a .at) (eqb-true _ _ (c .before .before .before .before .if2 .taken)) (c .before .before .put-byte .ensures)),
+    )
 
 put-cell-requires : tie.Need-put-cell-requires
 put-cell-requires c κs = search needs

@@ -31,7 +31,8 @@ same-length-2 c = search needs
 returns : tie.Need-returns
 returns c =
     let told = c .before .enum-told .given .1 in
-    stopped-means _ _ _ _ _ _ (c .stopped .ensures) told (decode-stops _ _ _ _ (told-read _ _ _ _ _ told (c .before .before .before .before .before .before .before .read-table .ensures)))
+    stopped-means _ _ _ _ _ _ (c .stopped .ensures) told
+    (decode-stops _ _ _ _ (told-read _ _ _ _ _ told (c .before .before .before .before .before .before .before .read-table .ensures)))
 
 place-requires : tie.Need-place-requires
 place-requires c κs = search needs
@@ -93,8 +94,12 @@ judged-requires c κs =
     let nodes = read-table .last .1 .0 in
     let hashes = read-table .last .1 .1 .0 in
     let done = read .given .0 .0 in
-    let m = told-read _ _ _ nodes hashes (read .given .1) (read-table .ensures) in
-    (length-take-le (nodeNumbers * place .result) nodes (omega (arith, m .3, place .ensures .0)) ∙ ap (λ (w : ℕ). nodeNumbers * w) (place .ensures .0), m .1, m .2)
+    let m = told-read _ _ _ nodes hashes (read .given .1) (read-table .ensures) in (
+      length-take-le (nodeNumbers * place .result) nodes (omega (arith, m .3, place .ensures .0))
+          ∙ ap (λ (w : ℕ). nodeNumbers * w) (place .ensures .0),
+      m .1,
+      m .2,
+    )
 
 same-length-3 : tie.Need-same-length-3
 same-length-3 c = search needs

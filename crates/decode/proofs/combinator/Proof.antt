@@ -41,7 +41,9 @@ returns-2 c =
     let at = start .args .at in
     let held = start .args .held in
     let two = start .args .code in
-    at-ended i _ (combinator-ended bits i at held two (c .before .before .before .if1 .left) (sym (c .before .before .two-bits .ensures) ∙ ap gotCode (c .enum-told .given .1)))
+    at-ended i _
+    (combinator-ended bits i at held two (c .before .before .before .if1 .left)
+    (sym (c .before .before .two-bits .ensures) ∙ ap gotCode (c .enum-told .given .1)))
 
 cast-two-children : tie.Need-cast-two-children
 cast-two-children c = search needs
@@ -62,7 +64,8 @@ returns-3 c =
     let two = start .args .code in
     let sub = c .before .before .before .sub .given .0 .0 in
     let n = c .before .before .before .sub .given .0 .1 .0 in
-    let e : code bits 2 at ≡ got sub n = sym (c .before .before .before .before .before .two-bits .ensures) ∙ ap gotCode (c .before .before .before .sub .given .1) in
+    let e : code bits 2 at ≡ got sub n =
+    sym (c .before .before .before .before .before .two-bits .ensures) ∙ ap gotCode (c .before .before .before .sub .given .1) in
     c .two-children .ensures ∙ ap (atNode i) (sym (combinator-two bits i at held two sub n (c .before .if2 .taken) e))
 
 cast-one-number : tie.Need-cast-one-number
@@ -88,7 +91,8 @@ returns-4 c =
     let two = start .args .code in
     let sub = c .before .before .before .before .before .sub .given .0 .0 in
     let n = c .before .before .before .before .before .sub .given .0 .1 .0 in
-    let e : code bits 2 at ≡ got sub n = sym (c .before .before .before .before .before .before .before .two-bits .ensures) ∙ ap gotCode (c .before .before .before .before .before .sub .given .1) in
+    let e : code bits 2 at ≡ got sub n = sym (c .before .before .before .before .before .before .before .two-bits .ensures)
+    ∙ ap gotCode (c .before .before .before .before .before .sub .given .1) in
     ap (headOf bits i) (c .one-number .ensures) ∙ one-head bits i n (4 + sub) (child .result) (child .ensures)
     ∙ ap (atNode i) (sym (combinator-one bits i at held two sub n (c .before .before .if3 .taken) e))
 
@@ -105,7 +109,8 @@ returns-5 c =
     let two = start .args .code in
     let sub = c .before .before .before .before .sub .given .0 .0 in
     let n = c .before .before .before .before .sub .given .0 .1 .0 in
-    let e : code bits 2 at ≡ got sub n = sym (c .before .before .before .before .before .before .two-bits .ensures) ∙ ap gotCode (c .before .before .before .before .sub .given .1) in
+    let e : code bits 2 at ≡ got sub n = sym (c .before .before .before .before .before .before .two-bits .ensures)
+    ∙ ap gotCode (c .before .before .before .before .sub .given .1) in
     let q : two ≡ 2 = omega arith in
     c .third-group .ensures ∙ ap (atNode i) (sym (combinator-third bits i at held two sub n q e))
 

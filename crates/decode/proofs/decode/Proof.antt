@@ -36,10 +36,12 @@ returns c =
     let place2 = c .before .before .before .place2 in
     let place = c .before .before .before .before .before .before .before .before .place in
     let sizes-of = c .before .before .before .before .before .before .before .before .before .before .sizes-of in
-    let checked-table = c .before .before .before .before .before .before .before .before .before .before .before .before .before .before .before .checked-table in
+    let checked-table =
+    c .before .before .before .before .before .before .before .before .before .before .before .before .before .before .before .checked-table in
     clearing-leaves _ (checked-table .result) (checked-table .last .1 .0) (checked-table .last .1 .1 .0) _ _
     (checked-table .ensures) (checked-table .kept .1 .0) (checked-table .kept .1 .1 .0) (sizes-of .result) (sizes-of .ensures)
-    (place .result) (place2 .result) (place .ensures .0) (place2 .ensures .0) _ _ (c .before .before .before .before .before .before .before .clear-numbers .ensures) (c .before .before .clear-bytes .ensures)
+    (place .result) (place2 .result) (place .ensures .0) (place2 .ensures .0) _ _
+    (c .before .before .before .before .before .before .before .clear-numbers .ensures) (c .before .before .clear-bytes .ensures)
 
 pub decode-spec : {M : Type 1} → statement M
 decode-spec =

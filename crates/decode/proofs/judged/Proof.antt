@@ -30,7 +30,9 @@ returns c =
     let hashes = c .before .before .before .before .before .before .before .before .before .args .hashes .now in
     let done = c .before .before .before .before .before .before .before .before .before .args .done in
     let p = c .before .before .before .before .before .before .before .before .before .pre in
-    settled-means program (tableOf nodes hashes done) done _ _ _ _ (c .settled .ensures) (c .before .enum-told2 .given .1) (walk-refuses program nodes hashes (done .nodes) (done .at) (p .0) (p .1) (p .2) _ _ (c .before .before .before .before .walk .ensures) (c .before .enum-told2 .given .1))
+    settled-means program (tableOf nodes hashes done) done _ _ _ _ (c .settled .ensures) (c .before .enum-told2 .given .1)
+    (walk-refuses program nodes hashes (done .nodes) (done .at) (p .0) (p .1) (p .2) _ _
+    (c .before .before .before .before .walk .ensures) (c .before .enum-told2 .given .1))
 
 enum-told-3 : tie.Need-enum-told-3
 enum-told-3 c = search needs
@@ -49,7 +51,9 @@ returns-2 c =
     let done = c .before .before .before .before .before .before .before .before .before .before .before .args .done in
     let p = c .before .before .before .before .before .before .before .before .before .before .before .pre in
     settled-means program (tableOf nodes hashes done) done _ _ _ _ (c .settled2 .ensures) (c .before .enum-told4 .given .1)
-    (closing-refuses program nodes hashes (done .nodes) (done .at) (p .0) (p .1) (p .2) _ _ _ (c .before .before .before .before .before .before .walk .ensures) (c .before .before .before .enum-told .given .1) (c .before .before .before .before .before .closing .ensures) (c .before .enum-told4 .given .1))
+    (closing-refuses program nodes hashes (done .nodes) (done .at) (p .0) (p .1) (p .2) _ _ _
+    (c .before .before .before .before .before .before .walk .ensures) (c .before .before .before .enum-told .given .1)
+    (c .before .before .before .before .before .closing .ensures) (c .before .enum-told4 .given .1))
 
 returns-3 : tie.Need-returns-3
 returns-3 c =
@@ -57,8 +61,12 @@ returns-3 c =
     let nodes = c .before .before .before .before .before .before .before .before .before .before .args .nodes .now in
     let hashes = c .before .before .before .before .before .before .before .before .before .before .args .hashes .now in
     let done = c .before .before .before .before .before .before .before .before .before .before .args .done in
-    let p = c .before .before .before .before .before .before .before .before .before .before .pre in
-    (all-passed program nodes hashes (done .nodes) (done .at) (p .0) (p .1) (p .2) _ _ (c .before .before .before .before .before .walk .ensures) (c .before .before .enum-told .given .1) (c .before .before .before .before .closing .ensures) (c .enum-told3 .given .1), c .before .before .before .before .before .before .sized .ensures)
+    let p = c .before .before .before .before .before .before .before .before .before .before .pre in (
+      all-passed program nodes hashes (done .nodes) (done .at) (p .0) (p .1) (p .2) _ _
+          (c .before .before .before .before .before .walk .ensures) (c .before .before .enum-told .given .1)
+          (c .before .before .before .before .closing .ensures) (c .enum-told3 .given .1),
+      c .before .before .before .before .before .before .sized .ensures,
+    )
 
 pub judged-spec : {M : Type 1} → statement M
 judged-spec =

@@ -39,7 +39,9 @@ returns-2 c =
     let at = start .args .at in
     let n = sub .given .0 .1 .0 in
     ap (λ (h : NodeHead). headOf bits i (HeadRead.Read h n)) (c .head .ensures)
-    ∙ ap (atNode i) (last-witness bits i at (start .args .held) (sub .given .0 .0) n (sym (c .before .before .before .before .before .bit .ensures) ∙ ap gotCode (sub .given .1)) (c .before .if1 .taken))
+    ∙ ap (atNode i)
+    (last-witness bits i at (start .args .held) (sub .given .0 .0) n
+    (sym (c .before .before .before .before .before .bit .ensures) ∙ ap gotCode (sub .given .1)) (c .before .if1 .taken))
 
 head-requires-2 : tie.Need-head-requires-2
 head-requires-2 c κs = search needs
@@ -53,7 +55,9 @@ returns-3 c =
     let at = start .args .at in
     let n = sub .given .0 .1 .0 in
     ap (λ (h : NodeHead). headOf bits i (HeadRead.Read h n)) (c .head2 .ensures)
-    ∙ ap (atNode i) (last-hidden bits i at (start .args .held) (sub .given .0 .0) n (sym (c .before .before .before .before .before .bit .ensures) ∙ ap gotCode (sub .given .1)) (c .before .if1 .left))
+    ∙ ap (atNode i)
+    (last-hidden bits i at (start .args .held) (sub .given .0 .0) n
+    (sym (c .before .before .before .before .before .bit .ensures) ∙ ap gotCode (sub .given .1)) (c .before .if1 .left))
 
 pub last-group-spec : {M : Type 1} → statement M
 last-group-spec =

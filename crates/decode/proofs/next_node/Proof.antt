@@ -25,7 +25,15 @@ bytes-of-requires c κs = search needs
 add-t20 : tie.Need-add-t20
 add-t20 c =
     let start = c .before .before .before .before .before .before .before .before .before .before .before .before .before .before .before .before .before in
-    record { fits = omega (arith, c .before .bytes-of .ensures, size-most (c .before .before .before .before .before .before .before .before .read .given .0 .0 .follows), start .pre .few, start .pre .most) }
+    record {
+      fits = omega (
+        arith,
+        c .before .bytes-of .ensures,
+        size-most (c .before .before .before .before .before .before .before .before .read .given .0 .0 .follows),
+        start .pre .few,
+        start .pre .most,
+      );
+    }
 
 enum-known-read-2 : tie.Need-enum-known-read-2
 enum-known-read-2 c = search needs
@@ -45,8 +53,11 @@ returns c =
     let nodes = start .args .nodes .now in
     let hashes = start .args .hashes .now in
     let done = start .args .done in
-    let m = told-node bits (done .nodes) (done .hashes) (done .at) hashes _ _ _ (read .given .1) (c .before .before .before .before .before .before .before .before .before .before .before .before .read-node .ensures) in
-    step-read bits nodes hashes done (start .pre) (read .given .0 .0) (read .given .0 .1 .0) _ _ m (c .before .before .before .before .put-record .ensures) (bytes-of .result) (bytes-of .ensures) (omega (arith, bytes-of .ensures, size-most (read .given .0 .0 .follows)))
+    let m = told-node bits (done .nodes) (done .hashes) (done .at) hashes _ _ _ (read .given .1)
+    (c .before .before .before .before .before .before .before .before .before .before .before .before .read-node .ensures) in
+    step-read bits nodes hashes done (start .pre) (read .given .0 .0) (read .given .0 .1 .0) _ _ m
+    (c .before .before .before .before .put-record .ensures) (bytes-of .result) (bytes-of .ensures)
+    (omega (arith, bytes-of .ensures, size-most (read .given .0 .0 .follows)))
 
 same-length-3 : tie.Need-same-length-3
 same-length-3 c = search needs
@@ -58,7 +69,9 @@ returns-2 c =
     let nodes = start .args .nodes .now in
     let hashes = start .args .hashes .now in
     let done = start .args .done in
-    step-refused bits nodes hashes done (start .pre) _ (told-node bits (done .nodes) (done .hashes) (done .at) hashes _ _ _ (c .before .read2 .given .1) (c .before .before .before .before .before .read-node .ensures))
+    step-refused bits nodes hashes done (start .pre) _
+    (told-node bits (done .nodes) (done .hashes) (done .at) hashes _ _ _ (c .before .read2 .given .1)
+    (c .before .before .before .before .before .read-node .ensures))
 
 pub next-node-spec : {M : Type 1} → statement M
 next-node-spec =

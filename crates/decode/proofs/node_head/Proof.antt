@@ -47,7 +47,9 @@ returns-2 c =
     let b = other .given .0 .0 in
     let n = other .given .0 .1 .0 in
     let e : code bits 1 at ≡ got b n = sym (c .before .before .before .before .before .before .before .bit .ensures) ∙ ap gotCode (other .given .1) in
-    at-ended i _ (code-ended bits i at held b n e (c .before .before .before .if1 .taken) (sym (c .before .before .two-bits .ensures) ∙ ap gotCode (c .enum-told2 .given .1)))
+    at-ended i _
+    (code-ended bits i at held b n e (c .before .before .before .if1 .taken)
+    (sym (c .before .before .two-bits .ensures) ∙ ap gotCode (c .enum-told2 .given .1)))
 
 combinator-requires : tie.Need-combinator-requires
 combinator-requires c κs = search needs
@@ -62,8 +64,11 @@ returns-3 c =
     let held = start .args .held in
     let b = other .given .0 .0 in
     let n = other .given .0 .1 .0 in
-    let e : code bits 1 at ≡ got b n = sym (c .before .before .before .before .before .before .before .before .before .bit .ensures) ∙ ap gotCode (other .given .1) in
-    c .combinator .ensures ∙ ap (atNode i) (sym (code-read bits i at held b n _ _ e (c .before .before .before .before .before .if1 .taken) (sym (c .before .before .before .before .two-bits .ensures) ∙ ap gotCode (c .before .before .code .given .1))))
+    let e : code bits 1 at ≡ got b n =
+    sym (c .before .before .before .before .before .before .before .before .before .bit .ensures) ∙ ap gotCode (other .given .1) in
+    c .combinator .ensures
+    ∙ ap (atNode i) (sym (code-read bits i at held b n _ _ e (c .before .before .before .before .before .if1 .taken)
+    (sym (c .before .before .before .before .two-bits .ensures) ∙ ap gotCode (c .before .before .code .given .1))))
 
 bit-requires-2 : tie.Need-bit-requires-2
 bit-requires-2 c κs = search needs
@@ -85,7 +90,9 @@ returns-4 c =
     let b = other .given .0 .0 in
     let n = other .given .0 .1 .0 in
     let e : code bits 1 at ≡ got b n = sym (c .before .before .before .before .before .before .before .bit .ensures) ∙ ap gotCode (other .given .1) in
-    at-ended i _ (jet-ended bits i at held b n e (c .before .before .before .if1 .left) (sym (c .before .before .bit2 .ensures) ∙ ap gotCode (c .enum-told3 .given .1)))
+    at-ended i _
+    (jet-ended bits i at held b n e (c .before .before .before .if1 .left)
+    (sym (c .before .before .bit2 .ensures) ∙ ap gotCode (c .enum-told3 .given .1)))
 
 returns-5 : tie.Need-returns-5
 returns-5 c =
@@ -97,8 +104,10 @@ returns-5 c =
     let held = start .args .held in
     let b = other .given .0 .0 in
     let n = other .given .0 .1 .0 in
-    let e : code bits 1 at ≡ got b n = sym (c .before .before .before .before .before .before .before .before .before .bit .ensures) ∙ ap gotCode (other .given .1) in
-    jet-read bits i at held b n _ _ e (c .before .before .before .before .before .if1 .left) (sym (c .before .before .before .before .bit2 .ensures) ∙ ap gotCode (c .before .before .jet .given .1)) (c .if2 .taken)
+    let e : code bits 1 at ≡ got b n =
+    sym (c .before .before .before .before .before .before .before .before .before .bit .ensures) ∙ ap gotCode (other .given .1) in
+    jet-read bits i at held b n _ _ e (c .before .before .before .before .before .if1 .left)
+    (sym (c .before .before .before .before .bit2 .ensures) ∙ ap gotCode (c .before .before .jet .given .1)) (c .if2 .taken)
 
 word-requires : tie.Need-word-requires
 word-requires c κs = search needs
@@ -113,8 +122,11 @@ returns-6 c =
     let held = start .args .held in
     let b = other .given .0 .0 in
     let n = other .given .0 .1 .0 in
-    let e : code bits 1 at ≡ got b n = sym (c .before .before .before .before .before .before .before .before .before .before .bit .ensures) ∙ ap gotCode (other .given .1) in
-    c .word .ensures ∙ ap (atNode i) (sym (no-jet bits i at held b n _ _ e (c .before .before .before .before .before .before .if1 .left) (sym (c .before .before .before .before .before .bit2 .ensures) ∙ ap gotCode (c .before .before .before .jet .given .1)) (c .before .if2 .left)))
+    let e : code bits 1 at ≡ got b n = sym (c .before .before .before .before .before .before .before .before .before .before .bit .ensures)
+    ∙ ap gotCode (other .given .1) in
+    c .word .ensures
+    ∙ ap (atNode i) (sym (no-jet bits i at held b n _ _ e (c .before .before .before .before .before .before .if1 .left)
+    (sym (c .before .before .before .before .before .bit2 .ensures) ∙ ap gotCode (c .before .before .before .jet .given .1)) (c .before .if2 .left)))
 
 pub node-head-spec : {M : Type 1} → statement M
 node-head-spec =

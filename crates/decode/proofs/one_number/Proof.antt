@@ -19,7 +19,8 @@ enum-known-read-2 c = search needs
 returns : tie.Need-returns
 returns c =
     let read = c .before .before .read in
-    ap (λ (h : NodeHead). HeadRead.Read h (read .given .0 .1 .0)) (c .head .ensures) ∙ sym (ap (withOne (c .before .before .before .before .args .kind)) (read .given .1))
+    ap (λ (h : NodeHead). HeadRead.Read h (read .given .0 .1 .0)) (c .head .ensures)
+    ∙ sym (ap (withOne (c .before .before .before .before .args .kind)) (read .given .1))
 
 returns-2 : tie.Need-returns-2
 returns-2 c = sym (ap (withOne (c .before .before .before .args .kind)) (c .before .read2 .given .1))

@@ -38,7 +38,8 @@ returns-2 c =
     let start = c .before .before .before .before .before .before .before in
     let bits = streamOf (start .args .program .now) in
     let room = start .args .room in
-    let e = number-got 0 (naturalUpTo bits nodeCount 0) _ _ _ (c .before .before .before .before .before .number .ensures) (c .before .before .before .count .given .1) in
+    let e = number-got 0 (naturalUpTo bits nodeCount 0) _ _ _ (c .before .before .before .before .before .number .ensures)
+    (c .before .before .before .count .given .1) in
     count-short bits room _ _ e (omega (arith, c .if1 .taken, c .before .place .ensures .0))
 
 returns-3 : tie.Need-returns-3
@@ -46,7 +47,8 @@ returns-3 c =
     let start = c .before .before .before .before .before .before .before in
     let bits = streamOf (start .args .program .now) in
     let room = start .args .room in
-    let e = number-got 0 (naturalUpTo bits nodeCount 0) _ _ _ (c .before .before .before .before .before .number .ensures) (c .before .before .before .count .given .1) in
+    let e = number-got 0 (naturalUpTo bits nodeCount 0) _ _ _ (c .before .before .before .before .before .number .ensures)
+    (c .before .before .before .count .given .1) in
     count-read bits room _ _ e (omega (arith, c .if1 .left, c .before .place .ensures .0))
 
 pub read-count-spec : {M : Type 1} → statement M

@@ -27,7 +27,8 @@ returns c =
     let at = start .args .at in
     let store = start .args .hashes .now in
     let told = c .enum-told .given .1 in
-    subst (λ (r : HeadRead). NodeMeans bits i held at store r store) (sym told) (head-stops bits i held at store _ (sym (ap (headOf bits i) told) ∙ c .before .before .node-head .ensures))
+    subst (λ (r : HeadRead). NodeMeans bits i held at store r store) (sym told)
+    (head-stops bits i held at store _ (sym (ap (headOf bits i) told) ∙ c .before .before .node-head .ensures))
 
 place-requires : tie.Need-place-requires
 place-requires c κs = search needs
@@ -56,14 +57,18 @@ returns-2 c =
     let held = start .args .held in
     let at = start .args .at in
     let store = start .args .hashes .now in
-    let head = sym (ap (headOf bits i) (read .given .1)) ∙ c .before .before .before .before .before .before .before .before .before .before .before .node-head .ensures in
-    node-in bits i held at store (read .given .0 .0) (read .given .0 .1 .0) head _ _ _ (c .before .before .before .before .before .before .place .ensures .0) (c .before .before .before .before .before .store-bytes .ensures) _ (c .before .bytes .given .1)
+    let head = sym (ap (headOf bits i) (read .given .1))
+    ∙ c .before .before .before .before .before .before .before .before .before .before .before .node-head .ensures in
+    node-in bits i held at store (read .given .0 .0) (read .given .0 .1 .0) head _ _ _
+    (c .before .before .before .before .before .before .place .ensures .0)
+    (c .before .before .before .before .before .store-bytes .ensures) _ (c .before .bytes .given .1)
 
 same-length-2 : tie.Need-same-length-2
 same-length-2 c = search needs
 
 returns-3 : tie.Need-returns-3
 returns-3 c =
+    let node-head-call = c .before .before .before .before .before .before .before .before .before .before .before .before .node-head in
     let start = c .before .before .before .before .before .before .before .before .before .before .before .before .before .before .before in
     let read = c .before .before .before .before .before .before .before .before .before .before .read in
     let bits = streamOf (start .args .program .now) in
@@ -71,8 +76,11 @@ returns-3 c =
     let held = start .args .held in
     let at = start .args .at in
     let store = start .args .hashes .now in
-    let head = sym (ap (headOf bits i) (read .given .1)) ∙ c .before .before .before .before .before .before .before .before .before .before .before .before .node-head .ensures in
-    node-out bits i held at store (read .given .0 .0) (read .given .0 .1 .0) head _ _ _ (c .before .before .before .before .before .before .before .place .ensures .0) (c .before .before .before .before .before .before .store-bytes .ensures) _ _ (c .before .before .bytes2 .given .1) (c .bytes-refusal .ensures)
+    let head = sym (ap (headOf bits i) (read .given .1)) ∙ node-head-call .ensures in
+    node-out bits i held at store (read .given .0 .0) (read .given .0 .1 .0) head _ _ _
+    (c .before .before .before .before .before .before .before .place .ensures .0)
+    (c .before .before .before .before .before .before .store-bytes .ensures) _ _ (c .before .before .bytes2 .given .1)
+    (c .bytes-refusal .ensures)
 
 pub read-node-spec : {M : Type 1} → statement M
 read-node-spec =

@@ -1,4 +1,5 @@
--- `decode::read_nodes` meets its contract. The invariant: what is wanted is what the nodes that are left come to after what the stores hold. Those nodes are the measure.
+-- `decode::read_nodes` meets its contract. The invariant: what is wanted is what the nodes that are left come to after what the stores
+-- hold. Those nodes are the measure.
 use mathlib.Core.Path.{_≡_, refl, _∙_}
 use mathlib.Core.List.{[]}
 use Prim.Native.Nat.{_*_, _-_, _≤_}
@@ -16,15 +17,22 @@ use Rattle.decode.proofs.read_nodes.Tie as tie
 abbrev Inv-loop : tie.InvT-loop
 Inv-loop program nodes₀ hashes₀ count first done₀ nodes hashes done =
     (nodesFrom (streamOf program) (length hashes₀) count 0 [] [] first ≡ more (streamOf program) (length hashes₀) (count - done .nodes) nodes hashes done)
-    × (done .nodes ≤ count) × (done .hashes ≤ length hashes) × (done .hashes ≤ failBytes * done .nodes) × (length nodes ≡ length nodes₀) × (length hashes ≡ length hashes₀)
+    × (done .nodes ≤ count) × (done .hashes ≤ length hashes) × (done .hashes ≤ failBytes * done .nodes) × (length nodes ≡ length nodes₀)
+    × (length hashes ≡ length hashes₀)
 
 abbrev μ-loop : tie.MeasureT-loop
 μ-loop program nodes₀ hashes₀ count first done₀ nodes hashes done = count - done .nodes
 
 loop-holds : tie.Need-loop-holds Inv-loop μ-loop
 loop-holds c =
-    let a = c .before .before .before .args in
-    (begun-more (streamOf (a .program .now)) (length (a .hashes .now)) (a .count) (a .nodes .now) (a .hashes .now) (a .first), omega arith, omega arith, omega arith, refl, refl)
+    let a = c .before .before .before .args in (
+      begun-more (streamOf (a .program .now)) (length (a .hashes .now)) (a .count) (a .nodes .now) (a .hashes .now) (a .first),
+      omega arith,
+      omega arith,
+      omega arith,
+      refl,
+      refl,
+    )
 
 next-node-requires : tie.Need-next-node-requires Inv-loop μ-loop
 next-node-requires c κs = search needs
@@ -49,7 +57,9 @@ returns c =
     let count = start .args .count in
     let l = c .before .before .before .before .before .before .before .before .before .before .before .loop in
     let wanted = nodesFrom bits (length (start .args .hashes .now)) count 0 [] [] (start .args .first) in
-    turn-stops bits wanted (length (start .args .hashes .now)) count (l .nodes) (l .hashes) (l .done) (l .inv .0) (c .before .before .before .before .before .before .before .before .before .if1 .taken) (l .inv .5) (next-node .result) _ _ (next-node .ensures) _ (c .enum-told .given .1) _ _
+    turn-stops bits wanted (length (start .args .hashes .now)) count (l .nodes) (l .hashes) (l .done) (l .inv .0)
+    (c .before .before .before .before .before .before .before .before .before .if1 .taken) (l .inv .5) (next-node .result) _ _
+    (next-node .ensures) _ (c .enum-told .given .1) _ _
 
 loop-less : tie.Need-loop-less Inv-loop μ-loop
 loop-less c =
@@ -60,7 +70,8 @@ loop-less c =
     let count = start .args .count in
     let l = c .before .before .before .before .before .before .before .before .before .before .before .before .loop in
     let wanted = nodesFrom bits (length (start .args .hashes .now)) count 0 [] [] (start .args .first) in
-    let t = turn-goes bits wanted (length (start .args .hashes .now)) count (l .nodes) (l .hashes) (l .done) (l .inv .0) (if1 .taken) (l .inv .5) (next-node .result) _ _ (next-node .ensures) _ (c .before .step .given .1) in
+    let t = turn-goes bits wanted (length (start .args .hashes .now)) count (l .nodes) (l .hashes) (l .done) (l .inv .0) (if1 .taken)
+    (l .inv .5) (next-node .result) _ _ (next-node .ensures) _ (c .before .step .given .1) in
     let less = if1 .taken in
     omega arith
 
@@ -73,7 +84,8 @@ loop-again c =
     let count = start .args .count in
     let l = c .before .before .before .before .before .before .before .before .before .before .before .before .loop in
     let wanted = nodesFrom bits (length (start .args .hashes .now)) count 0 [] [] (start .args .first) in
-    let t = turn-goes bits wanted (length (start .args .hashes .now)) count (l .nodes) (l .hashes) (l .done) (l .inv .0) (if1 .taken) (l .inv .5) (next-node .result) _ _ (next-node .ensures) _ (c .before .step .given .1) in
+    let t = turn-goes bits wanted (length (start .args .hashes .now)) count (l .nodes) (l .hashes) (l .done) (l .inv .0) (if1 .taken)
+    (l .inv .5) (next-node .result) _ _ (next-node .ensures) _ (c .before .step .given .1) in
     let less = if1 .taken in
     (t .3, omega arith, omega (arith, next-node .kept .1 .1 .0), t .2, next-node .kept .1 .0 ∙ l .inv .4, next-node .kept .1 .1 .0 ∙ l .inv .5)
 

@@ -44,7 +44,8 @@ returns-2 c =
     let at = start .args .at in
     let store = start .args .hashes .now in
     let held = start .args .held in
-    c .before .before .hash-bytes .ensures ∙ ap (λ (f : Follows). storing (bytesAfter bits f at) store held) (sym (c .before .before .before .before .enum-told2 .given .1))
+    c .before .before .hash-bytes .ensures
+    ∙ ap (λ (f : Follows). storing (bytesAfter bits f at) store held) (sym (c .before .before .before .before .enum-told2 .given .1))
 
 same-length-2 : tie.Need-same-length-2
 same-length-2 c = search needs
@@ -57,7 +58,8 @@ returns-3 c =
     let at = start .args .at in
     let store = start .args .hashes .now in
     let held = start .args .held in
-    c .before .before .fail-bytes .ensures ∙ ap (λ (f : Follows). storing (bytesAfter bits f at) store held) (sym (c .before .before .before .before .enum-told3 .given .1))
+    c .before .before .fail-bytes .ensures
+    ∙ ap (λ (f : Follows). storing (bytesAfter bits f at) store held) (sym (c .before .before .before .before .enum-told3 .given .1))
 
 pub store-bytes-spec : {M : Type 1} → statement M
 store-bytes-spec =

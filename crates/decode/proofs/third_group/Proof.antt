@@ -34,7 +34,8 @@ returns-2 c =
     let bits = streamOf (start .args .program .now) in
     let i = start .args .i in
     let at = start .args .at in
-    ap (λ (h : NodeHead). headOf bits i (HeadRead.Read h at)) (c .head .ensures) ∙ ap (atNode i) (third-fail bits i at (start .args .held) (start .args .sub) (c .before .if2 .taken))
+    ap (λ (h : NodeHead). headOf bits i (HeadRead.Read h at)) (c .head .ensures)
+    ∙ ap (atNode i) (third-fail bits i at (start .args .held) (start .args .sub) (c .before .if2 .taken))
 
 add-head : tie.Need-add-head
 add-head c = search needs
@@ -48,7 +49,8 @@ returns-3 c =
     let bits = streamOf (start .args .program .now) in
     let i = start .args .i in
     let at = start .args .at in
-    ap (λ (h : NodeHead). headOf bits i (HeadRead.Read h at)) (c .head2 .ensures) ∙ ap (atNode i) (third-leaf bits i at (start .args .held) (start .args .sub) (c .before .before .if1 .left) (c .before .if2 .left))
+    ap (λ (h : NodeHead). headOf bits i (HeadRead.Read h at)) (c .head2 .ensures)
+    ∙ ap (atNode i) (third-leaf bits i at (start .args .held) (start .args .sub) (c .before .before .if1 .left) (c .before .if2 .left))
 
 pub third-group-spec : {M : Type 1} → statement M
 third-group-spec =

@@ -52,13 +52,17 @@ returns-2 c =
     let i = start .args .i in
     let at = start .args .at in
     ap (headOf bits i) (c .one-number2 .ensures ∙ ap (withOne (start .args .kind)) (enum-told2 .given .1))
-    ∙ second-stops bits i at (start .args .kind) _ _ _ (number-got i (child bits i at) _ _ _ (c .before .before .before .before .before .before .before .child .ensures) (c .before .before .before .before .before .left .given .1)) (number-stopped i _ _ _ (c .before .before .before .child2 .ensures) (enum-told2 .given .1))
+    ∙ second-stops bits i at (start .args .kind) _ _ _
+    (number-got i (child bits i at) _ _ _ (c .before .before .before .before .before .before .before .child .ensures)
+    (c .before .before .before .before .before .left .given .1))
+    (number-stopped i _ _ _ (c .before .before .before .child2 .ensures) (enum-told2 .given .1))
 
 head-requires : tie.Need-head-requires
 head-requires c κs = search needs
 
 returns-3 : tie.Need-returns-3
 returns-3 c =
+    let child-call = c .before .before .before .before .before .before .before .before .child in
     let start = c .before .before .before .before .before .before .before .before .before .before in
     let right = c .before .before .right in
     let left = c .before .before .before .before .before .before .left in
@@ -68,7 +72,8 @@ returns-3 c =
     let m = left .given .0 .1 .0 in
     let n = right .given .0 .1 .0 in
     ap (λ (h : NodeHead). headOf bits i (HeadRead.Read h n)) (c .head .ensures)
-    ∙ both-read bits i at (start .args .kind) _ m _ n (number-got i (child bits i at) _ _ _ (c .before .before .before .before .before .before .before .before .child .ensures) (left .given .1)) (number-got i (child bits i m) _ _ _ (c .before .before .before .before .child2 .ensures) (right .given .1))
+    ∙ both-read bits i at (start .args .kind) _ m _ n (number-got i (child bits i at) _ _ _ (child-call .ensures) (left .given .1))
+    (number-got i (child bits i m) _ _ _ (c .before .before .before .before .child2 .ensures) (right .given .1))
 
 pub two-children-spec : {M : Type 1} → statement M
 two-children-spec =

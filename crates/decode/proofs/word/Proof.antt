@@ -31,7 +31,8 @@ returns c =
     let bits = streamOf (start .args .program .now) in
     let i = start .args .i in
     let at = start .args .at in
-    ap (headOf bits i) (c .one-number .ensures ∙ ap (withOne 14) (enum-told .given .1)) ∙ word-stops bits i at _ (number-stopped i _ _ _ (c .before .before .before .number .ensures) (enum-told .given .1))
+    ap (headOf bits i) (c .one-number .ensures ∙ ap (withOne 14) (enum-told .given .1))
+    ∙ word-stops bits i at _ (number-stopped i _ _ _ (c .before .before .before .number .ensures) (enum-told .given .1))
 
 word-from-requires : tie.Need-word-from-requires
 word-from-requires c κs =

@@ -45,7 +45,12 @@ loop-less : tie.Need-loop-less Inv-loop μ-loop
 loop-less c = search needs
 
 loop-again : tie.Need-loop-again Inv-loop μ-loop
-loop-again c = simp length-set (omega (arith, c .before .before .before .loop-test .taken), omega (arith, c .before .before .if1 .left), c .before .before .before .before .loop .inv .2)
+loop-again c =
+    simp length-set (
+      omega (arith, c .before .before .before .loop-test .taken),
+      omega (arith, c .before .before .if1 .left),
+      c .before .before .before .before .loop .inv .2,
+    )
 
 cast-result : tie.Need-cast-result Inv-loop μ-loop
 cast-result c = search needs

@@ -23,7 +23,9 @@ answer-code-requires : tie.Need-answer-code-requires
 answer-code-requires c κs = search needs
 
 returns : tie.Need-returns
-returns c = check-told (c .before .before .before .arrow-stage .result) _ (c .before .before .before .arrow-stage .ensures) (c .before .before .answer-of .result) (c .before .before .answer-of .ensures) _ _ (c .answer-code .ensures) (c .before .answer-told .ensures)
+returns c =
+    check-told (c .before .before .before .arrow-stage .result) _ (c .before .before .before .arrow-stage .ensures)
+    (c .before .before .answer-of .result) (c .before .before .answer-of .ensures) _ _ (c .answer-code .ensures) (c .before .answer-told .ensures)
 
 pub drevaloci-arrows-spec : {M : Type 1} → statement M
 drevaloci-arrows-spec =

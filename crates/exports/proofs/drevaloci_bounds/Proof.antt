@@ -29,7 +29,10 @@ returns : tie.Need-returns
 returns c = bounds-told (c .before .before .before .bounds-stage .result) _ (c .before .before .before .bounds-stage .ensures) _ _ _ (c .before .said .given .1)
 
 returns-2 : tie.Need-returns-2
-returns-2 c = unbounded-told (c .before .before .before .before .before .bounds-stage .result) _ (c .before .before .before .before .before .bounds-stage .ensures) _ (c .before .before .before .said2 .given .1) _ _ (c .number .ensures) (c .before .place .ensures)
+returns-2 c =
+    unbounded-told (c .before .before .before .before .before .bounds-stage .result) _
+    (c .before .before .before .before .before .bounds-stage .ensures) _ (c .before .before .before .said2 .given .1) _ _
+    (c .number .ensures) (c .before .place .ensures)
 
 pub drevaloci-bounds-spec : {M : Type 1} → statement M
 drevaloci-bounds-spec =

@@ -32,7 +32,9 @@ same-length-2 : tie.Need-same-length-2
 same-length-2 c = search needs
 
 returns : tie.Need-returns
-returns c = table-told (c .before .before .before .before .before .before .before .decode .result) _ _ _ _ _ (c .before .before .before .before .before .before .before .decode .ensures) (c .before .said .given .0 .0) (c .before .said .given .1)
+returns c =
+    table-told (c .before .before .before .before .before .before .before .decode .result) _ _ _ _ _
+    (c .before .before .before .before .before .before .before .decode .ensures) (c .before .said .given .0 .0) (c .before .said .given .1)
 
 same-length-3 : tie.Need-same-length-3
 same-length-3 c = search needs
@@ -41,7 +43,10 @@ same-length-4 : tie.Need-same-length-4
 same-length-4 c = search needs
 
 returns-2 : tie.Need-returns-2
-returns-2 c = refusal-told (c .before .before .before .before .before .before .before .before .before .decode .result) _ _ _ _ _ (c .before .before .before .before .before .before .before .before .before .decode .ensures) _ (c .before .before .before .said2 .given .1) _ _ (c .number .ensures) (c .before .place .ensures)
+returns-2 c =
+    let decode-call = c .before .before .before .before .before .before .before .before .before .decode in
+    refusal-told (decode-call .result) _ _ _ _ _ (decode-call .ensures) _ (c .before .before .before .said2 .given .1) _ _
+    (c .number .ensures) (c .before .place .ensures)
 
 pub drevaloci-decode-spec : {M : Type 1} → statement M
 drevaloci-decode-spec =

@@ -35,7 +35,9 @@ same-length-5 : tie.Need-same-length-5
 same-length-5 c = search needs
 
 returns : tie.Need-returns
-returns c = job-told _ (c .before .before .before .before .before .before .before .before .before .before .before .before .run .result) _ _ _ _ _ (c .before .before .before .before .before .before .before .before .before .before .before .before .run .ensures) _ _ (c .answer-code .ensures) (c .before .answer-told .ensures)
+returns c =
+    let run-call = c .before .before .before .before .before .before .before .before .before .before .before .before .run in
+    job-told _ (run-call .result) _ _ _ _ _ (run-call .ensures) _ _ (c .answer-code .ensures) (c .before .answer-told .ensures)
 
 pub drevaloci-run-spec : {M : Type 1} → statement M
 drevaloci-run-spec =

@@ -29,7 +29,10 @@ same-length-3 : tie.Need-same-length-3
 same-length-3 c = search needs
 
 returns : tie.Need-returns
-returns c = stage-told _ (c .before .before .before .before .before .before .before .before .run-stage .result) _ _ _ (c .before .before .before .before .before .before .before .before .run-stage .ensures) _ _ (c .answer-code .ensures) (c .before .answer-told .ensures)
+returns c =
+    stage-told _ (c .before .before .before .before .before .before .before .before .run-stage .result) _ _ _
+    (c .before .before .before .before .before .before .before .before .run-stage .ensures) _ _ (c .answer-code .ensures)
+    (c .before .answer-told .ensures)
 
 pub drevaloci-run-tables-spec : {M : Type 1} → statement M
 drevaloci-run-tables-spec =

@@ -18,10 +18,24 @@ first-wrong-requires : tie.Need-first-wrong-requires
 first-wrong-requires c κs = search needs
 
 cast-t8 : tie.Need-cast-t8
-cast-t8 c = record { fits = omega (arith, c .before .first-wrong .ensures, first-before (headerRule (c .before .before .before .before .before .args .dossier .now)) 14 0) }
+cast-t8 c =
+    record {
+      fits = omega (
+        arith,
+        c .before .first-wrong .ensures,
+        first-before (headerRule (c .before .before .before .before .before .args .dossier .now)) 14 0,
+      );
+    }
 
 mul-t9 : tie.Need-mul-t9
-mul-t9 c = record { fits = omega (arith, c .before .first-wrong .ensures, first-before (headerRule (c .before .before .before .before .before .args .dossier .now)) 14 0) }
+mul-t9 c =
+    record {
+      fits = omega (
+        arith,
+        c .before .first-wrong .ensures,
+        first-before (headerRule (c .before .before .before .before .before .args .dossier .now)) 14 0,
+      );
+    }
 
 returns-3 : tie.Need-returns-3
 returns-3 c = sym (judged-right _ (c .before .before .before .if1 .left) (c .before .before .if2 .left) (sym (c .before .first-wrong .ensures) ∙ c .if3 .taken))

@@ -33,12 +33,14 @@ cast-types c = search needs
 returns-2 : tie.Need-returns-2 Inv-loop μ-loop
 returns-2 c =
     let d = c .before .before .before .before .before .args .dossier .now in
-    sym (version-right d (sym (c .before .before .before .number .ensures) ∙ c .before .before .if1 .left) ∙ no-types d (sym (c .before .count .ensures) ∙ c .if2 .taken))
+    sym (version-right d (sym (c .before .before .before .number .ensures) ∙ c .before .before .if1 .left)
+    ∙ no-types d (sym (c .before .count .ensures) ∙ c .if2 .taken))
 
 returns-3 : tie.Need-returns-3 Inv-loop μ-loop
 returns-3 c =
     let d = c .before .before .before .before .before .before .args .dossier .now in
-    sym (version-right d (sym (c .before .before .before .before .number .ensures) ∙ c .before .before .before .if1 .left) ∙ many-types d (rw (← (c .before .before .count .ensures)) (c .if3 .taken)))
+    sym (version-right d (sym (c .before .before .before .before .number .ensures) ∙ c .before .before .before .if1 .left)
+    ∙ many-types d (rw (← (c .before .before .count .ensures)) (c .if3 .taken)))
 
 loop-holds : tie.Need-loop-holds Inv-loop μ-loop
 unfolding start
@@ -91,8 +93,10 @@ returns-5 c =
     let l = c .before .before .before .before .before .loop in
     let e : c .before .before .before .size .result ≡ size d (l .k) = c .before .before .before .size .ensures .0 in
     let p : l .place ≡ start d (l .k) = l .inv .1 in
-    let n : c .before .before .before .before .before .before .before .before .count .result ≡ count d 0 = c .before .before .before .before .before .before .before .before .count .ensures in
-    sym (l .inv .0 ∙ offset-wrong d (omega arith) (omega arith) (l .k) (c .before .before .before .before .loop-test .taken) (omega arith) (λ q. c .if5 .taken (c .before .number2 .ensures ∙ q ∙ sym p)))
+    let n : c .before .before .before .before .before .before .before .before .count .result ≡ count d 0 =
+    c .before .before .before .before .before .before .before .before .count .ensures in
+    sym (l .inv .0 ∙ offset-wrong d (omega arith) (omega arith) (l .k) (c .before .before .before .before .loop-test .taken) (omega arith)
+    (λ q. c .if5 .taken (c .before .number2 .ensures ∙ q ∙ sym p)))
 
 add-k : tie.Need-add-k Inv-loop μ-loop
 add-k c = search needs
@@ -106,8 +110,11 @@ loop-again c =
     let l = c .before .before .before .before .before .loop in
     let e : c .before .before .before .size .result ≡ size d (l .k) = c .before .before .before .size .ensures .0 in
     let p : l .place ≡ start d (l .k) = l .inv .1 in
-    let n : c .before .before .before .before .before .before .before .before .count .result ≡ count d 0 = c .before .before .before .before .before .before .before .before .count .ensures in (
-      l .inv .0 ∙ section-right d (omega arith) (omega arith) (l .k) (c .before .before .before .before .loop-test .taken) (omega arith) (sym (c .before .number2 .ensures) ∙ c .if5 .left ∙ p),
+    let n : c .before .before .before .before .before .before .before .before .count .result ≡ count d 0 =
+    c .before .before .before .before .before .before .before .before .count .ensures in (
+      l .inv .0
+          ∙ section-right d (omega arith) (omega arith) (l .k) (c .before .before .before .before .loop-test .taken) (omega arith)
+          (sym (c .before .number2 .ensures) ∙ c .if5 .left ∙ p),
       next-start d (l .k) (l .place) (c .before .before .before .size .result) p e,
       search needs,
       search needs,
@@ -139,14 +146,16 @@ returns-7 c =
     let d = c .before .before .before .before .before .before .before .before .before .before .before .args .dossier .now in
     let k : c .before .before .before .before .loop .k ≡ 6 = omega arith in
     let p : c .before .before .before .before .loop .place ≡ start d 6 = c .before .before .before .before .loop .inv .1 ∙ ap (start d) k in
-    sym (c .before .before .before .before .loop .inv .0 ∙ ap (wrongFrom d) k ∙ end-wrong d (sym (c .before .before .number3 .ensures) ∙ c .before .if6 .left) (λ e. c .if7 .taken (p ∙ e)))
+    sym (c .before .before .before .before .loop .inv .0 ∙ ap (wrongFrom d) k
+    ∙ end-wrong d (sym (c .before .before .number3 .ensures) ∙ c .before .if6 .left) (λ e. c .if7 .taken (p ∙ e)))
 
 returns-8 : tie.Need-returns-8 Inv-loop μ-loop
 returns-8 c =
     let d = c .before .before .before .before .before .before .before .before .before .before .before .args .dossier .now in
     let k : c .before .before .before .before .loop .k ≡ 6 = omega arith in
     let p : c .before .before .before .before .loop .place ≡ start d 6 = c .before .before .before .before .loop .inv .1 ∙ ap (start d) k in
-    sym (c .before .before .before .before .loop .inv .0 ∙ ap (wrongFrom d) k ∙ total-right d (sym (c .before .before .number3 .ensures) ∙ c .before .if6 .left) (sym p ∙ c .if7 .left))
+    sym (c .before .before .before .before .loop .inv .0 ∙ ap (wrongFrom d) k
+    ∙ total-right d (sym (c .before .before .number3 .ensures) ∙ c .before .if6 .left) (sym p ∙ c .if7 .left))
 
 pub first-wrong-spec : {M : Type 1} → statement M
 first-wrong-spec =

@@ -16,7 +16,11 @@ returns : tie.Need-returns
 unfolding afterNumber
 returns c =
     let v = c .before .before .before .before .args .list .now in
-    cc (c .from .ensures, c .before .before .byte-at .ensures, in-one (c .before .before .byte-at .result) (drop 1 v) (drop 3 v) (drop 5 v) (c .before .if1 .taken))
+    cc (
+      c .from .ensures,
+      c .before .before .byte-at .ensures,
+      in-one (c .before .before .byte-at .result) (drop 1 v) (drop 3 v) (drop 5 v) (c .before .if1 .taken),
+    )
 
 from-requires-2 : tie.Need-from-requires-2
 from-requires-2 c κs = search needs
@@ -25,7 +29,11 @@ returns-2 : tie.Need-returns-2
 unfolding afterNumber
 returns-2 c =
     let v = c .before .before .before .before .before .args .list .now in
-    cc (c .from2 .ensures, c .before .before .before .byte-at .ensures, in-two (c .before .before .before .byte-at .result) (drop 1 v) (drop 3 v) (drop 5 v) (c .before .if2 .taken))
+    cc (
+      c .from2 .ensures,
+      c .before .before .before .byte-at .ensures,
+      in-two (c .before .before .before .byte-at .result) (drop 1 v) (drop 3 v) (drop 5 v) (c .before .if2 .taken),
+    )
 
 from-requires-3 : tie.Need-from-requires-3
 from-requires-3 c κs = search needs
@@ -34,7 +42,11 @@ returns-3 : tie.Need-returns-3
 unfolding afterNumber
 returns-3 c =
     let v = c .before .before .before .before .before .args .list .now in
-    cc (c .from3 .ensures, c .before .before .before .byte-at .ensures, in-four (c .before .before .before .byte-at .result) (drop 1 v) (drop 3 v) (drop 5 v) (c .before .before .if1 .left) (c .before .if2 .left))
+    cc (
+      c .from3 .ensures,
+      c .before .before .before .byte-at .ensures,
+      in-four (c .before .before .before .byte-at .result) (drop 1 v) (drop 3 v) (drop 5 v) (c .before .before .if1 .left) (c .before .if2 .left),
+    )
 
 pub after-number-spec : {M : Type 1} → statement M
 after-number-spec =

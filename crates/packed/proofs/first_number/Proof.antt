@@ -22,7 +22,11 @@ unfolding firstNumber
 returns-2 c =
     let a = c .before .before .before .before .args in
     let v = a .list .now in
-    cc (c .before .byte-at .ensures, in-one (c .before .byte-at .result) (getD v 0 0) (be16 v 1) (be32 v 1) (c .if2 .taken), first-of v (a .rest) (c .before .before .if1 .left))
+    cc (
+      c .before .byte-at .ensures,
+      in-one (c .before .byte-at .result) (getD v 0 0) (be16 v 1) (be32 v 1) (c .if2 .taken),
+      first-of v (a .rest) (c .before .before .if1 .left),
+    )
 
 half-at-requires : tie.Need-half-at-requires
 half-at-requires c κs = search needs
@@ -35,7 +39,12 @@ unfolding firstNumber
 returns-3 c =
     let a = c .before .before .before .before .before .before .args in
     let v = a .list .now in
-    cc (c .half-at .ensures, c .before .before .before .byte-at .ensures, in-two (c .before .before .before .byte-at .result) (getD v 0 0) (be16 v 1) (be32 v 1) (c .before .if3 .taken), first-of v (a .rest) (c .before .before .before .before .if1 .left))
+    cc (
+      c .half-at .ensures,
+      c .before .before .before .byte-at .ensures,
+      in-two (c .before .before .before .byte-at .result) (getD v 0 0) (be16 v 1) (be32 v 1) (c .before .if3 .taken),
+      first-of v (a .rest) (c .before .before .before .before .if1 .left),
+    )
 
 number-at-requires : tie.Need-number-at-requires
 number-at-requires c κs = search needs
@@ -45,7 +54,13 @@ unfolding firstNumber
 returns-4 c =
     let a = c .before .before .before .before .before .before .args in
     let v = a .list .now in
-    cc (c .number-at .ensures, c .before .before .before .byte-at .ensures, in-four (c .before .before .before .byte-at .result) (getD v 0 0) (be16 v 1) (be32 v 1) (c .before .before .if2 .left) (c .before .if3 .left), first-of v (a .rest) (c .before .before .before .before .if1 .left))
+    cc (
+      c .number-at .ensures,
+      c .before .before .before .byte-at .ensures,
+      in-four (c .before .before .before .byte-at .result) (getD v 0 0) (be16 v 1) (be32 v 1) (c .before .before .if2 .left)
+          (c .before .if3 .left),
+      first-of v (a .rest) (c .before .before .before .before .if1 .left),
+    )
 
 pub first-number-spec : {M : Type 1} → statement M
 first-number-spec =

@@ -30,7 +30,8 @@ returns : tie.Need-returns Inv-loop μ-loop
 returns c =
     let a = c .before .before .before .before .before .before .before .args in
     let l = c .before .before .before .before .loop in
-    sym (l .inv .1 ∙ unlike (a .store .now) (unpacked (l .left .now)) (a .rest) (l .k) _ (c .before .before .before .loop-test .taken) (c .before .first-number .ensures) (c .if1 .taken))
+    sym (l .inv .1 ∙ unlike (a .store .now) (unpacked (l .left .now)) (a .rest) (l .k) _ (c .before .before .before .loop-test .taken)
+    (c .before .first-number .ensures) (c .if1 .taken))
 
 after-number-requires : tie.Need-after-number-requires Inv-loop μ-loop
 after-number-requires c κs = search needs
@@ -45,7 +46,8 @@ loop-again : tie.Need-loop-again Inv-loop μ-loop
 loop-again c =
     let a = c .before .before .before .before .before .before .before .before .args in
     let l = c .before .before .before .before .before .loop in
-    let more = like (a .store .now) (unpacked (l .left .now)) (a .rest) (l .k) _ (c .before .before .before .before .loop-test .taken) (c .before .before .first-number .ensures) (c .before .if1 .left) in
+    let more = like (a .store .now) (unpacked (l .left .now)) (a .rest) (l .k) _ (c .before .before .before .before .loop-test .taken)
+    (c .before .before .first-number .ensures) (c .before .if1 .left) in
     (search needs, cc (l .inv .1, more, after-of (l .left .now), c .after-number .ensures))
 
 returns-2 : tie.Need-returns-2 Inv-loop μ-loop

@@ -10,7 +10,8 @@ use Rattle.packed.proofs.laid.Statement.{statement}
 use Rattle.packed.proofs.laid.Tie as tie
 
 abbrev Inv-loop : tie.InvT-loop
-Inv-loop list store₀ left₀ k₀ store left k = (length store₀ ≡ length store) × (k ≤ length store) × (laid (unpacked list) store₀ ≡ laidFrom k (unpacked left) store)
+Inv-loop list store₀ left₀ k₀ store left k =
+    (length store₀ ≡ length store) × (k ≤ length store) × (laid (unpacked list) store₀ ≡ laidFrom k (unpacked left) store)
 
 abbrev μ-loop : tie.MeasureT-loop
 μ-loop list store₀ left₀ k₀ store left k = length left
@@ -49,8 +50,12 @@ loop-again c =
     let l = c .before .before .before .before .loop in
     let n = c .before .first-number .result in
     let w = c .after-number .result .now in
-    let off : unpacked (l .left .now) ≡ n ∷ unpacked w = taken-off (l .left .now) w n (search needs) (c .before .first-number .ensures) (c .after-number .ensures) in
-    (simp length-set (search needs), simp length-set (search needs), l .inv .2 ∙ ap (λ (ns : List ℕ). laidFrom (l .k) ns (l .store)) off ∙ lay (l .k) (l .store) n (unpacked w) (search needs))
+    let off : unpacked (l .left .now) ≡ n ∷ unpacked w =
+    taken-off (l .left .now) w n (search needs) (c .before .first-number .ensures) (c .after-number .ensures) in (
+      simp length-set (search needs),
+      simp length-set (search needs),
+      l .inv .2 ∙ ap (λ (ns : List ℕ). laidFrom (l .k) ns (l .store)) off ∙ lay (l .k) (l .store) n (unpacked w) (search needs),
+    )
 
 same-length-2 : tie.Need-same-length-2 Inv-loop μ-loop
 same-length-2 c = search needs

@@ -38,7 +38,15 @@ loop-less : tie.Need-loop-less Inv-loop μ-loop
 loop-less c = search needs
 
 loop-again : tie.Need-loop-again Inv-loop μ-loop
-loop-again c = (refl, cc (c .before .before .before .loop .inv .1, next-part _ _ _ (c .before .before .before .loop .rest .now) (c .before .before .loop-test .taken), c .from2 .ensures, c .before .number .ensures))
+loop-again c = (
+  refl,
+  cc (
+    c .before .before .before .loop .inv .1,
+    next-part _ _ _ (c .before .before .before .loop .rest .now) (c .before .before .loop-test .taken),
+    c .from2 .ensures,
+    c .before .number .ensures,
+  ),
+)
 
 number-requires-2 : tie.Need-number-requires-2 Inv-loop μ-loop
 number-requires-2 c κs = search needs
@@ -50,7 +58,14 @@ whole-requires : tie.Need-whole-requires Inv-loop μ-loop
 whole-requires c κs = search needs
 
 returns : tie.Need-returns Inv-loop μ-loop
-returns c = cc (c .whole .ensures, c .before .number2 .ensures, c .before .before .before .loop .inv .1, no-part _ _ _ (c .before .before .before .loop .rest .now) (c .before .before .loop-test .left), c .before .before .before .before .from .ensures)
+returns c =
+    cc (
+      c .whole .ensures,
+      c .before .number2 .ensures,
+      c .before .before .before .loop .inv .1,
+      no-part _ _ _ (c .before .before .before .loop .rest .now) (c .before .before .loop-test .left),
+      c .before .before .before .before .from .ensures,
+    )
 
 pub part-spec : {M : Type 1} → statement M
 part-spec =

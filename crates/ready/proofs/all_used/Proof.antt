@@ -24,7 +24,9 @@ closes-requires c κs = search needs
 
 returns-3 : tie.Need-returns-3
 returns-3 c = let a = c .before .before .before .before .before .args in
-    c .closes .ensures ∙ ap (closes (streamOf (a .s .now))) (c .before .before .place .ensures .0) ∙ used-all (a .s .now) (a .end) (a .count) (omega arith) (omega arith)
+    c .closes .ensures
+    ∙ ap (closes (streamOf (a .s .now))) (c .before .before .place .ensures .0)
+    ∙ used-all (a .s .now) (a .end) (a .count) (omega arith) (omega arith)
 
 pub all-used-spec : {M : Type 1} → statement M
 all-used-spec = tie.close (tie.spec returns place-requires returns-2 closes-requires returns-3)

@@ -20,22 +20,34 @@ enum-told : tie.Need-enum-told
 enum-told c = search needs
 
 returns : tie.Need-returns
-returns c = let a = c .before .before .before .before .before .before .before .before .args in
-    input-short (tyAt (typeRecords (a .types .now)) (a .source)) (a .input .now) (a .count) (input-held (tyAt (typeRecords (a .types .now)) (a .source)) (a .input .now) (a .count) (c .before .before .before .held .result .now) (c .before .before .before .held .ensures) _ (sym (c .enum-told .given .1) ∙ c .before .before .value-end .ensures))
+returns c =
+    let held-call = c .before .before .before .held in
+    let a = c .before .before .before .before .before .before .before .before .args in
+    input-short (tyAt (typeRecords (a .types .now)) (a .source)) (a .input .now) (a .count)
+    (input-held (tyAt (typeRecords (a .types .now)) (a .source)) (a .input .now) (a .count) (held-call .result .now)
+    (held-call .ensures) _ (sym (c .enum-told .given .1) ∙ c .before .before .value-end .ensures))
 
 all-used-requires : tie.Need-all-used-requires
 all-used-requires c κs = search needs
 
 returns-2 : tie.Need-returns-2
-returns-2 c = let a = c .before .before .before .before .before .before .before .before .before .before .before .args in
-    input-left (tyAt (typeRecords (a .types .now)) (a .source)) (a .input .now) (a .count) (c .before .before .before .end .given .0 .0)
-    (input-held (tyAt (typeRecords (a .types .now)) (a .source)) (a .input .now) (a .count) (c .before .before .before .before .before .before .held .result .now) (c .before .before .before .before .before .before .held .ensures) _ (sym (c .before .before .before .end .given .1) ∙ c .before .before .before .before .before .value-end .ensures))
+returns-2 c =
+    let held-call = c .before .before .before .before .before .before .held in
+    let end-found = c .before .before .before .end in
+    let a = c .before .before .before .before .before .before .before .before .before .before .before .args in
+    input-left (tyAt (typeRecords (a .types .now)) (a .source)) (a .input .now) (a .count) (end-found .given .0 .0)
+    (input-held (tyAt (typeRecords (a .types .now)) (a .source)) (a .input .now) (a .count) (held-call .result .now) (held-call .ensures) _
+    (sym (end-found .given .1) ∙ c .before .before .before .before .before .value-end .ensures))
     (sym (c .before .all-used .ensures) ∙ not-true _ (c .if1 .taken))
 
 returns-3 : tie.Need-returns-3
-returns-3 c = let a = c .before .before .before .before .before .before .before .before .before .before .before .args in
-    input-whole (tyAt (typeRecords (a .types .now)) (a .source)) (a .input .now) (a .count) (c .before .before .before .end .given .0 .0)
-    (input-held (tyAt (typeRecords (a .types .now)) (a .source)) (a .input .now) (a .count) (c .before .before .before .before .before .before .held .result .now) (c .before .before .before .before .before .before .held .ensures) _ (sym (c .before .before .before .end .given .1) ∙ c .before .before .before .before .before .value-end .ensures))
+returns-3 c =
+    let held-call = c .before .before .before .before .before .before .held in
+    let end-found = c .before .before .before .end in
+    let a = c .before .before .before .before .before .before .before .before .before .before .before .args in
+    input-whole (tyAt (typeRecords (a .types .now)) (a .source)) (a .input .now) (a .count) (end-found .given .0 .0)
+    (input-held (tyAt (typeRecords (a .types .now)) (a .source)) (a .input .now) (a .count) (held-call .result .now) (held-call .ensures) _
+    (sym (end-found .given .1) ∙ c .before .before .before .before .before .value-end .ensures))
     (sym (c .before .all-used .ensures) ∙ not-false _ (c .if1 .left))
 
 pub check-input-spec : {M : Type 1} → statement M

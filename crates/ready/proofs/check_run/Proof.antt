@@ -25,7 +25,8 @@ returns c =
     let a = c .before .before .before .before .before .before .before .before .before .before .before .before .args in
     c .refused .ensures ∙ ap refusedOf (c .before .enum-told2 .given .1)
     ∙ tables-refused (a .types .now) (a .nodes .now) (a .arrows .now) (a .program .now) (a .hashes .now) (a .given .now) (a .witness .now) (a .witness-bits)
-    (a .input .now) (a .input-bits) (a .cells) (a .frames) (a .answer) _ (sym (ap (λ s. s .0) (c .before .before .before .hash-tables .ensures)) ∙ ap checkOf (c .before .enum-told2 .given .1))
+    (a .input .now) (a .input-bits) (a .cells) (a .frames) (a .answer) _
+    (sym (ap (λ s. s .0) (c .before .before .before .hash-tables .ensures)) ∙ ap checkOf (c .before .enum-told2 .given .1))
 
 check-ready-requires : tie.Need-check-ready-requires
 check-ready-requires c κs =
@@ -39,7 +40,9 @@ check-ready-requires c κs =
     )
 
 returns-2 : tie.Need-returns-2
-returns-2 c = c .check-ready .ensures _ _ _ (sym (ap (λ s. s .0) (c .before .before .before .before .hash-tables .ensures)) ∙ ap checkOf (c .before .before .enum-told .given .1))
+returns-2 c =
+    c .check-ready .ensures _ _ _
+    (sym (ap (λ s. s .0) (c .before .before .before .before .hash-tables .ensures)) ∙ ap checkOf (c .before .before .enum-told .given .1))
 
 pub check-run-spec : {M : Type 1} → statement M
 check-run-spec =

@@ -17,7 +17,8 @@ witness-at-requires c κs = search needs
 
 returns : tie.Need-returns
 returns c = λ bits hashes. (let a = c .before .before .before .before .before .before .before .before .args in
-    ends-here (typeRecords (a .types .now)) (nodesOf bits hashes (nodeRecords (a .nodes .now))) (arrowRecords (a .arrows .now)) (take (a .count) (streamOf (a .witness .now))) (a .i) (a .p)
+    ends-here (typeRecords (a .types .now)) (nodesOf bits hashes (nodeRecords (a .nodes .now))) (arrowRecords (a .arrows .now))
+    (take (a .count) (streamOf (a .witness .now))) (a .i) (a .p)
     (sym (c .before .witness-at .ensures bits hashes) ∙ not-true _ (c .if1 .taken)))
 
 arrow-at-requires : tie.Need-arrow-at-requires
@@ -29,8 +30,10 @@ value-end-requires c κs = search needs
 returns-2 : tie.Need-returns-2
 returns-2 c = λ bits hashes. (let a = c .before .before .before .before .before .before .before .before .before .before .args in
     c .value-end .ensures
-    ∙ ends-there (typeRecords (a .types .now)) (nodesOf bits hashes (nodeRecords (a .nodes .now))) (arrowRecords (a .arrows .now)) (take (a .count) (streamOf (a .witness .now))) (a .i) (a .p)
-    (sym (c .before .before .before .witness-at .ensures bits hashes) ∙ not-false _ (c .before .before .if1 .left)) (arrowOf (c .before .arrow-at .result)) (c .before .arrow-at .ensures))
+    ∙ ends-there (typeRecords (a .types .now)) (nodesOf bits hashes (nodeRecords (a .nodes .now))) (arrowRecords (a .arrows .now))
+    (take (a .count) (streamOf (a .witness .now))) (a .i) (a .p)
+    (sym (c .before .before .before .witness-at .ensures bits hashes) ∙ not-false _ (c .before .before .if1 .left))
+    (arrowOf (c .before .arrow-at .result)) (c .before .arrow-at .ensures))
 
 pub node-end-spec : {M : Type 1} → statement M
 node-end-spec =

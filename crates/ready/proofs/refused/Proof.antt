@@ -11,7 +11,9 @@ no-run-requires : tie.Need-no-run-requires
 no-run-requires c κs = search needs
 
 returns : tie.Need-returns
-returns c = ap (λ (said : RunAnswer). record { answer = said; widths = zeros typeCount; next = zeros typeCount; positions = zeros nodeCount }) (c .no-run .ensures)
+returns c =
+    ap (λ (said : RunAnswer). record { answer = said; widths = zeros typeCount; next = zeros typeCount; positions = zeros nodeCount })
+    (c .no-run .ensures)
 
 pub refused-spec : {M : Type 1} → statement M
 refused-spec = tie.close (tie.spec no-run-requires returns)

@@ -10,7 +10,9 @@ record-at-requires : tie.Need-record-at-requires
 record-at-requires c κs = search needs
 
 returns : tie.Need-returns
-returns c = λ bits hashes. witness-is bits hashes (nodeRecords (c .before .before .before .args .nodes .now)) (c .before .before .before .args .i) (recordOf (c .before .record-at .result)) (c .before .record-at .ensures)
+returns c =
+    λ bits hashes. witness-is bits hashes (nodeRecords (c .before .before .before .args .nodes .now)) (c .before .before .before .args .i)
+    (recordOf (c .before .record-at .result)) (c .before .record-at .ensures)
 
 pub witness-at-spec : {M : Type 1} → statement M
 witness-at-spec = tie.close (tie.spec record-at-requires returns)

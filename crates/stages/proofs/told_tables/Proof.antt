@@ -102,7 +102,8 @@ walk-requires c κs = search needs
 
 returns-6 : tie.Need-returns-6
 returns-6 c =
-    let args = c .before .before .before .before .before .before .before .before .before .before .before .before .before .before .before .before .before .args in
+    let args =
+    c .before .before .before .before .before .before .before .before .before .before .before .before .before .before .before .before .before .args in
     let check-count-call = c .before .before .before .before .before .before .before .before .before .before .before .before .check-count in
     let enum-told-found = c .before .before .before .before .before .before .before .before .before .before .enum-told in
     let type-count-call = c .before .before .before .before .before .before .before .before .before .type-count in

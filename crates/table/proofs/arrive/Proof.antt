@@ -26,11 +26,13 @@ enum-known-both c = search needs
 
 returns : tie.Need-returns
 returns c =
-    turn-passed _ _ _ _ _ _ _ (c .before .before .before .before .in-order .ensures) (c .before .before .before .allowed .ensures) (c .before .before .first-refusal .ensures) (ap checkOf (c .enum-told .given .1))
+    turn-passed _ _ _ _ _ _ _ (c .before .before .before .before .in-order .ensures) (c .before .before .before .allowed .ensures)
+    (c .before .before .first-refusal .ensures) (ap checkOf (c .enum-told .given .1))
 
 returns-2 : tie.Need-returns-2
 returns-2 c =
-    turn-refused _ _ _ _ _ _ _ (c .before .before .before .before .before .in-order .ensures) (c .before .before .before .before .allowed .ensures) (c .before .before .before .first-refusal .ensures) _ (ap checkOf (c .before .both .given .1))
+    turn-refused _ _ _ _ _ _ _ (c .before .before .before .before .before .in-order .ensures) (c .before .before .before .before .allowed .ensures)
+    (c .before .before .before .first-refusal .ensures) _ (ap checkOf (c .before .both .given .1))
 
 pub arrive-spec : {M : Type 1} → statement M
 arrive-spec =

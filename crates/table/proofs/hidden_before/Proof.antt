@@ -26,13 +26,18 @@ hides-requires : tie.Need-hides-requires Inv-loop μ-loop
 hides-requires c κs = search needs
 
 returns : tie.Need-returns Inv-loop μ-loop
-returns c = sym (c .before .before .before .loop .inv .0 ∙ any-found _ _ (c .before .before .loop-test .taken) (sym (c .before .hides .ensures) ∙ c .if1 .taken))
+returns c =
+    sym (c .before .before .before .loop .inv .0 ∙ any-found _ _ (c .before .before .loop-test .taken) (sym (c .before .hides .ensures) ∙ c .if1 .taken))
 
 loop-less : tie.Need-loop-less Inv-loop μ-loop
 loop-less c = search needs
 
 loop-again : tie.Need-loop-again Inv-loop μ-loop
-loop-again c = (c .before .before .before .loop .inv .0 ∙ any-later _ _ (c .before .before .loop-test .taken) (sym (c .before .hides .ensures) ∙ c .if1 .left), omega arith)
+loop-again c = (
+  c .before .before .before .loop .inv .0
+      ∙ any-later _ _ (c .before .before .loop-test .taken) (sym (c .before .hides .ensures) ∙ c .if1 .left),
+  omega arith,
+)
 
 returns-2 : tie.Need-returns-2 Inv-loop μ-loop
 returns-2 c = sym (c .before .loop .inv .0 ∙ any-none _ _ (c .loop-test .left))

@@ -51,7 +51,8 @@ returns-5 c = rw (c .before .match .keys5) (c .word-within .ensures)
 returns-6 : tie.Need-returns-6
 returns-6 c =
     sym (rule-unknown _ _ _ _ _ _ _
-    (above-kinds _ (c .before .pre) (c .match .rest .0 .0 .0 .0 .1) (c .match .rest .0 .0 .0 .1) (c .match .rest .0 .0 .1) (c .match .rest .0 .1) (c .match .rest .1)))
+    (above-kinds _ (c .before .pre) (c .match .rest .0 .0 .0 .0 .1) (c .match .rest .0 .0 .0 .1) (c .match .rest .0 .0 .1)
+    (c .match .rest .0 .1) (c .match .rest .1)))
 
 pub other-holds-spec : {M : Type 1} → statement M
 other-holds-spec =

@@ -21,7 +21,13 @@ unused-requires : tie.Need-unused-requires
 unused-requires c κs = search needs
 
 returns-3 : tie.Need-returns-3
-returns-3 c = rw (rule-by, lt-leb _ _ (c .before .before .before .if1 .left), lt-leb _ _ (c .before .before .if2 .left), le-leb _ _ (c .before .if3 .taken)) (c .unused .ensures)
+returns-3 c =
+    rw (
+      rule-by,
+      lt-leb _ _ (c .before .before .before .if1 .left),
+      lt-leb _ _ (c .before .before .if2 .left),
+      le-leb _ _ (c .before .if3 .taken),
+    ) (c .unused .ensures)
 
 other-holds-requires : tie.Need-other-holds-requires
 other-holds-requires c κs = search needs

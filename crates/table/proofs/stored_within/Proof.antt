@@ -20,18 +20,22 @@ add-if1 c = search needs
 
 returns : tie.Need-returns
 unfolding every
-returns c = let h : c .before .before .before .args .bytes < c .before .before .before .args .r .first + c .before .before .before .args .size = omega arith in rw (lt-leb _ _ h)
+returns c =
+    let h : c .before .before .before .args .bytes < c .before .before .before .args .r .first + c .before .before .before .args .size =
+    omega arith in rw (lt-leb _ _ h)
 
 returns-2 : tie.Need-returns-2
 unfolding every
 returns-2 c =
-    let h : c .before .before .before .before .before .args .r .first + c .before .before .before .before .before .args .size ≤ c .before .before .before .before .before .args .bytes = omega arith in
+    let h : c .before .before .before .before .before .args .r .first + c .before .before .before .before .before .args .size
+    ≤ c .before .before .before .before .before .args .bytes = omega arith in
     rw (le-leb _ _ h, ne-eqb _ _ (c .if2 .taken))
 
 returns-3 : tie.Need-returns-3
 unfolding every
 returns-3 c =
-    let h : c .before .before .before .before .before .before .args .r .first + c .before .before .before .before .before .before .args .size ≤ c .before .before .before .before .before .before .args .bytes = omega arith in
+    let h : c .before .before .before .before .before .before .args .r .first + c .before .before .before .before .before .before .args .size
+    ≤ c .before .before .before .before .before .before .args .bytes = omega arith in
     rw (le-leb _ _ h, eq-eqb _ _ (c .before .if2 .left)) (sym (every-one _))
 
 pub stored-within-spec : {M : Type 1} → statement M

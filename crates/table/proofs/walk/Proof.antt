@@ -23,15 +23,19 @@ returns : tie.Need-returns
 returns c = count-refuses-walk _ _ _ _ (c .before .before .check-count .ensures) (c .enum-told2 .given .1)
 
 sub-last : tie.Need-sub-last
-sub-last c = fine-records (c .before .before .before .before .before .args .nodes .now) (sym (c .before .before .check-count .ensures) ∙ ap checkOf (c .enum-told .given .1)) .0
+sub-last c =
+    fine-records (c .before .before .before .before .before .args .nodes .now)
+    (sym (c .before .before .check-count .ensures) ∙ ap checkOf (c .enum-told .given .1)) .0
 
 cast-last : tie.Need-cast-last
 cast-last c =
-    let some = fine-records (c .before .before .before .before .before .args .nodes .now) (sym (c .before .before .check-count .ensures) ∙ ap checkOf (c .enum-told .given .1)) in record { fits = omega arith }
+    let some = fine-records (c .before .before .before .before .before .args .nodes .now)
+    (sym (c .before .before .check-count .ensures) ∙ ap checkOf (c .enum-told .given .1)) in record { fits = omega arith }
 
 walk-from-requires : tie.Need-walk-from-requires
 walk-from-requires c κs =
-    let some = fine-records (c .before .before .before .before .before .args .nodes .now) (sym (c .before .before .check-count .ensures) ∙ ap checkOf (c .enum-told .given .1)) in
+    let some = fine-records (c .before .before .before .before .before .args .nodes .now)
+    (sym (c .before .before .check-count .ensures) ∙ ap checkOf (c .enum-told .given .1)) in
     let n = length-records (c .before .before .before .before .before .args .nodes .now) in
     (omega arith, omega arith)
 
@@ -48,7 +52,9 @@ returns-2 : tie.Need-returns-2
 returns-2 c =
     let told = c .before .enum-told4 .given .1 in
     c .finished .ensures ∙ ap finishOf told
-    ∙ walk-stops _ _ (sym (c .before .before .before .before .before .before .check-count .ensures) ∙ ap checkOf (c .before .before .before .before .enum-told .given .1)) _ (sym (c .before .before .before .walk-from .ensures) ∙ ap walkedOf told)
+    ∙ walk-stops _ _
+    (sym (c .before .before .before .before .before .before .check-count .ensures) ∙ ap checkOf
+    (c .before .before .before .before .enum-told .given .1)) _ (sym (c .before .before .before .walk-from .ensures) ∙ ap walkedOf told)
 
 hidden-at-requires : tie.Need-hidden-at-requires
 hidden-at-requires c κs = search needs
@@ -56,13 +62,21 @@ hidden-at-requires c κs = search needs
 returns-3 : tie.Need-returns-3
 unfolding require
 returns-3 c =
-    let p = walk-ends _ _ (sym (c .before .before .before .before .before .before .before .check-count .ensures) ∙ ap checkOf (c .before .before .before .before .before .enum-told .given .1)) _ _ (sym (c .before .before .before .before .walk-from .ensures) ∙ ap walkedOf (c .before .before .enum-told3 .given .1)) (c .before .hidden-at .ensures) in
+    let p = walk-ends _ _
+    (sym (c .before .before .before .before .before .before .before .check-count .ensures)
+    ∙ ap checkOf (c .before .before .before .before .before .enum-told .given .1)) _ _
+    (sym (c .before .before .before .before .walk-from .ensures) ∙ ap walkedOf (c .before .before .enum-told3 .given .1))
+    (c .before .hidden-at .ensures) in
     rw (c .if1 .taken) at p
 
 returns-4 : tie.Need-returns-4
 unfolding require
 returns-4 c =
-    let p = walk-ends _ _ (sym (c .before .before .before .before .before .before .before .check-count .ensures) ∙ ap checkOf (c .before .before .before .before .before .enum-told .given .1)) _ _ (sym (c .before .before .before .before .walk-from .ensures) ∙ ap walkedOf (c .before .before .enum-told3 .given .1)) (c .before .hidden-at .ensures) in
+    let p = walk-ends _ _
+    (sym (c .before .before .before .before .before .before .before .check-count .ensures)
+    ∙ ap checkOf (c .before .before .before .before .before .enum-told .given .1)) _ _
+    (sym (c .before .before .before .before .walk-from .ensures) ∙ ap walkedOf (c .before .before .enum-told3 .given .1))
+    (c .before .hidden-at .ensures) in
     rw (c .if1 .left) at p
 
 pub walk-spec : {M : Type 1} → statement M

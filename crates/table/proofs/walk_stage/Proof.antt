@@ -27,7 +27,10 @@ walk-requires : tie.Need-walk-requires
 walk-requires c κs = search needs
 
 returns-3 : tie.Need-returns-3
-returns-3 c = c .walk .ensures ∙ stage-walks _ _ _ (sym (c .before .before .before .before .check-records .ensures) ∙ ap checkOf (c .before .before .enum-told .given .1)) (c .before .if1 .left)
+returns-3 c =
+    c .walk .ensures
+    ∙ stage-walks _ _ _ (sym (c .before .before .before .before .check-records .ensures) ∙ ap checkOf (c .before .before .enum-told .given .1))
+    (c .before .if1 .left)
 
 pub walk-stage-spec : {M : Type 1} → statement M
 walk-stage-spec =

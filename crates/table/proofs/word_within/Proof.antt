@@ -33,7 +33,8 @@ returns-4 : tie.Need-returns-4
 returns-4 c =
     let one-or-more = c .before .before .before .before .before .before .if1 .left in
     let few = c .before .before .before .before .if2 .left in
-    let e = ap₂ (λ (x y : ℕ). leb ((x + y + 7) / 8) (c .before .before .before .before .before .before .before .before .args .bytes)) (c .before .place .ensures .0) (c .word-bits .ensures .0 ∙ word-has _ one-or-more few) in
+    let e = ap₂ (λ (x y : ℕ). leb ((x + y + 7) / 8) (c .before .before .before .before .before .before .before .before .args .bytes))
+    (c .before .place .ensures .0) (c .word-bits .ensures .0 ∙ word-has _ one-or-more few) in
     e ∙ word-end _ _ _ _ one-or-more few (c .before .before .if3 .left)
 
 pub word-within-spec : {M : Type 1} → statement M

@@ -44,13 +44,20 @@ unfolding arrayOf
 returns c =
     let b = c .before .before .args .types .now in
     let s : length (typeRecords b) ≡ length b / typeBytes = length-records b in
-    table-uncounted b (⊎-elim (λ w. counted-none (length (typeRecords b)) typeCount (omega arith)) (λ w. counted-over (length (typeRecords b)) typeCount (omega (arith, ltb-true typeCount (length b / typeBytes) (w .1 .taken)))) (c .if1 .came))
+    table-uncounted b (⊎-elim (λ w. counted-none (length (typeRecords b)) typeCount (omega arith)) (λ w. counted-over
+    (length (typeRecords b)) typeCount (omega (arith, ltb-true typeCount (length b / typeBytes) (w .1 .taken)))) (c .if1 .came))
 
 loop-holds : tie.Need-loop-holds Inv-loop μ-loop
 loop-holds c =
     let b = c .before .before .before .args .types .now in
-    let T = typeRecords b in
-    (pass-start (typeRule T) (length b / typeBytes), sym (array-none (widthFor T)), sym (array-none (nextAt T)), ltb-false _ _ (c .if2 .left), length-replicate {A = ℕ} typeCount 0, length-replicate {A = ℕ} typeCount 0)
+    let T = typeRecords b in (
+      pass-start (typeRule T) (length b / typeBytes),
+      sym (array-none (widthFor T)),
+      sym (array-none (nextAt T)),
+      ltb-false _ _ (c .if2 .left),
+      length-replicate {A = ℕ} typeCount 0,
+      length-replicate {A = ℕ} typeCount 0,
+    )
 
 slice-aggregate-judge : tie.Need-slice-aggregate-judge Inv-loop μ-loop
 slice-aggregate-judge c = search needs
@@ -75,8 +82,10 @@ returns-2 c =
     let n = length b / typeBytes in
     let s : length T ≡ n = length-records b in
     let some = counted-fine (length T) typeCount (omega arith) (omega arith) in
-    let broken = bad-record T (l .i) (omega arith) (sym (c .enum-told .given .1) ∙ c .before .before .judge .ensures ∙ ap (λ (w : List ℕ). recordJudged T w (l .i)) (l .inv .1)) in
-    let first : firstFailing (typeRule T) (length T) 0 ≡ l .i = ap (λ (k : ℕ). firstFailing (typeRule T) k 0) s ∙ first-failed (typeRule T) n (l .i) (omega arith) broken (l .inv .0) in
+    let broken = bad-record T (l .i) (omega arith)
+    (sym (c .enum-told .given .1) ∙ c .before .before .judge .ensures ∙ ap (λ (w : List ℕ). recordJudged T w (l .i)) (l .inv .1)) in
+    let first : firstFailing (typeRule T) (length T) 0 ≡ l .i =
+    ap (λ (k : ℕ). firstFailing (typeRule T) k 0) s ∙ first-failed (typeRule T) n (l .i) (omega arith) broken (l .inv .0) in
     ap₂ (tabled (Refused (TypeRecord (l .i)))) (l .inv .1) (l .inv .2) ∙ table-bad b some (l .i) (omega arith) first
 
 slice-aggregate-next-record : tie.Need-slice-aggregate-next-record Inv-loop μ-loop
@@ -114,9 +123,12 @@ loop-again c =
     let n = length b / typeBytes in
     let s : length T ≡ n = length-records b in
     let g = c .before .before .before .before .width .given in
-    let r = good-record T (l .i) (omega arith) (g .0 .0) (sym (g .1) ∙ c .before .before .before .before .before .before .judge .ensures ∙ ap (λ (w : List ℕ). recordJudged T w (l .i)) (l .inv .1)) in
+    let r = good-record T (l .i) (omega arith) (g .0 .0)
+    (sym (g .1) ∙ c .before .before .before .before .before .before .judge .ensures ∙ ap (λ (w : List ℕ). recordJudged T w (l .i)) (l .inv .1)) in
     let x : c .next-record .result ≡ nextAt T (l .i) =
-    c .next-record .ensures ∙ ap₂ (λ (w y : List ℕ). recordNext (typeAt T (l .i)) w y (l .i)) (l .inv .1) (l .inv .2) ∙ next-record T (l .i) (omega arith) (r .0) in (
+    c .next-record .ensures
+    ∙ ap₂ (λ (w y : List ℕ). recordNext (typeAt T (l .i)) w y (l .i)) (l .inv .1) (l .inv .2)
+    ∙ next-record T (l .i) (omega arith) (r .0) in (
       pass-more (typeRule T) n (l .i) (omega arith) (r .1) (l .inv .0),
       ap (λ (w : List ℕ). set w (l .i) (g .0 .0)) (l .inv .1) ∙ array-more (widthFor T) (l .i) (g .0 .0) (omega arith) (r .2),
       ap (λ (w : List ℕ). set w (l .i) (c .next-record .result)) (l .inv .2) ∙ array-more (nextAt T) (l .i) (c .next-record .result) (omega arith) x,
@@ -134,8 +146,10 @@ returns-3 c =
     let s : length T ≡ n = length-records b in
     let some = counted-fine (length T) typeCount (omega arith) (omega arith) in
     let y : l .i ≡ n = omega arith in
-    let first : firstFailing (typeRule T) (length T) 0 ≡ n = ap (λ (k : ℕ). firstFailing (typeRule T) k 0) s ∙ none-failed (typeRule T) n (l .i) (omega arith) (l .inv .0) in
-    ap₂ (tabled (Records n)) (l .inv .1 ∙ ap (λ (k : ℕ). arrayOf k (widthFor T)) y) (l .inv .2 ∙ ap (λ (k : ℕ). arrayOf k (nextAt T)) y) ∙ table-good b some n (sym s) first
+    let first : firstFailing (typeRule T) (length T) 0 ≡ n =
+    ap (λ (k : ℕ). firstFailing (typeRule T) k 0) s ∙ none-failed (typeRule T) n (l .i) (omega arith) (l .inv .0) in
+    ap₂ (tabled (Records n)) (l .inv .1 ∙ ap (λ (k : ℕ). arrayOf k (widthFor T)) y) (l .inv .2 ∙ ap (λ (k : ℕ). arrayOf k (nextAt T)) y)
+    ∙ table-good b some n (sym s) first
 
 pub check-types-spec : {M : Type 1} → statement M
 check-types-spec =

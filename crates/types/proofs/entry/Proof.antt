@@ -28,13 +28,15 @@ returns-3 c =
 returns-4 : tie.Need-returns-4
 returns-4 c =
     let a = c .before .before .before .before .before .args in
-    sym (next-padded (a .tag) (a .a) (a .b) (a .left) (a .right) (a .own) (sym (c .before .before .before .if1 .left) ∙ c .before .before .before .before .unpadded .ensures)
+    sym (next-padded (a .tag) (a .a) (a .b) (a .left) (a .right) (a .own)
+    (sym (c .before .before .before .if1 .left) ∙ c .before .before .before .before .unpadded .ensures)
     ∙ next-left (a .tag) (a .a) (a .b) (a .left) (a .right) (a .own) (c .before .before .if2 .left) (c .before .if3 .left) (c .if4 .taken))
 
 returns-5 : tie.Need-returns-5
 returns-5 c =
     let a = c .before .before .before .before .before .args in
-    sym (next-padded (a .tag) (a .a) (a .b) (a .left) (a .right) (a .own) (sym (c .before .before .before .if1 .left) ∙ c .before .before .before .before .unpadded .ensures)
+    sym (next-padded (a .tag) (a .a) (a .b) (a .left) (a .right) (a .own)
+    (sym (c .before .before .before .if1 .left) ∙ c .before .before .before .before .unpadded .ensures)
     ∙ next-own (a .tag) (a .a) (a .b) (a .left) (a .right) (a .own) (c .before .if3 .left) (c .if4 .left))
 
 pub entry-spec : {M : Type 1} → statement M

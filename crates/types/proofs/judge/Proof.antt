@@ -41,7 +41,10 @@ returns c =
     let x : c .before .before .before .index .result ≡ R .left = c .before .before .before .index .ensures .0 ∙ ap (λ (r : TypeRecord). r .left) own in
     let y : c .before .before .index2 .result ≡ R .right = c .before .before .index2 .ensures .0 ∙ ap (λ (r : TypeRecord). r .right) own in
     let rule : c .before .parts-fit .result ≡ partsRule T (a .i) (R .tag) (R .left) (R .right) =
-    c .before .parts-fit .ensures ∙ rule-any [] T (a .i) (c .before .before .before .before .record-at .result .tag) (c .before .before .before .index .result) (c .before .before .index2 .result) ∙ rule-of T (a .i) t x y in
+    c .before .parts-fit .ensures
+    ∙ rule-any [] T (a .i) (c .before .before .before .before .record-at .result .tag) (c .before .before .before .index .result)
+    (c .before .before .index2 .result)
+    ∙ rule-of T (a .i) t x y in
     let again = anyBelow (a .i) (sameType T (a .i)) in
     let W = partsWidth (R .tag) (getD w (R .left) 0) (getD w (R .right) 0) in
     ap (λ (p : Bool). verdict p (leb W typeWidth) again W) (sym (not-true _ (c .if1 .taken)) ∙ rule)
@@ -60,21 +63,27 @@ wide-requires c κs = search needs
 
 returns-2 : tie.Need-returns-2
 returns-2 c =
+    let record-at-call = c .before .before .before .before .before .before .before .before .before .record-at in
+    let index-call = c .before .before .before .before .before .before .before .before .index in
+    let index2-call = c .before .before .before .before .before .before .before .index2 in
+    let parts-fit-call = c .before .before .before .before .before .before .parts-fit in
     let a = c .before .before .before .before .before .before .before .before .before .before .before .before .args in
     let w = a .widths .now in
     let T = typeRecords (a .types .now) in
     let R = typeAt T (a .i) in
     let own = c .before .before .before .before .before .before .before .before .before .record-at .ensures in
-    let t : c .before .before .before .before .before .before .before .before .before .record-at .result .tag ≡ R .tag = ap (λ (r : TypeRecord). r .tag) own in
-    let x : c .before .before .before .before .before .before .before .before .index .result ≡ R .left = c .before .before .before .before .before .before .before .before .index .ensures .0 ∙ ap (λ (r : TypeRecord). r .left) own in
-    let y : c .before .before .before .before .before .before .before .index2 .result ≡ R .right = c .before .before .before .before .before .before .before .index2 .ensures .0 ∙ ap (λ (r : TypeRecord). r .right) own in
-    let rule : c .before .before .before .before .before .before .parts-fit .result ≡ partsRule T (a .i) (R .tag) (R .left) (R .right) =
-    c .before .before .before .before .before .before .parts-fit .ensures ∙ rule-any [] T (a .i) (c .before .before .before .before .before .before .before .before .before .record-at .result .tag) (c .before .before .before .before .before .before .before .before .index .result) (c .before .before .before .before .before .before .before .index2 .result) ∙ rule-of T (a .i) t x y in
+    let t : record-at-call .result .tag ≡ R .tag = ap (λ (r : TypeRecord). r .tag) own in
+    let x : index-call .result ≡ R .left = index-call .ensures .0 ∙ ap (λ (r : TypeRecord). r .left) own in
+    let y : index2-call .result ≡ R .right = index2-call .ensures .0 ∙ ap (λ (r : TypeRecord). r .right) own in
+    let rule : parts-fit-call .result ≡ partsRule T (a .i) (R .tag) (R .left) (R .right) =
+    parts-fit-call .ensures ∙ rule-any [] T (a .i) (record-at-call .result .tag) (index-call .result) (index2-call .result) ∙ rule-of T (a .i) t x y in
     let again = anyBelow (a .i) (sameType T (a .i)) in
     let W = partsWidth (R .tag) (getD w (R .left) 0) (getD w (R .right) 0) in
     let ok : true ≡ partsRule T (a .i) (R .tag) (R .left) (R .right) = sym (not-false _ (c .before .before .before .before .before .if1 .left)) ∙ rule in
     let v : c .before .before .parts-width .result ≡ W =
-    c .before .before .parts-width .ensures ∙ width-of t (c .before .before .before .before .width-at .ensures ∙ ap (λ (k : ℕ). getD w k 0) x) (c .before .before .before .width-at2 .ensures ∙ ap (λ (k : ℕ). getD w k 0) y) in
+    c .before .before .parts-width .ensures
+    ∙ width-of t (c .before .before .before .before .width-at .ensures ∙ ap (λ (k : ℕ). getD w k 0) x)
+    (c .before .before .before .width-at2 .ensures ∙ ap (λ (k : ℕ). getD w k 0) y) in
     let wide : false ≡ leb W typeWidth = sym (lt-leb W typeWidth (omega arith)) in
     ap₂ (λ (p f : Bool). verdict p f again W) ok wide
 
@@ -83,21 +92,29 @@ repeated-requires c κs = search needs
 
 returns-3 : tie.Need-returns-3
 returns-3 c =
+    let record-at-call = c .before .before .before .before .before .before .before .before .before .before .before .record-at in
+    let index-call = c .before .before .before .before .before .before .before .before .before .before .index in
+    let index2-call = c .before .before .before .before .before .before .before .before .before .index2 in
+    let parts-fit-call = c .before .before .before .before .before .before .before .before .parts-fit in
+    let parts-width-call = c .before .before .before .before .parts-width in
     let a = c .before .before .before .before .before .before .before .before .before .before .before .before .before .before .args in
     let w = a .widths .now in
     let T = typeRecords (a .types .now) in
     let R = typeAt T (a .i) in
     let own = c .before .before .before .before .before .before .before .before .before .before .before .record-at .ensures in
-    let t : c .before .before .before .before .before .before .before .before .before .before .before .record-at .result .tag ≡ R .tag = ap (λ (r : TypeRecord). r .tag) own in
-    let x : c .before .before .before .before .before .before .before .before .before .before .index .result ≡ R .left = c .before .before .before .before .before .before .before .before .before .before .index .ensures .0 ∙ ap (λ (r : TypeRecord). r .left) own in
-    let y : c .before .before .before .before .before .before .before .before .before .index2 .result ≡ R .right = c .before .before .before .before .before .before .before .before .before .index2 .ensures .0 ∙ ap (λ (r : TypeRecord). r .right) own in
-    let rule : c .before .before .before .before .before .before .before .before .parts-fit .result ≡ partsRule T (a .i) (R .tag) (R .left) (R .right) =
-    c .before .before .before .before .before .before .before .before .parts-fit .ensures ∙ rule-any [] T (a .i) (c .before .before .before .before .before .before .before .before .before .before .before .record-at .result .tag) (c .before .before .before .before .before .before .before .before .before .before .index .result) (c .before .before .before .before .before .before .before .before .before .index2 .result) ∙ rule-of T (a .i) t x y in
+    let t : record-at-call .result .tag ≡ R .tag = ap (λ (r : TypeRecord). r .tag) own in
+    let x : index-call .result ≡ R .left = index-call .ensures .0 ∙ ap (λ (r : TypeRecord). r .left) own in
+    let y : index2-call .result ≡ R .right = index2-call .ensures .0 ∙ ap (λ (r : TypeRecord). r .right) own in
+    let rule : parts-fit-call .result ≡ partsRule T (a .i) (R .tag) (R .left) (R .right) =
+    parts-fit-call .ensures ∙ rule-any [] T (a .i) (record-at-call .result .tag) (index-call .result) (index2-call .result) ∙ rule-of T (a .i) t x y in
     let again = anyBelow (a .i) (sameType T (a .i)) in
     let W = partsWidth (R .tag) (getD w (R .left) 0) (getD w (R .right) 0) in
-    let ok : true ≡ partsRule T (a .i) (R .tag) (R .left) (R .right) = sym (not-false _ (c .before .before .before .before .before .before .before .if1 .left)) ∙ rule in
-    let v : c .before .before .before .before .parts-width .result ≡ W =
-    c .before .before .before .before .parts-width .ensures ∙ width-of t (c .before .before .before .before .before .before .width-at .ensures ∙ ap (λ (k : ℕ). getD w k 0) x) (c .before .before .before .before .before .width-at2 .ensures ∙ ap (λ (k : ℕ). getD w k 0) y) in
+    let ok : true ≡ partsRule T (a .i) (R .tag) (R .left) (R .right) =
+    sym (not-false _ (c .before .before .before .before .before .before .before .if1 .left)) ∙ rule in
+    let v : parts-width-call .result ≡ W =
+    parts-width-call .ensures
+    ∙ width-of t (c .before .before .before .before .before .before .width-at .ensures ∙ ap (λ (k : ℕ). getD w k 0) x)
+    (c .before .before .before .before .before .width-at2 .ensures ∙ ap (λ (k : ℕ). getD w k 0) y) in
     let fits : true ≡ leb W typeWidth = sym (le-leb W typeWidth (omega arith)) in
     let twice : true ≡ again = sym (c .if3 .taken) ∙ c .before .repeated .ensures in
     ap (λ (r : Bool). verdict true true r W) twice ∙ ap₂ (λ (p f : Bool). verdict p f again W) ok fits
@@ -107,21 +124,29 @@ cast-t11 c = search needs
 
 returns-4 : tie.Need-returns-4
 returns-4 c =
+    let record-at-call = c .before .before .before .before .before .before .before .before .before .before .before .record-at in
+    let index-call = c .before .before .before .before .before .before .before .before .before .before .index in
+    let index2-call = c .before .before .before .before .before .before .before .before .before .index2 in
+    let parts-fit-call = c .before .before .before .before .before .before .before .before .parts-fit in
+    let parts-width-call = c .before .before .before .before .parts-width in
     let a = c .before .before .before .before .before .before .before .before .before .before .before .before .before .before .args in
     let w = a .widths .now in
     let T = typeRecords (a .types .now) in
     let R = typeAt T (a .i) in
     let own = c .before .before .before .before .before .before .before .before .before .before .before .record-at .ensures in
-    let t : c .before .before .before .before .before .before .before .before .before .before .before .record-at .result .tag ≡ R .tag = ap (λ (r : TypeRecord). r .tag) own in
-    let x : c .before .before .before .before .before .before .before .before .before .before .index .result ≡ R .left = c .before .before .before .before .before .before .before .before .before .before .index .ensures .0 ∙ ap (λ (r : TypeRecord). r .left) own in
-    let y : c .before .before .before .before .before .before .before .before .before .index2 .result ≡ R .right = c .before .before .before .before .before .before .before .before .before .index2 .ensures .0 ∙ ap (λ (r : TypeRecord). r .right) own in
-    let rule : c .before .before .before .before .before .before .before .before .parts-fit .result ≡ partsRule T (a .i) (R .tag) (R .left) (R .right) =
-    c .before .before .before .before .before .before .before .before .parts-fit .ensures ∙ rule-any [] T (a .i) (c .before .before .before .before .before .before .before .before .before .before .before .record-at .result .tag) (c .before .before .before .before .before .before .before .before .before .before .index .result) (c .before .before .before .before .before .before .before .before .before .index2 .result) ∙ rule-of T (a .i) t x y in
+    let t : record-at-call .result .tag ≡ R .tag = ap (λ (r : TypeRecord). r .tag) own in
+    let x : index-call .result ≡ R .left = index-call .ensures .0 ∙ ap (λ (r : TypeRecord). r .left) own in
+    let y : index2-call .result ≡ R .right = index2-call .ensures .0 ∙ ap (λ (r : TypeRecord). r .right) own in
+    let rule : parts-fit-call .result ≡ partsRule T (a .i) (R .tag) (R .left) (R .right) =
+    parts-fit-call .ensures ∙ rule-any [] T (a .i) (record-at-call .result .tag) (index-call .result) (index2-call .result) ∙ rule-of T (a .i) t x y in
     let again = anyBelow (a .i) (sameType T (a .i)) in
     let W = partsWidth (R .tag) (getD w (R .left) 0) (getD w (R .right) 0) in
-    let ok : true ≡ partsRule T (a .i) (R .tag) (R .left) (R .right) = sym (not-false _ (c .before .before .before .before .before .before .before .if1 .left)) ∙ rule in
-    let v : c .before .before .before .before .parts-width .result ≡ W =
-    c .before .before .before .before .parts-width .ensures ∙ width-of t (c .before .before .before .before .before .before .width-at .ensures ∙ ap (λ (k : ℕ). getD w k 0) x) (c .before .before .before .before .before .width-at2 .ensures ∙ ap (λ (k : ℕ). getD w k 0) y) in
+    let ok : true ≡ partsRule T (a .i) (R .tag) (R .left) (R .right) =
+    sym (not-false _ (c .before .before .before .before .before .before .before .if1 .left)) ∙ rule in
+    let v : parts-width-call .result ≡ W =
+    parts-width-call .ensures
+    ∙ width-of t (c .before .before .before .before .before .before .width-at .ensures ∙ ap (λ (k : ℕ). getD w k 0) x)
+    (c .before .before .before .before .before .width-at2 .ensures ∙ ap (λ (k : ℕ). getD w k 0) y) in
     let fits : true ≡ leb W typeWidth = sym (le-leb W typeWidth (omega arith)) in
     let once : false ≡ again = sym (c .if3 .left) ∙ c .before .repeated .ensures in
     ap Width v ∙ ap (λ (r : Bool). verdict true true r W) once ∙ ap₂ (λ (p f : Bool). verdict p f again W) ok fits

@@ -43,11 +43,14 @@ returns c =
     let n = a .next .now in
     let R = typeAt (typeRecords (a .types .now)) (a .i) in
     let own = c .before .before .before .before .before .before .before .record-at .ensures in
-    let x : c .before .before .before .before .before .before .index .result ≡ R .left = c .before .before .before .before .before .before .index .ensures .0 ∙ ap (λ (r : TypeRecord). r .left) own in
-    let y : c .before .before .before .before .before .index2 .result ≡ R .right = c .before .before .before .before .before .index2 .ensures .0 ∙ ap (λ (r : TypeRecord). r .right) own in
+    let x : c .before .before .before .before .before .before .index .result ≡ R .left =
+    c .before .before .before .before .before .before .index .ensures .0 ∙ ap (λ (r : TypeRecord). r .left) own in
+    let y : c .before .before .before .before .before .index2 .result ≡ R .right =
+    c .before .before .before .before .before .index2 .ensures .0 ∙ ap (λ (r : TypeRecord). r .right) own in
     c .entry .ensures
     ∙ next-of (a .i) (ap (λ (r : TypeRecord). r .tag) own)
-    (c .before .before .before .before .width-at .ensures ∙ ap (λ (k : ℕ). getD w k 0) x) (c .before .before .before .width-at2 .ensures ∙ ap (λ (k : ℕ). getD w k 0) y)
+    (c .before .before .before .before .width-at .ensures ∙ ap (λ (k : ℕ). getD w k 0) x)
+    (c .before .before .before .width-at2 .ensures ∙ ap (λ (k : ℕ). getD w k 0) y)
     (c .before .before .next-at .ensures ∙ ap (λ (k : ℕ). getD n k 0) x) (c .before .next-at2 .ensures ∙ ap (λ (k : ℕ). getD n k 0) y)
 
 pub next-record-spec : {M : Type 1} → statement M

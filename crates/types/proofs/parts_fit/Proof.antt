@@ -21,12 +21,14 @@ returns-2 c =
 returns-3 : tie.Need-returns-3
 returns-3 c =
     let a = c .before .before .before .args in
-    sym (rule-pair [] (a .i) (a .tag) (a .left) (a .right) (c .before .before .if1 .left) (c .before .if3 .taken) ∙ every-both _ (ltb (a .right) (a .i)) (lt-ltb (a .left) (a .i) (c .if4 .taken)))
+    sym (rule-pair [] (a .i) (a .tag) (a .left) (a .right) (c .before .before .if1 .left) (c .before .if3 .taken)
+    ∙ every-both _ (ltb (a .right) (a .i)) (lt-ltb (a .left) (a .i) (c .if4 .taken)))
 
 returns-4 : tie.Need-returns-4
 returns-4 c =
     let a = c .before .before .before .args in
-    sym (rule-pair [] (a .i) (a .tag) (a .left) (a .right) (c .before .before .if1 .left) (c .before .if3 .taken) ∙ every-failed _ (ltb (a .right) (a .i) ∷ []) (le-ltb (a .left) (a .i) (c .if4 .left)))
+    sym (rule-pair [] (a .i) (a .tag) (a .left) (a .right) (c .before .before .if1 .left) (c .before .if3 .taken)
+    ∙ every-failed _ (ltb (a .right) (a .i) ∷ []) (le-ltb (a .left) (a .i) (c .if4 .left)))
 
 returns-5 : tie.Need-returns-5
 returns-5 c =

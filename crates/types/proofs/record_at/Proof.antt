@@ -45,7 +45,8 @@ returns-2 c =
     let a = c .before .before .before .before .before .args in
     let e : a .i * typeBytes ≡ typeBytes * a .i = omega arith in
     let tag : getD (a .types .now) (a .i * typeBytes) 0 ≡ (typeRecord (a .types .now) (a .i)) .tag = ap (λ (k : ℕ). getD (a .types .now) k 0) e in
-    let left : c .before .half-at .result ≡ (typeRecord (a .types .now) (a .i)) .left = c .before .half-at .ensures ∙ ap (λ (k : ℕ). be16 (a .types .now) (k + 1)) e in
+    let left : c .before .half-at .result ≡ (typeRecord (a .types .now) (a .i)) .left =
+    c .before .half-at .ensures ∙ ap (λ (k : ℕ). be16 (a .types .now) (k + 1)) e in
     let right : c .half-at2 .result ≡ (typeRecord (a .types .now) (a .i)) .right = c .half-at2 .ensures ∙ ap (λ (k : ℕ). be16 (a .types .now) (k + 3)) e in
     made tag left right ∙ ap recordOf (sym (record-in (a .types .now) (a .i) (omega arith)))
 

@@ -11,7 +11,9 @@ use Rattle.types.proofs.repeated.Statement.{statement}
 use Rattle.types.proofs.repeated.Tie as tie
 
 abbrev Inv-loop : tie.InvT-loop
-Inv-loop types i own j₀ j = (own ≡ recordOf (typeAt (typeRecords types) i)) × (anyBelow i (sameType (typeRecords types) i) ≡ anyBelow j (sameType (typeRecords types) i)) × (j ≤ i)
+Inv-loop types i own j₀ j =
+    (own ≡ recordOf (typeAt (typeRecords types) i))
+    × (anyBelow i (sameType (typeRecords types) i) ≡ anyBelow j (sameType (typeRecords types) i)) × (j ≤ i)
 
 abbrev μ-loop : tie.MeasureT-loop
 μ-loop types i own j₀ j = j

@@ -10,7 +10,8 @@ returns : tie.Need-returns
 returns c =
     let a = c .before .before .before .before .before .before .before .before .args .a in
     let b = c .before .before .before .before .before .before .before .before .args .b in
-    sym (every-held _ _ (eq-eqb (a .tag) (b .tag) (c .before .before .before .before .before .if1 .taken)) ∙ every-both _ _ (eq-eqb (a .left) (b .left) (c .before .before .if2 .taken)))
+    sym (every-held _ _ (eq-eqb (a .tag) (b .tag) (c .before .before .before .before .before .if1 .taken))
+    ∙ every-both _ _ (eq-eqb (a .left) (b .left) (c .before .before .if2 .taken)))
 
 returns-2 : tie.Need-returns-2
 returns-2 c =

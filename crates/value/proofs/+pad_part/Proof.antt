@@ -41,7 +41,22 @@ pad-part-below t =
     and 4 pad-part-kinds.ps (falls 4 pad-part-kinds.ps _<_ μ-pad-part t) pad-part.Pre
 
 abbrev pad-part-calls : ℕ → pad-part-lts.Claims
-pad-part-calls t = (step-at-reads.Asked, step-at-reads.Learnt, pad-plain-reads.Asked, pad-plain-reads.Learnt, bit-reads.Asked, bit-reads.Learnt, padding-of-reads.Asked, padding-of-reads.Learnt, write-tag-reads.Asked, write-tag-reads.Learnt, part-of-reads.Asked, part-of-reads.Learnt, pad-part-below t, pad-part.Post)
+pad-part-calls t = (
+  step-at-reads.Asked,
+  step-at-reads.Learnt,
+  pad-plain-reads.Asked,
+  pad-plain-reads.Learnt,
+  bit-reads.Asked,
+  bit-reads.Learnt,
+  padding-of-reads.Asked,
+  padding-of-reads.Learnt,
+  write-tag-reads.Asked,
+  write-tag-reads.Learnt,
+  part-of-reads.Asked,
+  part-of-reads.Learnt,
+  pad-part-below t,
+  pad-part.Post,
+)
 
 pad-part-step-at-requires : (t : ℕ) → pad-part-lts.Need-step-at-requires (pad-part-calls t) (pad-part-at t) pad-part.Post
 pad-part-step-at-requires t c κs = search needs
@@ -89,8 +104,10 @@ pad-part-returns t c =
     let x = g .0 .1 .1 .0 in
     let y = g .0 .1 .1 .1 .0 in
     let e : stepAt ts w n (a .i) ≡ Tag l r x y = sym (c .before .before .before .before .before .before .step-at .ensures) ∙ g .1 in
-    let ended : drop (a .p) bits ≡ [] = bit-ended bits (a .p) (sym (c .before .before .bit .ensures) ∙ ap gotCode (c .enum-told2 .given .1)) in
-    (skip-ended ts w n (a .i) l r x y e (a .p) (drop (a .p) bits) ended, pad-ended ts w n (a .i) l r x y e (drop (a .p) bits) (bitsOf (a .cells .now)) (a .at) ended)
+    let ended : drop (a .p) bits ≡ [] = bit-ended bits (a .p) (sym (c .before .before .bit .ensures) ∙ ap gotCode (c .enum-told2 .given .1)) in (
+      skip-ended ts w n (a .i) l r x y e (a .p) (drop (a .p) bits) ended,
+      pad-ended ts w n (a .i) l r x y e (drop (a .p) bits) (bitsOf (a .cells .now)) (a .at) ended,
+    )
 
 pad-part-padding-of-requires : (t : ℕ) → pad-part-lts.Need-padding-of-requires (pad-part-calls t) (pad-part-at t) pad-part.Post
 pad-part-padding-of-requires t c κs = search needs
@@ -108,7 +125,9 @@ pad-part-write-tag-requires t c κs =
     let y = g .0 .1 .1 .1 .0 in
     let e : stepAt ts w n (a .i) ≡ Tag l r x y = sym (c .before .before .before .before .before .before .before .before .before .step-at .ensures) ∙ g .1 in
     let told = tag-told ts w n (a .i) l r x y e in
-    let room : a .at + getD w (a .i) 0 ≤ cellCount = c .before .before .before .before .before .before .before .before .before .before .before .before .before .before .before .pre .1 (omega arith) in
+    let room : a .at + getD w (a .i) 0 ≤ cellCount =
+    c .before .before .before .before .before .before .before .before .before .before .before .before .before .before .before .pre .1
+    (omega arith) in
     omega arith
 
 pad-part-part-of-requires : (t : ℕ) → pad-part-lts.Need-part-of-requires (pad-part-calls t) (pad-part-at t) pad-part.Post
@@ -116,7 +135,8 @@ pad-part-part-of-requires t c κs = search needs
 
 pad-part-add-pad-part : (t : ℕ) → pad-part-lts.Need-add-pad-part (pad-part-calls t) (pad-part-at t) pad-part.Post
 pad-part-add-pad-part t c =
-    let a = c .before .before .before .before .before .before .before .before .before .before .before .before .before .before .before .before .before .before .before .before .args in
+    let a = c .before .before .before .before .before .before .before .before .before .before .before .before .before .before .before
+    .before .before .before .before .before .args in
     let ts = a .types .now in
     let w = a .widths .now in
     let n = a .next .now in
@@ -125,14 +145,18 @@ pad-part-add-pad-part t c =
     let r = g .0 .1 .0 in
     let x = g .0 .1 .1 .0 in
     let y = g .0 .1 .1 .1 .0 in
-    let e : stepAt ts w n (a .i) ≡ Tag l r x y = sym (c .before .before .before .before .before .before .before .before .before .before .before .before .before .before .step-at .ensures) ∙ g .1 in
+    let e : stepAt ts w n (a .i) ≡ Tag l r x y =
+    sym (c .before .before .before .before .before .before .before .before .before .before .before .before .before .before .step-at .ensures)
+    ∙ g .1 in
     let told = tag-told ts w n (a .i) l r x y e in
-    let room : a .at + getD w (a .i) 0 ≤ cellCount = c .before .before .before .before .before .before .before .before .before .before .before .before .before .before .before .before .before .before .before .before .pre .1 (omega arith) in
+    let room : a .at + getD w (a .i) 0 ≤ cellCount = c .before .before .before .before .before .before .before .before .before .before
+    .before .before .before .before .before .before .before .before .before .before .pre .1 (omega arith) in
     omega arith
 
 pad-part-add-pad-part-2 : (t : ℕ) → pad-part-lts.Need-add-pad-part-2 (pad-part-calls t) (pad-part-at t) pad-part.Post
 pad-part-add-pad-part-2 t c =
-    let a = c .before .before .before .before .before .before .before .before .before .before .before .before .before .before .before .before .before .before .before .before .args in
+    let a = c .before .before .before .before .before .before .before .before .before .before .before .before .before .before .before
+    .before .before .before .before .before .args in
     let ts = a .types .now in
     let w = a .widths .now in
     let n = a .next .now in
@@ -141,16 +165,22 @@ pad-part-add-pad-part-2 t c =
     let r = g .0 .1 .0 in
     let x = g .0 .1 .1 .0 in
     let y = g .0 .1 .1 .1 .0 in
-    let e : stepAt ts w n (a .i) ≡ Tag l r x y = sym (c .before .before .before .before .before .before .before .before .before .before .before .before .before .before .step-at .ensures) ∙ g .1 in
+    let e : stepAt ts w n (a .i) ≡ Tag l r x y =
+    sym (c .before .before .before .before .before .before .before .before .before .before .before .before .before .before .step-at .ensures)
+    ∙ g .1 in
     let told = tag-told ts w n (a .i) l r x y e in
-    let room : a .at + getD w (a .i) 0 ≤ cellCount = c .before .before .before .before .before .before .before .before .before .before .before .before .before .before .before .before .before .before .before .before .pre .1 (omega arith) in
+    let room : a .at + getD w (a .i) 0 ≤ cellCount = c .before .before .before .before .before .before .before .before .before .before
+    .before .before .before .before .before .before .before .before .before .before .pre .1 (omega arith) in
     let side = c .before .before .before .before .before .before .before .before .side .given .0 .0 in
-    let wide = part-wide ts w n (a .i) l r x y told side (c .before .part-of .result) (c .before .before .before .before .before .before .padding-of .result) (c .before .part-of .ensures) (c .before .before .before .before .before .before .padding-of .ensures) in
+    let wide = part-wide ts w n (a .i) l r x y told side (c .before .part-of .result)
+    (c .before .before .before .before .before .before .padding-of .result) (c .before .part-of .ensures)
+    (c .before .before .before .before .before .before .padding-of .ensures) in
     omega arith
 
 pad-part-pad-part-requires : (t : ℕ) → pad-part-lts.Need-pad-part-requires (pad-part-calls t) (pad-part-at t) pad-part.Post
 pad-part-pad-part-requires t c κs =
-    let a = c .before .before .before .before .before .before .before .before .before .before .before .before .before .before .before .before .before .before .before .before .args in
+    let a = c .before .before .before .before .before .before .before .before .before .before .before .before .before .before .before
+    .before .before .before .before .before .args in
     let ts = a .types .now in
     let w = a .widths .now in
     let n = a .next .now in
@@ -159,11 +189,16 @@ pad-part-pad-part-requires t c κs =
     let r = g .0 .1 .0 in
     let x = g .0 .1 .1 .0 in
     let y = g .0 .1 .1 .1 .0 in
-    let e : stepAt ts w n (a .i) ≡ Tag l r x y = sym (c .before .before .before .before .before .before .before .before .before .before .before .before .before .before .step-at .ensures) ∙ g .1 in
+    let e : stepAt ts w n (a .i) ≡ Tag l r x y =
+    sym (c .before .before .before .before .before .before .before .before .before .before .before .before .before .before .step-at .ensures)
+    ∙ g .1 in
     let told = tag-told ts w n (a .i) l r x y e in
-    let room : a .at + getD w (a .i) 0 ≤ cellCount = c .before .before .before .before .before .before .before .before .before .before .before .before .before .before .before .before .before .before .before .before .pre .1 (omega arith) in
+    let room : a .at + getD w (a .i) 0 ≤ cellCount = c .before .before .before .before .before .before .before .before .before .before
+    .before .before .before .before .before .before .before .before .before .before .pre .1 (omega arith) in
     let side = c .before .before .before .before .before .before .before .before .side .given .0 .0 in
-    let wide = part-wide ts w n (a .i) l r x y told side (c .before .part-of .result) (c .before .before .before .before .before .before .padding-of .result) (c .before .part-of .ensures) (c .before .before .before .before .before .before .padding-of .ensures) in
+    let wide = part-wide ts w n (a .i) l r x y told side (c .before .part-of .result)
+    (c .before .before .before .before .before .before .padding-of .result) (c .before .part-of .ensures)
+    (c .before .before .before .before .before .before .padding-of .ensures) in
     (omega arith, λ some. omega arith)
 
 pad-part-enum-known-way-3 : (t : ℕ) → pad-part-lts.Need-enum-known-way-3 (pad-part-calls t) (pad-part-at t) pad-part.Post
@@ -195,6 +230,8 @@ pad-part-same-length t c = search needs
 
 pad-part-returns-2 : (t : ℕ) → pad-part-lts.Need-returns-2 (pad-part-calls t) (pad-part-at t) pad-part.Post
 pad-part-returns-2 t c =
+    let step-at-call = c .before .before .before .before .before .before .before .before .before .step-at in
+    let pad-part2-call = c .before .before .before .before .pad-part2 in
     let a = c .before .before .before .before .before .before .before .before .before .before .before .before .before .before .before .args in
     let ts = a .types .now in
     let w = a .widths .now in
@@ -204,8 +241,11 @@ pad-part-returns-2 t c =
     let l = g .0 .0 in
     let r = g .0 .1 .0 in
     let v = g .0 .1 .1 .0 in
-    let e : stepAt ts w n (a .i) ≡ Both l r v = sym (c .before .before .before .before .before .before .before .before .before .step-at .ensures) ∙ g .1 in
-    (skip-cut ts w n (a .i) l r v e (a .p) (drop (a .p) bits) (sym (c .enum-told3 .given .1) ∙ c .before .before .before .before .pad-part2 .ensures .0), pad-cut ts w n (a .i) l r v e (a .p) (a .at) (drop (a .p) bits) (bitsOf (a .cells .now)) _ (sym (c .enum-told3 .given .1) ∙ c .before .before .before .before .pad-part2 .ensures .0) (c .before .before .before .before .pad-part2 .ensures .1))
+    let e : stepAt ts w n (a .i) ≡ Both l r v = sym (step-at-call .ensures) ∙ g .1 in (
+      skip-cut ts w n (a .i) l r v e (a .p) (drop (a .p) bits) (sym (c .enum-told3 .given .1) ∙ pad-part2-call .ensures .0),
+      pad-cut ts w n (a .i) l r v e (a .p) (a .at) (drop (a .p) bits) (bitsOf (a .cells .now)) _
+          (sym (c .enum-told3 .given .1) ∙ pad-part2-call .ensures .0) (pad-part2-call .ensures .1),
+    )
 
 pad-part-add-pad-part-3 : (t : ℕ) → pad-part-lts.Need-add-pad-part-3 (pad-part-calls t) (pad-part-at t) pad-part.Post
 pad-part-add-pad-part-3 t c =
@@ -217,9 +257,12 @@ pad-part-add-pad-part-3 t c =
     let l = g .0 .0 in
     let r = g .0 .1 .0 in
     let v = g .0 .1 .1 .0 in
-    let e : stepAt ts w n (a .i) ≡ Both l r v = sym (c .before .before .before .before .before .before .before .before .before .before .before .step-at .ensures) ∙ g .1 in
+    let e : stepAt ts w n (a .i) ≡ Both l r v =
+    sym (c .before .before .before .before .before .before .before .before .before .before .before .step-at .ensures) ∙ g .1 in
     let told = both-told ts w n (a .i) l r v e in
-    let room : a .at + getD w (a .i) 0 ≤ cellCount = c .before .before .before .before .before .before .before .before .before .before .before .before .before .before .before .before .before .pre .1 (omega arith) in
+    let room : a .at + getD w (a .i) 0 ≤ cellCount =
+    c .before .before .before .before .before .before .before .before .before .before .before .before .before .before .before .before .before .pre .1
+    (omega arith) in
     omega arith
 
 pad-part-pad-part-requires-3 : (t : ℕ) → pad-part-lts.Need-pad-part-requires-3 (pad-part-calls t) (pad-part-at t) pad-part.Post
@@ -232,9 +275,12 @@ pad-part-pad-part-requires-3 t c κs =
     let l = g .0 .0 in
     let r = g .0 .1 .0 in
     let v = g .0 .1 .1 .0 in
-    let e : stepAt ts w n (a .i) ≡ Both l r v = sym (c .before .before .before .before .before .before .before .before .before .before .before .step-at .ensures) ∙ g .1 in
+    let e : stepAt ts w n (a .i) ≡ Both l r v =
+    sym (c .before .before .before .before .before .before .before .before .before .before .before .step-at .ensures) ∙ g .1 in
     let told = both-told ts w n (a .i) l r v e in
-    let room : a .at + getD w (a .i) 0 ≤ cellCount = c .before .before .before .before .before .before .before .before .before .before .before .before .before .before .before .before .before .pre .1 (omega arith) in
+    let room : a .at + getD w (a .i) 0 ≤ cellCount =
+    c .before .before .before .before .before .before .before .before .before .before .before .before .before .before .before .before .before .pre .1
+    (omega arith) in
     (omega arith, λ some. omega arith)
 
 pad-part-returns-3 : (t : ℕ) → pad-part-lts.Need-returns-3 (pad-part-calls t) (pad-part-at t) pad-part.Post
@@ -258,15 +304,24 @@ pad-part-returns-4 t c =
     let n = a .next .now in
     let g = c .before .before .before .before .before .way .given in
     let v = g .0 .0 in
-    let e : stepAt ts w n (a .i) ≡ Plain v = sym (c .before .before .before .before .before .before .before .step-at .ensures) ∙ g .1 in
-    (skip-along ts w n (a .i) v (a .p) (c .before .before .pad-plain .result) (drop (a .p) (streamOf (a .s .now))) e (c .before .before .pad-plain .ensures .0), pad-along ts w n (a .i) v (a .at) (drop (a .p) (streamOf (a .s .now))) (bitsOf (a .cells .now)) _ e (c .before .before .pad-plain .ensures .1))
+    let e : stepAt ts w n (a .i) ≡ Plain v = sym (c .before .before .before .before .before .before .before .step-at .ensures) ∙ g .1 in (
+      skip-along ts w n (a .i) v (a .p) (c .before .before .pad-plain .result) (drop (a .p) (streamOf (a .s .now))) e
+          (c .before .before .pad-plain .ensures .0),
+      pad-along ts w n (a .i) v (a .at) (drop (a .p) (streamOf (a .s .now))) (bitsOf (a .cells .now)) _ e (c .before .before .pad-plain .ensures .1),
+    )
 
 pad-part-same-length-3 : (t : ℕ) → pad-part-lts.Need-same-length-3 (pad-part-calls t) (pad-part-at t) pad-part.Post
 pad-part-same-length-3 t c = search needs
 
 pad-part-returns-5 : (t : ℕ) → pad-part-lts.Need-returns-5 (pad-part-calls t) (pad-part-at t) pad-part.Post
 pad-part-returns-5 t c =
-    let a = c .before .before .before .before .before .before .before .before .before .before .before .before .before .before .before .before .before .before .before .before .before .before .before .args in
+    let step-at-call =
+    c .before .before .before .before .before .before .before .before .before .before .before .before .before .before .before .before .before .step-at in
+    let bit-call = c .before .before .before .before .before .before .before .before .before .before .before .before .before .bit in
+    let padding-of-call = c .before .before .before .before .before .before .before .before .before .padding-of in
+    let part-of-call = c .before .before .before .before .part-of in
+    let a = c .before .before .before .before .before .before .before .before .before .before .before .before .before .before .before
+    .before .before .before .before .before .before .before .before .args in
     let ts = a .types .now in
     let w = a .widths .now in
     let n = a .next .now in
@@ -276,15 +331,17 @@ pad-part-returns-5 t c =
     let r = g .0 .1 .0 in
     let x = g .0 .1 .1 .0 in
     let y = g .0 .1 .1 .1 .0 in
-    let e : stepAt ts w n (a .i) ≡ Tag l r x y = sym (c .before .before .before .before .before .before .before .before .before .before .before .before .before .before .before .before .before .step-at .ensures) ∙ g .1 in
+    let e : stepAt ts w n (a .i) ≡ Tag l r x y = sym (step-at-call .ensures) ∙ g .1 in
     let b = c .before .before .before .before .before .before .before .before .before .before .before .side .given in
     let side = b .0 .0 in
     let after = b .0 .1 .0 in
-    let read : code bits 1 (a .p) ≡ got side after = sym (c .before .before .before .before .before .before .before .before .before .before .before .before .before .bit .ensures) ∙ ap gotCode (b .1) in
+    let read : code bits 1 (a .p) ≡ got side after = sym (bit-call .ensures) ∙ ap gotCode (b .1) in
     let rest = bit-got bits (a .p) side after read in (
-      c .before .before .pad-part .ensures .0 ∙ skip-tag ts w n (a .i) l r x y e side (c .before .before .before .before .part-of .result) (a .p) after bits (c .before .before .before .before .part-of .ensures) (rest .1) (rest .2),
-      pad-tag ts w n (a .i) l r x y e side (c .before .before .before .before .part-of .result) (c .before .before .before .before .before .before .before .before .before .padding-of .result) (a .p) after (a .at) bits (bitsOf (a .cells .now)) _ _
-          (bit-below (a .s .now) (a .p) side after read) (c .before .before .before .before .part-of .ensures) (c .before .before .before .before .before .before .before .before .before .padding-of .ensures) (rest .2) (c .before .before .before .before .before .before .before .write-tag .ensures) (c .before .before .pad-part .ensures .1),
+      c .before .before .pad-part .ensures .0
+          ∙ skip-tag ts w n (a .i) l r x y e side (part-of-call .result) (a .p) after bits (part-of-call .ensures) (rest .1) (rest .2),
+      pad-tag ts w n (a .i) l r x y e side (part-of-call .result) (padding-of-call .result) (a .p) after (a .at) bits (bitsOf (a .cells .now)) _ _
+          (bit-below (a .s .now) (a .p) side after read) (part-of-call .ensures) (padding-of-call .ensures) (rest .2)
+          (c .before .before .before .before .before .before .before .write-tag .ensures) (c .before .before .pad-part .ensures .1),
     )
 
 pad-part-same-length-4 : (t : ℕ) → pad-part-lts.Need-same-length-4 (pad-part-calls t) (pad-part-at t) pad-part.Post
@@ -292,7 +349,8 @@ pad-part-same-length-4 t c = search needs
 
 pad-part-returns-6 : (t : ℕ) → pad-part-lts.Need-returns-6 (pad-part-calls t) (pad-part-at t) pad-part.Post
 pad-part-returns-6 t c =
-    let a = c .before .before .before .before .before .before .before .before .before .before .before .before .before .before .before .before .before .before .before .before .args in
+    let a = c .before .before .before .before .before .before .before .before .before .before .before .before .before .before .before
+    .before .before .before .before .before .args in
     let ts = a .types .now in
     let w = a .widths .now in
     let n = a .next .now in
@@ -301,11 +359,16 @@ pad-part-returns-6 t c =
     let l = g .0 .0 in
     let r = g .0 .1 .0 in
     let v = g .0 .1 .1 .0 in
-    let e : stepAt ts w n (a .i) ≡ Both l r v = sym (c .before .before .before .before .before .before .before .before .before .before .before .before .before .before .step-at .ensures) ∙ g .1 in
+    let e : stepAt ts w n (a .i) ≡ Both l r v =
+    sym (c .before .before .before .before .before .before .before .before .before .before .before .before .before .before .step-at .ensures)
+    ∙ g .1 in
     let m = c .before .before .before .before .before .middle .given .0 .0 in
-    let first = sym (c .before .before .before .before .before .middle .given .1) ∙ c .before .before .before .before .before .before .before .before .before .pad-part2 .ensures .0 in (
+    let first = sym (c .before .before .before .before .before .middle .given .1)
+    ∙ c .before .before .before .before .before .before .before .before .before .pad-part2 .ensures .0 in (
       c .before .before .pad-part3 .ensures .0 ∙ skip-both ts w n (a .i) l r v e (a .p) m bits first,
-      pad-both ts w n (a .i) l r v e (a .p) m (a .at) bits (bitsOf (a .cells .now)) _ _ first (c .before .before .before .before .before .before .before .before .before .pad-part2 .ensures .1) (c .before .before .pad-part3 .ensures .1),
+      pad-both ts w n (a .i) l r v e (a .p) m (a .at) bits (bitsOf (a .cells .now)) _ _ first
+          (c .before .before .before .before .before .before .before .before .before .pad-part2 .ensures .1)
+          (c .before .before .pad-part3 .ensures .1),
     )
 
 pub +pad-part-spec : {M : Type 1} → statement M

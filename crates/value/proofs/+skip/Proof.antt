@@ -36,7 +36,18 @@ abbrev skip-below : ℕ → In 3 skip-kinds.ps
 skip-below t = and 3 skip-kinds.ps (falls 3 skip-kinds.ps _<_ μ-skip t) skip.Pre
 
 abbrev skip-calls : ℕ → skip-lts.Claims
-skip-calls t = (step-at-reads.Asked, step-at-reads.Learnt, skip-plain-reads.Asked, skip-plain-reads.Learnt, bit-reads.Asked, bit-reads.Learnt, part-of-reads.Asked, part-of-reads.Learnt, skip-below t, skip.Post)
+skip-calls t = (
+  step-at-reads.Asked,
+  step-at-reads.Learnt,
+  skip-plain-reads.Asked,
+  skip-plain-reads.Learnt,
+  bit-reads.Asked,
+  bit-reads.Learnt,
+  part-of-reads.Asked,
+  part-of-reads.Learnt,
+  skip-below t,
+  skip.Post,
+)
 
 skip-step-at-requires : (t : ℕ) → skip-lts.Need-step-at-requires (skip-calls t) (skip-at t) skip.Post
 skip-step-at-requires t c κs = search needs
@@ -200,7 +211,9 @@ skip-returns-6 t c =
     let r = g .0 .1 .0 in
     let v = g .0 .1 .1 .0 in
     let e : stepAt ts w n (a .i) ≡ Both l r v = sym (c .before .before .before .before .before .before .before .before .step-at .ensures) ∙ g .1 in
-    c .skip3 .ensures ∙ skip-both ts w n (a .i) l r v e (a .p) (c .before .before .middle .given .0 .0) bits (sym (c .before .before .middle .given .1) ∙ c .before .before .before .before .skip2 .ensures)
+    c .skip3 .ensures
+    ∙ skip-both ts w n (a .i) l r v e (a .p) (c .before .before .middle .given .0 .0) bits
+    (sym (c .before .before .middle .given .1) ∙ c .before .before .before .before .skip2 .ensures)
 
 pub +skip-spec : {M : Type 1} → statement M
 +skip-spec = close μ-skip λ t. skip-lts.spec (skip-calls t)

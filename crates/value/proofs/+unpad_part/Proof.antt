@@ -39,7 +39,22 @@ unpad-part-below t =
     and 4 unpad-part-kinds.ps (falls 4 unpad-part-kinds.ps _<_ μ-unpad-part t) unpad-part.Pre
 
 abbrev unpad-part-calls : ℕ → unpad-part-lts.Claims
-unpad-part-calls t = (step-at-reads.Asked, step-at-reads.Learnt, put-bits-reads.Asked, put-bits-reads.Learnt, read-cell-reads.Asked, read-cell-reads.Learnt, write-cell-reads.Asked, write-cell-reads.Learnt, padding-of-reads.Asked, padding-of-reads.Learnt, part-of-reads.Asked, part-of-reads.Learnt, unpad-part-below t, unpad-part.Post)
+unpad-part-calls t = (
+  step-at-reads.Asked,
+  step-at-reads.Learnt,
+  put-bits-reads.Asked,
+  put-bits-reads.Learnt,
+  read-cell-reads.Asked,
+  read-cell-reads.Learnt,
+  write-cell-reads.Asked,
+  write-cell-reads.Learnt,
+  padding-of-reads.Asked,
+  padding-of-reads.Learnt,
+  part-of-reads.Asked,
+  part-of-reads.Learnt,
+  unpad-part-below t,
+  unpad-part.Post,
+)
 
 unpad-part-step-at-requires : (t : ℕ) → unpad-part-lts.Need-step-at-requires (unpad-part-calls t) (unpad-part-at t) unpad-part.Post
 unpad-part-step-at-requires t c κs = search needs
@@ -93,9 +108,12 @@ unpad-part-add-place t c =
     let r = g .0 .1 .0 in
     let x = g .0 .1 .1 .0 in
     let y = g .0 .1 .1 .1 .0 in
-    let e : stepAt ts w n (a .i) ≡ Tag l r x y = sym (c .before .before .before .before .before .before .before .before .before .before .step-at .ensures) ∙ g .1 in
+    let e : stepAt ts w n (a .i) ≡ Tag l r x y =
+    sym (c .before .before .before .before .before .before .before .before .before .before .step-at .ensures) ∙ g .1 in
     let told = tag-told ts w n (a .i) l r x y e in
-    let room : (a .at + getD w (a .i) 0 ≤ cellCount) × (a .q + getD w (a .i) 0 ≤ cellCount) = c .before .before .before .before .before .before .before .before .before .before .before .before .before .before .before .before .pre .1 (omega arith) in
+    let room : (a .at + getD w (a .i) 0 ≤ cellCount) × (a .q + getD w (a .i) 0 ≤ cellCount) =
+    c .before .before .before .before .before .before .before .before .before .before .before .before .before .before .before .before .pre .1
+    (omega arith) in
     let ra = room .0 in
     let rq = room .1 in
     omega arith
@@ -111,13 +129,17 @@ unpad-part-add-place-2 t c =
     let r = g .0 .1 .0 in
     let x = g .0 .1 .1 .0 in
     let y = g .0 .1 .1 .1 .0 in
-    let e : stepAt ts w n (a .i) ≡ Tag l r x y = sym (c .before .before .before .before .before .before .before .before .before .before .step-at .ensures) ∙ g .1 in
+    let e : stepAt ts w n (a .i) ≡ Tag l r x y =
+    sym (c .before .before .before .before .before .before .before .before .before .before .step-at .ensures) ∙ g .1 in
     let told = tag-told ts w n (a .i) l r x y e in
-    let room : (a .at + getD w (a .i) 0 ≤ cellCount) × (a .q + getD w (a .i) 0 ≤ cellCount) = c .before .before .before .before .before .before .before .before .before .before .before .before .before .before .before .before .pre .1 (omega arith) in
+    let room : (a .at + getD w (a .i) 0 ≤ cellCount) × (a .q + getD w (a .i) 0 ≤ cellCount) =
+    c .before .before .before .before .before .before .before .before .before .before .before .before .before .before .before .before .pre .1
+    (omega arith) in
     let ra = room .0 in
     let rq = room .1 in
     let side = c .before .before .before .before .before .before .read-cell .result in
-    let wide = part-wide ts w n (a .i) l r x y told side (c .part-of .result) (c .before .padding-of .result) (c .part-of .ensures) (c .before .padding-of .ensures) in
+    let wide = part-wide ts w n (a .i) l r x y told side (c .part-of .result) (c .before .padding-of .result) (c .part-of .ensures)
+    (c .before .padding-of .ensures) in
     omega arith
 
 unpad-part-add-unpad-part : (t : ℕ) → unpad-part-lts.Need-add-unpad-part (unpad-part-calls t) (unpad-part-at t) unpad-part.Post
@@ -131,9 +153,12 @@ unpad-part-add-unpad-part t c =
     let r = g .0 .1 .0 in
     let x = g .0 .1 .1 .0 in
     let y = g .0 .1 .1 .1 .0 in
-    let e : stepAt ts w n (a .i) ≡ Tag l r x y = sym (c .before .before .before .before .before .before .before .before .before .before .before .step-at .ensures) ∙ g .1 in
+    let e : stepAt ts w n (a .i) ≡ Tag l r x y =
+    sym (c .before .before .before .before .before .before .before .before .before .before .before .step-at .ensures) ∙ g .1 in
     let told = tag-told ts w n (a .i) l r x y e in
-    let room : (a .at + getD w (a .i) 0 ≤ cellCount) × (a .q + getD w (a .i) 0 ≤ cellCount) = c .before .before .before .before .before .before .before .before .before .before .before .before .before .before .before .before .before .pre .1 (omega arith) in
+    let room : (a .at + getD w (a .i) 0 ≤ cellCount) × (a .q + getD w (a .i) 0 ≤ cellCount) =
+    c .before .before .before .before .before .before .before .before .before .before .before .before .before .before .before .before .before .pre .1
+    (omega arith) in
     let ra = room .0 in
     let rq = room .1 in
     omega arith
@@ -149,13 +174,17 @@ unpad-part-unpad-part-requires t c κs =
     let r = g .0 .1 .0 in
     let x = g .0 .1 .1 .0 in
     let y = g .0 .1 .1 .1 .0 in
-    let e : stepAt ts w n (a .i) ≡ Tag l r x y = sym (c .before .before .before .before .before .before .before .before .before .before .before .step-at .ensures) ∙ g .1 in
+    let e : stepAt ts w n (a .i) ≡ Tag l r x y =
+    sym (c .before .before .before .before .before .before .before .before .before .before .before .step-at .ensures) ∙ g .1 in
     let told = tag-told ts w n (a .i) l r x y e in
-    let room : (a .at + getD w (a .i) 0 ≤ cellCount) × (a .q + getD w (a .i) 0 ≤ cellCount) = c .before .before .before .before .before .before .before .before .before .before .before .before .before .before .before .before .before .pre .1 (omega arith) in
+    let room : (a .at + getD w (a .i) 0 ≤ cellCount) × (a .q + getD w (a .i) 0 ≤ cellCount) =
+    c .before .before .before .before .before .before .before .before .before .before .before .before .before .before .before .before .before .pre .1
+    (omega arith) in
     let ra = room .0 in
     let rq = room .1 in
     let side = c .before .before .before .before .before .before .before .read-cell .result in
-    let wide = part-wide ts w n (a .i) l r x y told side (c .before .part-of .result) (c .before .before .padding-of .result) (c .before .part-of .ensures) (c .before .before .padding-of .ensures) in
+    let wide = part-wide ts w n (a .i) l r x y told side (c .before .part-of .result) (c .before .before .padding-of .result)
+    (c .before .part-of .ensures) (c .before .before .padding-of .ensures) in
     (omega arith, λ some. (omega arith, omega arith))
 
 unpad-part-enum-known-way-3 : (t : ℕ) → unpad-part-lts.Need-enum-known-way-3 (unpad-part-calls t) (unpad-part-at t) unpad-part.Post
@@ -173,7 +202,8 @@ unpad-part-unpad-part-requires-2 t c κs =
     let v = g .0 .1 .1 .0 in
     let e : stepAt ts w n (a .i) ≡ Both l r v = sym (c .before .before .before .before .step-at .ensures) ∙ g .1 in
     let told = both-told ts w n (a .i) l r v e in
-    let room : (a .at + getD w (a .i) 0 ≤ cellCount) × (a .q + getD w (a .i) 0 ≤ cellCount) = c .before .before .before .before .before .before .before .before .before .before .pre .1 (omega arith) in
+    let room : (a .at + getD w (a .i) 0 ≤ cellCount) × (a .q + getD w (a .i) 0 ≤ cellCount) =
+    c .before .before .before .before .before .before .before .before .before .before .pre .1 (omega arith) in
     let ra = room .0 in
     let rq = room .1 in
     (omega arith, λ some. (omega arith, omega arith))
@@ -190,7 +220,8 @@ unpad-part-add-place-3 t c =
     let v = g .0 .1 .1 .0 in
     let e : stepAt ts w n (a .i) ≡ Both l r v = sym (c .before .before .before .before .before .before .before .step-at .ensures) ∙ g .1 in
     let told = both-told ts w n (a .i) l r v e in
-    let room : (a .at + getD w (a .i) 0 ≤ cellCount) × (a .q + getD w (a .i) 0 ≤ cellCount) = c .before .before .before .before .before .before .before .before .before .before .before .before .before .pre .1 (omega arith) in
+    let room : (a .at + getD w (a .i) 0 ≤ cellCount) × (a .q + getD w (a .i) 0 ≤ cellCount) =
+    c .before .before .before .before .before .before .before .before .before .before .before .before .before .pre .1 (omega arith) in
     let ra = room .0 in
     let rq = room .1 in
     omega arith
@@ -207,7 +238,8 @@ unpad-part-unpad-part-requires-3 t c κs =
     let v = g .0 .1 .1 .0 in
     let e : stepAt ts w n (a .i) ≡ Both l r v = sym (c .before .before .before .before .before .before .before .before .step-at .ensures) ∙ g .1 in
     let told = both-told ts w n (a .i) l r v e in
-    let room : (a .at + getD w (a .i) 0 ≤ cellCount) × (a .q + getD w (a .i) 0 ≤ cellCount) = c .before .before .before .before .before .before .before .before .before .before .before .before .before .before .pre .1 (omega arith) in
+    let room : (a .at + getD w (a .i) 0 ≤ cellCount) × (a .q + getD w (a .i) 0 ≤ cellCount) =
+    c .before .before .before .before .before .before .before .before .before .before .before .before .before .before .pre .1 (omega arith) in
     let ra = room .0 in
     let rq = room .1 in
     let most = unpad-fits ts w n l (cellsOf (a .cells .now)) (a .at) in
@@ -243,7 +275,13 @@ unpad-part-same-length-2 t c = search needs
 unpad-part-returns-3 : (t : ℕ) → unpad-part-lts.Need-returns-3 (unpad-part-calls t) (unpad-part-at t) unpad-part.Post
 unfolding cellsOf
 unpad-part-returns-3 t c =
-    let a = c .before .before .before .before .before .before .before .before .before .before .before .before .before .before .before .before .before .before .before .before .args in
+    let step-at-call = c .before .before .before .before .before .before .before .before .before .before .before .before .before .before .step-at in
+    let read-cell-call = c .before .before .before .before .before .before .before .before .before .before .read-cell in
+    let write-cell-call = c .before .before .before .before .before .before .before .before .write-cell in
+    let padding-of-call = c .before .before .before .before .before .padding-of in
+    let part-of-call = c .before .before .before .before .part-of in
+    let a = c .before .before .before .before .before .before .before .before .before .before .before .before .before .before .before
+    .before .before .before .before .before .args in
     let ts = a .types .now in
     let w = a .widths .now in
     let n = a .next .now in
@@ -252,11 +290,13 @@ unpad-part-returns-3 t c =
     let r = g .0 .1 .0 in
     let x = g .0 .1 .1 .0 in
     let y = g .0 .1 .1 .1 .0 in
-    let e : stepAt ts w n (a .i) ≡ Tag l r x y = sym (c .before .before .before .before .before .before .before .before .before .before .before .before .before .before .step-at .ensures) ∙ g .1 in
+    let e : stepAt ts w n (a .i) ≡ Tag l r x y = sym (step-at-call .ensures) ∙ g .1 in
     let here = c .before .before .before .before .before .before .before .before .before .before .read-cell .ensures in
     let small = bit-small (a .cells .now) (a .at) in
-    unpad-tag ts w n (a .i) l r x y e (c .before .before .before .before .before .before .before .before .before .before .read-cell .result) (c .before .before .before .before .part-of .result) (c .before .before .before .before .before .padding-of .result) (cellsOf (a .cells .now)) (a .at) (a .q) (c .before .before .unpad-part .result) (bitsOf (a .answer .now)) _ _
-    (omega arith) (sym here) (c .before .before .before .before .part-of .ensures) (c .before .before .before .before .before .padding-of .ensures) (c .before .before .before .before .before .before .before .before .write-cell .ensures) (c .before .before .unpad-part .ensures .0) (c .before .before .unpad-part .ensures .1)
+    unpad-tag ts w n (a .i) l r x y e (read-cell-call .result) (part-of-call .result) (padding-of-call .result) (cellsOf (a .cells .now))
+    (a .at) (a .q) (c .before .before .unpad-part .result) (bitsOf (a .answer .now)) _ _
+    (omega arith) (sym here) (part-of-call .ensures) (padding-of-call .ensures) (write-cell-call .ensures)
+    (c .before .before .unpad-part .ensures .0) (c .before .before .unpad-part .ensures .1)
 
 unpad-part-same-length-3 : (t : ℕ) → unpad-part-lts.Need-same-length-3 (unpad-part-calls t) (unpad-part-at t) unpad-part.Post
 unpad-part-same-length-3 t c = search needs
@@ -271,9 +311,14 @@ unpad-part-returns-4 t c =
     let l = g .0 .0 in
     let r = g .0 .1 .0 in
     let v = g .0 .1 .1 .0 in
-    let e : stepAt ts w n (a .i) ≡ Both l r v = sym (c .before .before .before .before .before .before .before .before .before .before .before .step-at .ensures) ∙ g .1 in
-    unpad-both ts w n (a .i) l r v e (cellsOf (a .cells .now)) (a .at) (a .q) (c .before .before .before .before .before .before .unpad-part2 .result) (c .before .before .unpad-part3 .result) (bitsOf (a .answer .now)) _ _
-    (c .before .before .before .before .before .before .unpad-part2 .ensures .0) (c .before .before .before .before .before .before .unpad-part2 .ensures .1) (c .before .before .unpad-part3 .ensures .0) (c .before .before .unpad-part3 .ensures .1)
+    let e : stepAt ts w n (a .i) ≡ Both l r v =
+    sym (c .before .before .before .before .before .before .before .before .before .before .before .step-at .ensures) ∙ g .1 in
+    unpad-both ts w n (a .i) l r v e (cellsOf (a .cells .now)) (a .at) (a .q)
+    (c .before .before .before .before .before .before .unpad-part2 .result) (c .before .before .unpad-part3 .result)
+    (bitsOf (a .answer .now)) _ _
+    (c .before .before .before .before .before .before .unpad-part2 .ensures .0)
+    (c .before .before .before .before .before .before .unpad-part2 .ensures .1) (c .before .before .unpad-part3 .ensures .0)
+    (c .before .before .unpad-part3 .ensures .1)
 
 pub +unpad-part-spec : {M : Type 1} → statement M
 +unpad-part-spec = close μ-unpad-part λ t. unpad-part-lts.spec (unpad-part-calls t)

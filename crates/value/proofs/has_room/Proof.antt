@@ -32,8 +32,10 @@ returns-2 : tie.Need-returns-2
 returns-2 c =
     let a = c .before .before .before .before .before .before .args in
     let n = length-bits (a .cells .now) in
-    let e : c .before .before .before .wide .result + c .before .before .wide2 .result ≡ a .at + a .width = ap₂ (λ (x y : ℕ). x + y) (c .before .before .before .wide .ensures .0) (c .before .before .wide2 .ensures .0) in
-    ap₂ leb e (c .wide3 .ensures .0) ∙ sym (room-inside (a .width) (a .at) (bitsOf (a .cells .now)) (c .before .before .before .before .if1 .left) (omega arith))
+    let e : c .before .before .before .wide .result + c .before .before .wide2 .result ≡ a .at + a .width =
+    ap₂ (λ (x y : ℕ). x + y) (c .before .before .before .wide .ensures .0) (c .before .before .wide2 .ensures .0) in
+    ap₂ leb e (c .wide3 .ensures .0)
+    ∙ sym (room-inside (a .width) (a .at) (bitsOf (a .cells .now)) (c .before .before .before .before .if1 .left) (omega arith))
 
 returns-3 : tie.Need-returns-3
 returns-3 c =

@@ -31,7 +31,8 @@ cast-put-bits : tie.Need-cast-put-bits
 cast-put-bits c =
     let a = c .before .before .before .before .before .before .args in
     let said = sym (c .before .end .given .1) ∙ c .before .before .before .skip-plain .ensures in
-    let some : a .width ≤ length (drop (a .p) (streamOf (a .s .now))) = plain-there (a .width) (a .p) (drop (a .p) (streamOf (a .s .now))) (c .before .end .given .0 .0) said in
+    let some : a .width ≤ length (drop (a .p) (streamOf (a .s .now))) =
+    plain-there (a .width) (a .p) (drop (a .p) (streamOf (a .s .now))) (c .before .end .given .0 .0) said in
     let m = length-stream (a .s .now) in
     omega (arith, length-drop (a .p) (streamOf (a .s .now)))
 
@@ -45,7 +46,8 @@ returns-2 : tie.Need-returns-2
 returns-2 c =
     let a = c .before .before .before .before .before .before .before .before .before .before .args in
     let bs = drop (a .p) (streamOf (a .s .now)) in
-    let said = sym (c .before .before .before .before .before .end .given .1) ∙ c .before .before .before .before .before .before .before .skip-plain .ensures in
+    let said = sym (c .before .before .before .before .before .end .given .1)
+    ∙ c .before .before .before .before .before .before .before .skip-plain .ensures in
     let some : a .width ≤ length bs = plain-there (a .width) (a .p) bs (c .before .before .before .before .before .end .given .0 .0) said in (
       said,
       c .before .before .put-bits .ensures ∙ ap (sets (bitsOf (a .cells .now)) (a .at)) (stream-plain (a .s .now) (a .p) (a .width) (omega arith) some)

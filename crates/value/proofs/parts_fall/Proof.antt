@@ -10,12 +10,14 @@ use Rattle.value.proofs.parts_fall.Tie as tie
 returns : tie.Need-returns
 returns c =
     let a = c .before .before .args in
-    sym (every-held (leb (a .j) (a .i)) _ (le-leb (a .j) (a .i) (c .before .if1 .taken)) ∙ every-both (ltb (a .left) (a .j)) (ltb (a .right) (a .j)) (lt-ltb (a .left) (a .j) (c .if2 .taken)))
+    sym (every-held (leb (a .j) (a .i)) _ (le-leb (a .j) (a .i) (c .before .if1 .taken))
+    ∙ every-both (ltb (a .left) (a .j)) (ltb (a .right) (a .j)) (lt-ltb (a .left) (a .j) (c .if2 .taken)))
 
 returns-2 : tie.Need-returns-2
 returns-2 c =
     let a = c .before .before .args in
-    sym (every-held (leb (a .j) (a .i)) _ (le-leb (a .j) (a .i) (c .before .if1 .taken)) ∙ every-failed (ltb (a .left) (a .j)) _ (le-ltb (a .left) (a .j) (c .if2 .left)))
+    sym (every-held (leb (a .j) (a .i)) _ (le-leb (a .j) (a .i) (c .before .if1 .taken))
+    ∙ every-failed (ltb (a .left) (a .j)) _ (le-ltb (a .left) (a .j) (c .if2 .left)))
 
 returns-3 : tie.Need-returns-3
 returns-3 c =

@@ -25,7 +25,8 @@ returns c =
     let v = getD (a .widths .now) (a .i) 0 in
     let b = bitsOf (a .cells .now) in
     let d = bitsOf (a .answer .now) in
-    let first : c .before .has-room .result ≡ room v (a .at) b = c .before .has-room .ensures ∙ ap (λ (k : ℕ). room k (a .at) b) (c .before .before .width-at .ensures) in
+    let first : c .before .has-room .result ≡ room v (a .at) b =
+    c .before .has-room .ensures ∙ ap (λ (k : ℕ). room k (a .at) b) (c .before .before .width-at .ensures) in
     unpad-no-cells A v b (cellsOf (a .cells .now)) (a .at) d (a .q) (sym (not-true (c .before .has-room .result) (c .if1 .taken)) ∙ first)
 
 has-room-requires-2 : tie.Need-has-room-requires-2
@@ -41,9 +42,13 @@ returns-2 c =
     let v = getD (a .widths .now) (a .i) 0 in
     let b = bitsOf (a .cells .now) in
     let d = bitsOf (a .answer .now) in
-    let first : c .before .before .before .before .has-room .result ≡ room v (a .at) b = c .before .before .before .before .has-room .ensures ∙ ap (λ (k : ℕ). room k (a .at) b) (c .before .before .before .before .before .width-at .ensures) in
-    let second : c .before .has-room2 .result ≡ room v (a .q) d = c .before .has-room2 .ensures ∙ ap (λ (k : ℕ). room k (a .q) d) (c .before .before .before .before .before .width-at .ensures) in
-    unpad-no-room A v b (cellsOf (a .cells .now)) (a .at) d (a .q) (sym (not-false (c .before .before .before .before .has-room .result) (c .before .before .before .if1 .left)) ∙ first) (sym (not-true (c .before .has-room2 .result) (c .if2 .taken)) ∙ second)
+    let first : c .before .before .before .before .has-room .result ≡ room v (a .at) b = c .before .before .before .before .has-room .ensures
+    ∙ ap (λ (k : ℕ). room k (a .at) b) (c .before .before .before .before .before .width-at .ensures) in
+    let second : c .before .has-room2 .result ≡ room v (a .q) d =
+    c .before .has-room2 .ensures ∙ ap (λ (k : ℕ). room k (a .q) d) (c .before .before .before .before .before .width-at .ensures) in
+    unpad-no-room A v b (cellsOf (a .cells .now)) (a .at) d (a .q)
+    (sym (not-false (c .before .before .before .before .has-room .result) (c .before .before .before .if1 .left)) ∙ first)
+    (sym (not-true (c .before .has-room2 .result) (c .if2 .taken)) ∙ second)
 
 unpad-part-requires : tie.Need-unpad-part-requires
 unpad-part-requires c κs =
@@ -52,10 +57,15 @@ unpad-part-requires c κs =
     let v = getD (a .widths .now) (a .i) 0 in
     let b = bitsOf (a .cells .now) in
     let d = bitsOf (a .answer .now) in
-    let first : c .before .before .before .before .before .has-room .result ≡ room v (a .at) b = c .before .before .before .before .before .has-room .ensures ∙ ap (λ (k : ℕ). room k (a .at) b) (c .before .before .before .before .before .before .width-at .ensures) in
-    let second : c .before .before .has-room2 .result ≡ room v (a .q) d = c .before .before .has-room2 .ensures ∙ ap (λ (k : ℕ). room k (a .q) d) (c .before .before .before .before .before .before .width-at .ensures) in
+    let first : c .before .before .before .before .before .has-room .result ≡ room v (a .at) b =
+    c .before .before .before .before .before .has-room .ensures
+    ∙ ap (λ (k : ℕ). room k (a .at) b) (c .before .before .before .before .before .before .width-at .ensures) in
+    let second : c .before .before .has-room2 .result ≡ room v (a .q) d = c .before .before .has-room2 .ensures
+    ∙ ap (λ (k : ℕ). room k (a .q) d) (c .before .before .before .before .before .before .width-at .ensures) in
     λ some. (
-      room-told v (a .at) b (sym first ∙ not-false (c .before .before .before .before .before .has-room .result) (c .before .before .before .before .if1 .left)) some .1,
+      room-told v (a .at) b
+          (sym first
+          ∙ not-false (c .before .before .before .before .before .has-room .result) (c .before .before .before .before .if1 .left)) some .1,
       room-told v (a .q) d (sym second ∙ not-false (c .before .before .has-room2 .result) (c .before .if2 .left)) some .1,
     )
 
@@ -67,15 +77,20 @@ same-length-2 c = search needs
 
 returns-3 : tie.Need-returns-3
 returns-3 c =
+    let width-at-call = c .before .before .before .before .before .before .before .before .before .width-at in
+    let has-room-call = c .before .before .before .before .before .before .before .before .has-room in
+    let has-room2-call = c .before .before .before .before .before .has-room2 in
     let a = c .before .before .before .before .before .before .before .before .before .before .before .before .before .before .before .args in
     let A = shapeAt (a .types .now) (a .widths .now) (a .next .now) (a .i) in
     let v = getD (a .widths .now) (a .i) 0 in
     let b = bitsOf (a .cells .now) in
     let d = bitsOf (a .answer .now) in
-    let first : c .before .before .before .before .before .before .before .before .has-room .result ≡ room v (a .at) b = c .before .before .before .before .before .before .before .before .has-room .ensures ∙ ap (λ (k : ℕ). room k (a .at) b) (c .before .before .before .before .before .before .before .before .before .width-at .ensures) in
-    let second : c .before .before .before .before .before .has-room2 .result ≡ room v (a .q) d = c .before .before .before .before .before .has-room2 .ensures ∙ ap (λ (k : ℕ). room k (a .q) d) (c .before .before .before .before .before .before .before .before .before .width-at .ensures) in
+    let first : has-room-call .result ≡ room v (a .at) b = has-room-call .ensures ∙ ap (λ (k : ℕ). room k (a .at) b) (width-at-call .ensures) in
+    let second : has-room2-call .result ≡ room v (a .q) d = has-room2-call .ensures ∙ ap (λ (k : ℕ). room k (a .q) d) (width-at-call .ensures) in
     unpad-done A v b (cellsOf (a .cells .now)) (a .at) d (a .q) (c .before .before .unpad-part .result) _
-    (sym (not-false (c .before .before .before .before .before .before .before .before .has-room .result) (c .before .before .before .before .before .before .before .if1 .left)) ∙ first) (sym (not-false (c .before .before .before .before .before .has-room2 .result) (c .before .before .before .before .if2 .left)) ∙ second) (c .before .before .unpad-part .ensures .0) (c .before .before .unpad-part .ensures .1)
+    (sym (not-false (has-room-call .result) (c .before .before .before .before .before .before .before .if1 .left)) ∙ first)
+    (sym (not-false (has-room2-call .result) (c .before .before .before .before .if2 .left)) ∙ second)
+    (c .before .before .unpad-part .ensures .0) (c .before .before .unpad-part .ensures .1)
 
 pub unpad-spec : {M : Type 1} → statement M
 unpad-spec =

@@ -25,7 +25,8 @@ returns : tie.Need-returns
 returns c =
     let a = c .before .before .before .before .before .before .before .before .before .args in
     c .before .before .zero-cells .ensures
-    ∙ ap₂ (λ (d : List ℕ) (k : ℕ). sets d k (zeros (a .padding))) (c .before .before .before .before .before .before .write-cell .ensures) (let z : a .at + 1 ≡ suc (a .at) = omega arith in z)
+    ∙ ap₂ (λ (d : List ℕ) (k : ℕ). sets d k (zeros (a .padding))) (c .before .before .before .before .before .before .write-cell .ensures)
+    (let z : a .at + 1 ≡ suc (a .at) = omega arith in z)
 
 pub write-tag-spec : {M : Type 1} → statement M
 write-tag-spec =

@@ -52,7 +52,9 @@ same-length-3 : tie.Need-same-length-3
 same-length-3 c = search needs
 
 returns-3 : tie.Need-returns-3
-returns-3 c = c .before .before .before .before .hand .ensures ∙ sym (first-disconnect _ _ (c .before .before .before .before .before .before .before .before .around2 .given .1))
+returns-3 c =
+    c .before .before .before .before .hand .ensures
+    ∙ sym (first-disconnect _ _ (c .before .before .before .before .before .before .before .before .around2 .given .1))
 
 pub first-spec : {M : Type 1} → statement M
 first-spec =

@@ -25,16 +25,21 @@ record-at-requires c κs = search needs
 returns : tie.Need-returns
 returns c =
     let start = c .before .before .before .before .before .before .before .before .before .before .before .before .before .before .before in
-    ByKind.unit-run (start .pre .0) (start .args .i) (recordOf (c .before .before .record-at .result)) (c .before .before .record-at .ensures) _ (start .pre .1 .1 .0) (c .if1 .taken)
+    ByKind.unit-run (start .pre .0) (start .args .i) (recordOf (c .before .before .record-at .result))
+    (c .before .before .record-at .ensures) _ (start .pre .1 .1 .0) (c .if1 .taken)
 
 source-width-requires : tie.Need-source-width-requires
 source-width-requires c κs = search needs
 
 copy-requires : tie.Need-copy-requires
 copy-requires c κs =
-    let start = c .before .before .before .before .before .before .before .before .before .before .before .before .before .before .before .before .before .before .before .before in
-    let record-at-call = c .before .before .before .before .before .before .before .record-at in
-    (within-fed (start .pre .1 .0), ByKind.iden-need (start .pre .0) (start .args .i) (recordOf (record-at-call .result)) (record-at-call .ensures) _ (start .pre .1 .1 .0) (c .before .before .before .if2 .taken) _ (c .source-width .ensures))
+    let start = c .before .before .before .before .before .before .before .before .before .before .before .before .before .before .before
+    .before .before .before .before .before in
+    let record-at-call = c .before .before .before .before .before .before .before .record-at in (
+      within-fed (start .pre .1 .0),
+      ByKind.iden-need (start .pre .0) (start .args .i) (recordOf (record-at-call .result)) (record-at-call .ensures) _
+          (start .pre .1 .1 .0) (c .before .before .before .if2 .taken) _ (c .source-width .ensures),
+    )
 
 same-length : tie.Need-same-length
 same-length c = search needs
@@ -44,9 +49,13 @@ same-length-2 c = search needs
 
 returns-2 : tie.Need-returns-2
 returns-2 c =
-    let start = c .before .before .before .before .before .before .before .before .before .before .before .before .before .before .before .before .before .before .before .before .before .before .before .before .before in
+    let if2-found = c .before .before .before .before .before .before .before .before .if2 in
+    let start = c .before .before .before .before .before .before .before .before .before .before .before .before .before .before .before
+    .before .before .before .before .before .before .before .before .before .before in
     let record-at-call = c .before .before .before .before .before .before .before .before .before .before .before .before .record-at in
-    ByKind.iden-run (start .pre .0) (start .args .i) (recordOf (record-at-call .result)) (record-at-call .ensures) _ (start .pre .1 .1 .0) (c .before .before .before .before .before .before .before .before .if2 .taken) _ (c .before .before .before .before .before .source-width .ensures) _ (c .before .before .before .before .copy .ensures)
+    ByKind.iden-run (start .pre .0) (start .args .i) (recordOf (record-at-call .result)) (record-at-call .ensures) _ (start .pre .1 .1 .0)
+    (if2-found .taken) _ (c .before .before .before .before .before .source-width .ensures) _
+    (c .before .before .before .before .copy .ensures)
 
 target-at-requires : tie.Need-target-at-requires
 target-at-requires c κs = search needs
@@ -56,11 +65,22 @@ position-at-requires c κs = search needs
 
 write-value-requires : tie.Need-write-value-requires
 write-value-requires c κs =
-    let start = c .before .before .before .before .before .before .before .before .before .before .before .before .before .before .before .before .before .before .before .before .before .before .before in
+    let start = c .before .before .before .before .before .before .before .before .before .before .before .before .before .before .before
+    .before .before .before .before .before .before .before .before in
     let record-at-call = c .before .before .before .before .before .before .before .before .before .before .record-at in
     let if3-there = c .before .before .before .before .if3 in
-    let target-at-call = c .before .before .before .target-at in
-    ((start .pre .0) .typed, ((start .pre .1 .0), (ByKind.witness-reads (start .pre .0) (start .args .i) (recordOf (record-at-call .result)) (record-at-call .ensures) _ (start .pre .1 .1 .0) (if3-there .taken) _ (target-at-call .ensures) _ (c .before .before .position-at .ensures), ByKind.witness-need (start .pre .0) (start .args .i) (recordOf (record-at-call .result)) (record-at-call .ensures) _ (start .pre .1 .1 .0) (if3-there .taken) _ (target-at-call .ensures) _ (c .before .before .position-at .ensures))))
+    let target-at-call = c .before .before .before .target-at in (
+      (start .pre .0) .typed,
+      (
+        (start .pre .1 .0),
+        (
+          ByKind.witness-reads (start .pre .0) (start .args .i) (recordOf (record-at-call .result)) (record-at-call .ensures) _
+              (start .pre .1 .1 .0) (if3-there .taken) _ (target-at-call .ensures) _ (c .before .before .position-at .ensures),
+          ByKind.witness-need (start .pre .0) (start .args .i) (recordOf (record-at-call .result)) (record-at-call .ensures) _
+              (start .pre .1 .1 .0) (if3-there .taken) _ (target-at-call .ensures) _ (c .before .before .position-at .ensures),
+        ),
+      ),
+    )
 
 same-length-3 : tie.Need-same-length-3
 same-length-3 c = search needs
@@ -70,23 +90,31 @@ same-length-4 c = search needs
 
 returns-3 : tie.Need-returns-3
 returns-3 c =
-    let start = c .before .before .before .before .before .before .before .before .before .before .before .before .before .before .before .before .before .before .before .before .before .before .before .before .before .before .before .before in
+    let if3-found = c .before .before .before .before .before .before .before .before .before .if3 in
+    let target-at-call = c .before .before .before .before .before .before .before .before .target-at in
+    let start = c .before .before .before .before .before .before .before .before .before .before .before .before .before .before .before
+    .before .before .before .before .before .before .before .before .before .before .before .before .before in
     let record-at-call = c .before .before .before .before .before .before .before .before .before .before .before .before .before .before .before .record-at in
-    ByKind.witness-run (start .pre .0) (start .args .i) (recordOf (record-at-call .result)) (record-at-call .ensures) _ (start .pre .1 .1 .0) (c .before .before .before .before .before .before .before .before .before .if3 .taken) _ (c .before .before .before .before .before .before .before .before .target-at .ensures) _ (c .before .before .before .before .before .before .before .position-at .ensures) _ (c .before .before .before .before .write-value .ensures)
+    ByKind.witness-run (start .pre .0) (start .args .i) (recordOf (record-at-call .result)) (record-at-call .ensures) _ (start .pre .1 .1 .0)
+    (if3-found .taken) _ (target-at-call .ensures) _ (c .before .before .before .before .before .before .before .position-at .ensures) _
+    (c .before .before .before .before .write-value .ensures)
 
 target-width-requires : tie.Need-target-width-requires
 target-width-requires c κs = search needs
 
 write-bits-requires : tie.Need-write-bits-requires
 write-bits-requires c κs =
-    let start = c .before .before .before .before .before .before .before .before .before .before .before .before .before .before .before .before .before .before .before .before .before .before .before .before in
+    let start = c .before .before .before .before .before .before .before .before .before .before .before .before .before .before .before
+    .before .before .before .before .before .before .before .before .before in
     let record-at-call = c .before .before .before .before .before .before .before .before .before .before .before .record-at in
     let if4-there = c .before .before .before .if4 in
-    let inside = ByKind.word-inside (start .pre .0) (start .args .i) (recordOf (record-at-call .result)) (record-at-call .ensures) _ (start .pre .1 .1 .0) (if4-there .taken) _ (c .before .before .target-width .ensures) in (
+    let inside = ByKind.word-inside (start .pre .0) (start .args .i) (recordOf (record-at-call .result)) (record-at-call .ensures) _
+    (start .pre .1 .1 .0) (if4-there .taken) _ (c .before .before .target-width .ensures) in (
       within-fed (start .pre .1 .0),
       (
         inside,
-        ByKind.word-need (start .pre .0) (start .args .i) (recordOf (record-at-call .result)) (record-at-call .ensures) _ (start .pre .1 .1 .0) (if4-there .taken) _ (c .before .before .target-width .ensures),
+        ByKind.word-need (start .pre .0) (start .args .i) (recordOf (record-at-call .result)) (record-at-call .ensures) _
+            (start .pre .1 .1 .0) (if4-there .taken) _ (c .before .before .target-width .ensures),
       ),
     )
 
@@ -98,15 +126,27 @@ same-length-6 c = search needs
 
 returns-4 : tie.Need-returns-4
 returns-4 c =
-    let start = c .before .before .before .before .before .before .before .before .before .before .before .before .before .before .before .before .before .before .before .before .before .before .before .before .before .before .before .before .before in
-    let record-at-call = c .before .before .before .before .before .before .before .before .before .before .before .before .before .before .before .before .record-at in
-    ByKind.word-run (start .pre .0) (start .args .i) (recordOf (record-at-call .result)) (record-at-call .ensures) _ (start .pre .1 .1 .0) (c .before .before .before .before .before .before .before .before .if4 .taken) _ (c .before .before .before .before .before .before .before .target-width .ensures) _ (c .before .before .before .before .write-bits .ensures)
+    let if4-found = c .before .before .before .before .before .before .before .before .if4 in
+    let start = c .before .before .before .before .before .before .before .before .before .before .before .before .before .before .before
+    .before .before .before .before .before .before .before .before .before .before .before .before .before .before in
+    let record-at-call =
+    c .before .before .before .before .before .before .before .before .before .before .before .before .before .before .before .before .record-at in
+    ByKind.word-run (start .pre .0) (start .args .i) (recordOf (record-at-call .result)) (record-at-call .ensures) _ (start .pre .1 .1 .0)
+    (if4-found .taken) _ (c .before .before .before .before .before .before .before .target-width .ensures) _
+    (c .before .before .before .before .write-bits .ensures)
 
 returns-5 : tie.Need-returns-5
 returns-5 c =
-    let start = c .before .before .before .before .before .before .before .before .before .before .before .before .before .before .before .before .before .before .before .before .before in
+    let start = c .before .before .before .before .before .before .before .before .before .before .before .before .before .before .before
+    .before .before .before .before .before .before in
     let record-at-call = c .before .before .before .before .before .before .before .before .record-at in
-    ByKind.fail-run (start .pre .0) (start .args .i) (recordOf (record-at-call .result)) (record-at-call .ensures) _ (start .pre .1 .1 .0) ((omega (arith, (ap (λ (r : NodeRecord). r .kind) (record-at-call .ensures)), (start .pre .1 .1 .1))), c .before .before .before .before .before .before .if1 .left, c .before .before .before .before .if2 .left, c .before .before .if3 .left, c .if4 .left)
+    ByKind.fail-run (start .pre .0) (start .args .i) (recordOf (record-at-call .result)) (record-at-call .ensures) _ (start .pre .1 .1 .0) (
+      (omega (arith, (ap (λ (r : NodeRecord). r .kind) (record-at-call .ensures)), (start .pre .1 .1 .1))),
+      c .before .before .before .before .before .before .if1 .left,
+      c .before .before .before .before .if2 .left,
+      c .before .before .if3 .left,
+      c .if4 .left,
+    )
 
 pub leaf-spec : {M : Type 1} → statement M
 leaf-spec =

@@ -16,8 +16,16 @@ record-at-requires c κs = search needs
 
 branch-requires : tie.Need-branch-requires
 branch-requires c κs =
-    let start = c .before .before .before .before .before .before .before .before .before .before .before .before .before .before .before .before .before in
-    ((start .pre .0), ((start .pre .1 .0), ((start .pre .1 .1), sym (ap (λ (r : NodeRecord). r .kind) (c .before .before .before .before .record-at .ensures)) ∙ c .before .before .if1 .taken)))
+    let start = c .before .before .before .before .before .before .before .before .before .before .before .before .before .before .before .before .before in (
+      (start .pre .0),
+      (
+        (start .pre .1 .0),
+        (
+          (start .pre .1 .1),
+          sym (ap (λ (r : NodeRecord). r .kind) (c .before .before .before .before .record-at .ensures)) ∙ c .before .before .if1 .taken,
+        ),
+      ),
+    )
 
 same-length : tie.Need-same-length
 same-length c = search needs
@@ -30,14 +38,31 @@ returns c = search needs
 
 returns-2 : tie.Need-returns-2
 returns-2 c =
-    let record-at-call = c .before .before .before .before .record-at in
-    (refl, (omega (arith, (ap (λ (r : NodeRecord). r .kind) (record-at-call .ensures))), (λ z. c .before .before .if1 .left ((ap (λ (r : NodeRecord). r .kind) (record-at-call .ensures)) ∙ z))))
+    let record-at-call = c .before .before .before .before .record-at in (
+      refl,
+      (
+        omega (arith, (ap (λ (r : NodeRecord). r .kind) (record-at-call .ensures))),
+        (λ z. c .before .before .if1 .left ((ap (λ (r : NodeRecord). r .kind) (record-at-call .ensures)) ∙ z)),
+      ),
+    )
 
 one-child-requires : tie.Need-one-child-requires
 one-child-requires c κs =
-    let start = c .before .before .before .before .before .before .before .before .before .before .before .before .before .before .before .before .before .before .before .before .before in
-    let record-at-call = c .before .before .before .before .before .before .before .before .record-at in
-    ((start .pre .0), ((start .pre .1 .0), ((start .pre .1 .1), (omega (arith, (ap (λ (r : NodeRecord). r .kind) (record-at-call .ensures))), omega (arith, (ap (λ (r : NodeRecord). r .kind) (record-at-call .ensures)))))))
+    let start = c .before .before .before .before .before .before .before .before .before .before .before .before .before .before .before
+    .before .before .before .before .before .before in
+    let record-at-call = c .before .before .before .before .before .before .before .before .record-at in (
+      (start .pre .0),
+      (
+        (start .pre .1 .0),
+        (
+          (start .pre .1 .1),
+          (
+            omega (arith, (ap (λ (r : NodeRecord). r .kind) (record-at-call .ensures))),
+            omega (arith, (ap (λ (r : NodeRecord). r .kind) (record-at-call .ensures))),
+          ),
+        ),
+      ),
+    )
 
 same-length-3 : tie.Need-same-length-3
 same-length-3 c = search needs
@@ -50,8 +75,20 @@ returns-3 c = search needs
 
 leaf-requires : tie.Need-leaf-requires
 leaf-requires c κs =
-    let start = c .before .before .before .before .before .before .before .before .before .before .before .before .before .before .before .before .before .before .before .before .before in
-    ((start .pre .0), ((start .pre .1 .0), ((start .pre .1 .1), omega (arith, (ap (λ (r : NodeRecord). r .kind) (c .before .before .before .before .before .before .before .before .record-at .ensures))))))
+    let start = c .before .before .before .before .before .before .before .before .before .before .before .before .before .before .before
+    .before .before .before .before .before .before in (
+      (start .pre .0),
+      (
+        (start .pre .1 .0),
+        (
+          (start .pre .1 .1),
+          omega (
+            arith,
+            (ap (λ (r : NodeRecord). r .kind) (c .before .before .before .before .before .before .before .before .record-at .ensures)),
+          ),
+        ),
+      ),
+    )
 
 same-length-5 : tie.Need-same-length-5
 same-length-5 c = search needs

@@ -27,7 +27,9 @@ drop-read-requires-2 : tie.Need-drop-read-requires-2
 drop-read-requires-2 c κs = (third-needs [] _ (c .before .enum-told3 .given .1) (c .before .before .before .before .pre)) .0
 
 drop-read-requires-3 : tie.Need-drop-read-requires-3
-drop-read-requires-3 c κs = subst (λ (z : Mach). DropOk z) (sym (c .before .before .before .drop-read2 .ensures [])) ((third-needs [] _ (c .before .before .before .before .before .enum-told3 .given .1) (c .before .before .before .before .before .before .before .before .pre)) .1)
+drop-read-requires-3 c κs =
+    subst (λ (z : Mach). DropOk z) (sym (c .before .before .before .drop-read2 .ensures [])) ((third-needs [] _
+    (c .before .before .before .before .before .enum-told3 .given .1) (c .before .before .before .before .before .before .before .before .pre)) .1)
 
 returns : tie.Need-returns
 returns c = λ hash b. sym (third-pair hash _ (c .enum-told .given .1))
@@ -42,7 +44,10 @@ same-length-2 : tie.Need-same-length-2
 same-length-2 c = search needs
 
 returns-3 : tie.Need-returns-3
-returns-3 c = λ hash b. c .before .before .drop-read3 .ensures b ∙ ap dropped (c .before .before .before .before .before .before .drop-read2 .ensures b) ∙ sym (third-disconnect hash _ (c .before .before .before .before .before .before .before .before .enum-told3 .given .1))
+returns-3 c =
+    λ hash b. c .before .before .drop-read3 .ensures b
+    ∙ ap dropped (c .before .before .before .before .before .before .drop-read2 .ensures b)
+    ∙ sym (third-disconnect hash _ (c .before .before .before .before .before .before .before .before .enum-told3 .given .1))
 
 pub third-spec : {M : Type 1} → statement M
 third-spec =

@@ -35,7 +35,11 @@ returns-2 : tie.Need-returns-2
 returns-2 c =
     let moved = c .before .before .before .backed .ensures ∙ ap (backward _) (c .before .before .before .before .before .record-at .ensures) in
     let records = c .before .before .before .before .before .before .before .before .records .ensures in
-    λ b. rw (stored _ _ _ (c .before .before .put-record .ensures) moved, records, backed-some _ _ (c .before .before .before .before .before .before .before .before .before .before .if1 .left))
+    λ b. rw (
+      stored _ _ _ (c .before .before .put-record .ensures) moved,
+      records,
+      backed-some _ _ (c .before .before .before .before .before .before .before .before .before .before .if1 .left),
+    )
 
 pub back-spec : {M : Type 1} → statement M
 back-spec =

@@ -31,7 +31,11 @@ returns : tie.Need-returns
 unfolding dropped
 returns c =
     let freed = stored _ _ _ (c .before .before .put-record .ensures) (c .before .before .before .none .ensures) in
-    λ b. rw (freed, ← (c .before .before .before .before .before .before .before .records .ensures), ← (c .before .before .before .before .before .record-at .ensures))
+    λ b. rw (
+      freed,
+      ← (c .before .before .before .before .before .before .before .records .ensures),
+      ← (c .before .before .before .before .before .record-at .ensures),
+    )
 
 pub drop-read-spec : {M : Type 1} → statement M
 drop-read-spec =

@@ -42,9 +42,15 @@ same-length c = search needs
 returns : tie.Need-returns
 unfolding moved
 returns c =
-    let freed = stored _ _ _ (c .before .before .before .before .before .before .before .put-record .ensures) (c .before .before .before .before .before .before .before .before .none .ensures) in
+    let freed = stored _ _ _ (c .before .before .before .before .before .before .before .put-record .ensures)
+    (c .before .before .before .before .before .before .before .before .none .ensures) in
     let put = stored _ _ _ (c .before .before .put-record2 .ensures) (c .before .before .before .at-start .ensures) in
-    λ b. rw (put, freed, ← (c .before .before .before .before .before .before .before .before .before .before .record-at .ensures), c .before .before .before .before .before .before .before .before .before .before .before .before .records .ensures)
+    λ b. rw (
+      put,
+      freed,
+      ← (c .before .before .before .before .before .before .before .before .before .before .record-at .ensures),
+      c .before .before .before .before .before .before .before .before .before .before .before .before .records .ensures,
+    )
 
 pub move-to-read-spec : {M : Type 1} → statement M
 move-to-read-spec =

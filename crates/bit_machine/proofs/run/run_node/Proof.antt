@@ -31,14 +31,17 @@ source-at-requires c κs = search needs
 
 open-input-requires : tie.Need-open-input-requires
 open-input-requires c κs =
-    let start = c .before .before .before .before .before .before .before .before .before .before .before .before .before .before .before .before .before .before .before .before in
+    let start = c .before .before .before .before .before .before .before .before .before .before .before .before .before .before .before
+    .before .before .before .before .before in
     let clear-call = c .before .before .before .before .before .clear-numbers in (
       start .pre .0 .typed,
       (
         within-kept (start .pre .1 .0) refl (clear-call .kept .0),
         (
           Whole.input-reads (start .pre .0) (start .args .i) _ _ _ (c .before .before .source-at .ensures) (start .pre .1 .1),
-          λ some. Whole.input-as (Whole.none-open _ _ (length (start .args .frames .now)) (clear-call .ensures ∙ all-cleared (start .args .frames .now))) (Whole.input-need (start .pre .0) (start .args .i) _ _ _ (c .before .before .source-at .ensures) (start .pre .1 .1) some),
+          λ some. Whole.input-as
+              (Whole.none-open _ _ (length (start .args .frames .now)) (clear-call .ensures ∙ all-cleared (start .args .frames .now)))
+              (Whole.input-need (start .pre .0) (start .args .i) _ _ _ (c .before .before .source-at .ensures) (start .pre .1 .1) some),
         ),
       ),
     )
@@ -48,19 +51,37 @@ target-width-requires c κs = search needs
 
 open-output-requires : tie.Need-open-output-requires
 open-output-requires c κs =
-    let start = c .before .before .before .before .before .before .before .before .before .before .before .before .before .before .before .before .before .before .before .before .before .before .before .before .before .before .before in
-    λ some. push-need (Whole.input-is (start .pre .0) (start .args .i) _ _ _ (c .before .before .before .before .before .before .before .before .before .source-at .ensures) _ (c .before .before .before .before .before .before .open-input .ensures ∙ ap (withInput _ _) (Whole.none-open _ _ (length (start .args .frames .now)) (c .before .before .before .before .before .before .before .before .before .before .before .before .clear-numbers .ensures ∙ all-cleared (start .args .frames .now))))) (fed-bits (within-fed (start .pre .1 .0))) (Whole.output-need (start .pre .0) (start .args .i) _ _ _ (c .before .target-width .ensures) (start .pre .1 .1) some)
+    let clear-numbers-call = c .before .before .before .before .before .before .before .before .before .before .before .before .clear-numbers in
+    let source-at-call = c .before .before .before .before .before .before .before .before .before .source-at in
+    let start = c .before .before .before .before .before .before .before .before .before .before .before .before .before .before .before
+    .before .before .before .before .before .before .before .before .before .before .before .before in
+    λ some. push-need
+    (Whole.input-is (start .pre .0) (start .args .i) _ _ _ (source-at-call .ensures) _
+    (c .before .before .before .before .before .before .open-input .ensures ∙ ap (withInput _ _)
+    (Whole.none-open _ _ (length (start .args .frames .now)) (clear-numbers-call .ensures ∙ all-cleared (start .args .frames .now)))))
+    (fed-bits (within-fed (start .pre .1 .0)))
+    (Whole.output-need (start .pre .0) (start .args .i) _ _ _ (c .before .target-width .ensures) (start .pre .1 .1) some)
 
 node-requires : tie.Need-node-requires
 node-requires c κs =
-    let start = c .before .before .before .before .before .before .before .before .before .before .before .before .before .before .before .before .before .before .before .before .before .before .before .before .before .before .before .before .before .before .before .before in
-    let clear-call = c .before .before .before .before .before .before .before .before .before .before .before .before .before .before .before .before .before .clear-numbers in
+    let source-at-call = c .before .before .before .before .before .before .before .before .before .before .before .before .before .before .source-at in
+    let start =
+    c .before .before .before .before .before .before .before .before .before .before .before .before .before .before .before .before
+    .before .before .before .before .before .before .before .before .before .before .before .before .before .before .before .before in
+    let clear-call = c .before .before .before .before .before .before .before .before .before .before .before .before .before .before
+    .before .before .before .clear-numbers in
     let open-input-call = c .before .before .before .before .before .before .before .before .before .before .before .open-input in
     let open-output-call = c .before .before .before .before .open-output in (
       start .pre .0,
       (
-        within-kept (start .pre .1 .0) (open-input-call .kept .1 .1 .1 .1 .1 .0) (open-output-call .kept .0 ∙ open-input-call .kept .1 .1 .1 .1 .1 .1 .0 ∙ clear-call .kept .0),
-        safe-as _ (Whole.output-is (start .pre .0) (start .args .i) _ _ _ (c .before .before .before .before .before .before .target-width .ensures) _ (open-output-call .ensures _ ∙ ap (withOutput _) (Whole.input-is (start .pre .0) (start .args .i) _ _ _ (c .before .before .before .before .before .before .before .before .before .before .before .before .before .before .source-at .ensures) _ (open-input-call .ensures ∙ ap (withInput _ _) (Whole.none-open _ _ (length (start .args .frames .now)) (clear-call .ensures ∙ all-cleared (start .args .frames .now))))))) ((start .pre .1 .1) .safe .term),
+        within-kept (start .pre .1 .0) (open-input-call .kept .1 .1 .1 .1 .1 .0)
+            (open-output-call .kept .0 ∙ open-input-call .kept .1 .1 .1 .1 .1 .1 .0 ∙ clear-call .kept .0),
+        safe-as _
+            (Whole.output-is (start .pre .0) (start .args .i) _ _ _ (c .before .before .before .before .before .before .target-width .ensures) _
+            (open-output-call .ensures _ ∙ ap (withOutput _)
+            (Whole.input-is (start .pre .0) (start .args .i) _ _ _ (source-at-call .ensures) _ (open-input-call .ensures ∙ ap (withInput _ _)
+            (Whole.none-open _ _ (length (start .args .frames .now)) (clear-call .ensures ∙ all-cleared (start .args .frames .now)))))))
+            ((start .pre .1 .1) .safe .term),
       ),
     )
 
@@ -71,17 +92,44 @@ same-length : tie.Need-same-length
 same-length c = search needs
 
 same-length-2 : tie.Need-same-length-2
-same-length-2 c = c .before .before .clear-numbers2 .kept .0 ∙ c .before .before .before .before .before .before .before .before .node .kept .1 .1 .1 .1 .1 .1 .1 .1 .1 .1 .1 .0 ∙ c .before .before .before .before .before .before .before .before .before .before .before .before .before .open-output .kept .0 ∙ c .before .before .before .before .before .before .before .before .before .before .before .before .before .before .before .before .before .before .before .before .open-input .kept .1 .1 .1 .1 .1 .1 .0 ∙ c .before .before .before .before .before .before .before .before .before .before .before .before .before .before .before .before .before .before .before .before .before .before .before .before .before .before .clear-numbers .kept .0
+same-length-2 c =
+    let clear-numbers-call = c .before .before .before .before .before .before .before .before .before .before .before .before .before
+    .before .before .before .before .before .before .before .before .before .before .before .before .before .clear-numbers in
+    let open-input-call = c .before .before .before .before .before .before .before .before .before .before .before .before .before .before
+    .before .before .before .before .before .before .open-input in
+    let open-output-call = c .before .before .before .before .before .before .before .before .before .before .before .before .before .open-output in
+    let node-call = c .before .before .before .before .before .before .before .before .node in
+    c .before .before .clear-numbers2 .kept .0
+    ∙ node-call .kept .1 .1 .1 .1 .1 .1 .1 .1 .1 .1 .1 .0
+    ∙ open-output-call .kept .0
+    ∙ open-input-call .kept .1 .1 .1 .1 .1 .1 .0
+    ∙ clear-numbers-call .kept .0
 
 returns : tie.Need-returns
 returns c =
-    let start = c .before .before .before .before .before .before .before .before .before .before .before .before .before .before .before .before .before .before .before .before .before .before .before .before .before .before .before .before .before .before .before .before .before .before .before .before .before .before .before .before .before in
-    let clear-call = c .before .before .before .before .before .before .before .before .before .before .before .before .before .before .before .before .before .before .before .before .before .before .before .before .before .before .clear-numbers in
-    let open-input-call = c .before .before .before .before .before .before .before .before .before .before .before .before .before .before .before .before .before .before .before .before .open-input in
+    let source-at-call = c .before .before .before .before .before .before .before .before .before .before .before .before .before .before
+    .before .before .before .before .before .before .before .before .before .source-at in
+    let target-width-call =
+    c .before .before .before .before .before .before .before .before .before .before .before .before .before .before .before .target-width in
+    let start = c .before .before .before .before .before .before .before .before .before .before .before .before .before .before .before
+    .before .before .before .before .before .before .before .before .before .before .before .before .before .before .before .before
+    .before .before .before .before .before .before .before .before .before .before in
+    let clear-call = c .before .before .before .before .before .before .before .before .before .before .before .before .before .before
+    .before .before .before .before .before .before .before .before .before .before .before .before .clear-numbers in
+    let open-input-call = c .before .before .before .before .before .before .before .before .before .before .before .before .before .before
+    .before .before .before .before .before .before .open-input in
     let open-output-call = c .before .before .before .before .before .before .before .before .before .before .before .before .before .open-output in
     let node-call = c .before .before .before .before .before .before .before .before .node in (
-      Whole.whole-end (start .pre .0) (start .args .i) _ _ (node-call .result) _ _ _ (Whole.output-is (start .pre .0) (start .args .i) _ _ _ (c .before .before .before .before .before .before .before .before .before .before .before .before .before .before .before .target-width .ensures) _ (open-output-call .ensures _ ∙ ap (withOutput _) (Whole.input-is (start .pre .0) (start .args .i) _ _ _ (c .before .before .before .before .before .before .before .before .before .before .before .before .before .before .before .before .before .before .before .before .before .before .before .source-at .ensures) _ (open-input-call .ensures ∙ ap (withInput _ _) (Whole.none-open _ _ (length (start .args .frames .now)) (clear-call .ensures ∙ all-cleared (start .args .frames .now))))))) (node-call .ensures),
-      c .before .before .clear-numbers2 .ensures ∙ all-cleared (node-call .last .1 .1 .1 .1 .1 .1 .1 .1 .1 .1 .1 .0) ∙ ap zeros (node-call .kept .1 .1 .1 .1 .1 .1 .1 .1 .1 .1 .1 .0 ∙ open-output-call .kept .0 ∙ open-input-call .kept .1 .1 .1 .1 .1 .1 .0 ∙ clear-call .kept .0),
+      Whole.whole-end (start .pre .0) (start .args .i) _ _ (node-call .result) _ _ _
+          (Whole.output-is (start .pre .0) (start .args .i) _ _ _ (target-width-call .ensures) _ (open-output-call .ensures _ ∙ ap (withOutput _)
+          (Whole.input-is (start .pre .0) (start .args .i) _ _ _ (source-at-call .ensures) _ (open-input-call .ensures ∙ ap (withInput _ _)
+          (Whole.none-open _ _ (length (start .args .frames .now)) (clear-call .ensures ∙ all-cleared (start .args .frames .now)))))))
+          (node-call .ensures),
+      c .before .before .clear-numbers2 .ensures
+          ∙ all-cleared (node-call .last .1 .1 .1 .1 .1 .1 .1 .1 .1 .1 .1 .0)
+          ∙ ap zeros
+          (node-call .kept .1 .1 .1 .1 .1 .1 .1 .1 .1 .1 .1 .0 ∙ open-output-call .kept .0 ∙ open-input-call .kept .1 .1 .1 .1 .1 .1 .0
+          ∙ clear-call .kept .0),
     )
 
 pub run-node-spec : {M : Type 1} → statement M

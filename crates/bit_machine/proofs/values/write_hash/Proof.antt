@@ -25,12 +25,14 @@ branch-hash-requires c κs = search needs
 
 cast-n : tie.Need-cast-n
 cast-n c =
-    let short = hash-short (c .branch-hash .result .now) _ _ _ (branch-holds _ _ _ _ _ (c .branch-hash .ensures) ∙ ap (branchHash _ _) (c .before .place .ensures .0)) in
+    let short = hash-short (c .branch-hash .result .now) _ _ _
+    (branch-holds _ _ _ _ _ (c .branch-hash .ensures) ∙ ap (branchHash _ _) (c .before .place .ensures .0)) in
     omega arith
 
 mul-n : tie.Need-mul-n
 mul-n c =
-    let short = hash-short (c .branch-hash .result .now) _ _ _ (branch-holds _ _ _ _ _ (c .branch-hash .ensures) ∙ ap (branchHash _ _) (c .before .place .ensures .0)) in
+    let short = hash-short (c .branch-hash .result .now) _ _ _
+    (branch-holds _ _ _ _ _ (c .branch-hash .ensures) ∙ ap (branchHash _ _) (c .before .place .ensures .0)) in
     omega arith
 
 write-bits-requires : tie.Need-write-bits-requires

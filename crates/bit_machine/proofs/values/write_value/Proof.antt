@@ -23,11 +23,13 @@ width-at-requires c κs = search needs
 returns : tie.Need-returns
 returns c =
     let start = c .before .before .before .before .before .before .before .before in
-    value-none (start .pre .0) (start .args .k) (streamOf (start .args .source .now)) (start .args .p) (start .pre .1 .1 .0) (c .before .width-at .result) (c .before .width-at .ensures) (c .if1 .taken) _
+    value-none (start .pre .0) (start .args .k) (streamOf (start .args .source .now)) (start .args .p) (start .pre .1 .1 .0)
+    (c .before .width-at .result) (c .before .width-at .ensures) (c .if1 .taken) _
 
 write-cursor-requires : tie.Need-write-cursor-requires
 write-cursor-requires c κs =
-    let h = (c .before .before .before .before .before .before .before .before .before .pre .1 .1 .1) (omega (arith, c .before .before .width-at .ensures, c .before .if1 .left)) in
+    let h = (c .before .before .before .before .before .before .before .before .before .pre .1 .1 .1)
+    (omega (arith, c .before .before .width-at .ensures, c .before .if1 .left)) in
     (h .some, h .held)
 
 place-requires : tie.Need-place-requires
@@ -51,16 +53,21 @@ same-length-2 c = search needs
 
 returns-2 : tie.Need-returns-2
 returns-2 c =
-    let start = c .before .before .before .before .before .before .before .before .before .before .before .before .before .before .before .before .before .before .before in
+    let place-call = c .before .before .before .before .before .before .before .before .place in
+    let start = c .before .before .before .before .before .before .before .before .before .before .before .before .before .before .before
+    .before .before .before .before in
     let width-at-call = c .before .before .before .before .before .before .before .before .before .before .before .before .width-at in
     let if1-there = c .before .before .before .before .before .before .before .before .before .before .before .if1 in
     let write-cursor-call = c .before .before .before .before .before .before .before .before .before .write-cursor in
     let pad-call = c .before .before .before .before .before .before .pad in
     let e = width-at-call .ensures in
     c .before .before .skip .ensures _
-    ∙ value-written (start .pre .0) (start .args .k) (streamOf (start .args .source .now)) (start .args .p) (start .pre .1 .1 .0) (width-at-call .result) (width-at-call .ensures) _ _ _ _ _ (if1-there .left) (rw e ((start .pre .1 .1 .1) (omega (arith, if1-there .left)))) (let z = start .pre .1 .0 .cells in omega (arith, length-bits (start .args .cells .now)))
+    ∙ value-written (start .pre .0) (start .args .k) (streamOf (start .args .source .now)) (start .args .p) (start .pre .1 .1 .0)
+    (width-at-call .result) (width-at-call .ensures) _ _ _ _ _ (if1-there .left)
+    (rw e ((start .pre .1 .1 .1) (omega (arith, if1-there .left))))
+    (let z = start .pre .1 .0 .cells in omega (arith, length-bits (start .args .cells .now)))
     (write-cursor-call .result) (write-cursor-call .ensures) (pad-call .result) _
-    (rw (sym (c .before .before .before .before .before .before .before .before .place .ensures .0)) (pad-call .ensures))
+    (rw (sym (place-call .ensures .0)) (pad-call .ensures))
 
 pub write-value-spec : {M : Type 1} → statement M
 write-value-spec =
