@@ -230,8 +230,6 @@ pad-part-same-length t c = search needs
 
 pad-part-returns-2 : (t : ℕ) → pad-part-lts.Need-returns-2 (pad-part-calls t) (pad-part-at t) pad-part.Post
 pad-part-returns-2 t c =
-    let step-at-call = c .before .before .before .before .before .before .before .before .before .step-at in
-    let pad-part2-call = c .before .before .before .before .pad-part2 in
     let a = c .before .before .before .before .before .before .before .before .before .before .before .before .before .before .before .args in
     let ts = a .types .now in
     let w = a .widths .now in
@@ -241,10 +239,11 @@ pad-part-returns-2 t c =
     let l = g .0 .0 in
     let r = g .0 .1 .0 in
     let v = g .0 .1 .1 .0 in
-    let e : stepAt ts w n (a .i) ≡ Both l r v = sym (step-at-call .ensures) ∙ g .1 in (
-      skip-cut ts w n (a .i) l r v e (a .p) (drop (a .p) bits) (sym (c .enum-told3 .given .1) ∙ pad-part2-call .ensures .0),
-      pad-cut ts w n (a .i) l r v e (a .p) (a .at) (drop (a .p) bits) (bitsOf (a .cells .now)) _
-          (sym (c .enum-told3 .given .1) ∙ pad-part2-call .ensures .0) (pad-part2-call .ensures .1),
+    let e : stepAt ts w n (a .i) ≡ Both l r v = sym (c .before .before .before .before .before .before .before .before .before .step-at .ensures) ∙ g .1 in (
+      skip-cut ts w n (a .i) l r v e (a .p) (drop (a .p) bits)
+          (sym (c .enum-told3 .given .1) ∙ c .before .before .before .before .pad-part2 .ensures .0),
+      pad-cut ts w n (a .i) l r v e (a .p) (a .at) (drop (a .p) bits) (bitsOf (a .cells .now)) _ (sym (c .enum-told3 .given .1)
+          ∙ c .before .before .before .before .pad-part2 .ensures .0) (c .before .before .before .before .pad-part2 .ensures .1),
     )
 
 pad-part-add-pad-part-3 : (t : ℕ) → pad-part-lts.Need-add-pad-part-3 (pad-part-calls t) (pad-part-at t) pad-part.Post
@@ -315,11 +314,6 @@ pad-part-same-length-3 t c = search needs
 
 pad-part-returns-5 : (t : ℕ) → pad-part-lts.Need-returns-5 (pad-part-calls t) (pad-part-at t) pad-part.Post
 pad-part-returns-5 t c =
-    let step-at-call =
-    c .before .before .before .before .before .before .before .before .before .before .before .before .before .before .before .before .before .step-at in
-    let bit-call = c .before .before .before .before .before .before .before .before .before .before .before .before .before .bit in
-    let padding-of-call = c .before .before .before .before .before .before .before .before .before .padding-of in
-    let part-of-call = c .before .before .before .before .part-of in
     let a = c .before .before .before .before .before .before .before .before .before .before .before .before .before .before .before
     .before .before .before .before .before .before .before .before .args in
     let ts = a .types .now in
@@ -331,16 +325,23 @@ pad-part-returns-5 t c =
     let r = g .0 .1 .0 in
     let x = g .0 .1 .1 .0 in
     let y = g .0 .1 .1 .1 .0 in
-    let e : stepAt ts w n (a .i) ≡ Tag l r x y = sym (step-at-call .ensures) ∙ g .1 in
+    let e : stepAt ts w n (a .i) ≡ Tag l r x y = sym (c .before .before .before .before .before .before .before .before .before .before
+    .before .before .before .before .before .before .before .step-at .ensures) ∙ g .1 in
     let b = c .before .before .before .before .before .before .before .before .before .before .before .side .given in
     let side = b .0 .0 in
     let after = b .0 .1 .0 in
-    let read : code bits 1 (a .p) ≡ got side after = sym (bit-call .ensures) ∙ ap gotCode (b .1) in
+    let read : code bits 1 (a .p) ≡ got side after =
+    sym (c .before .before .before .before .before .before .before .before .before .before .before .before .before .bit .ensures)
+    ∙ ap gotCode (b .1) in
     let rest = bit-got bits (a .p) side after read in (
       c .before .before .pad-part .ensures .0
-          ∙ skip-tag ts w n (a .i) l r x y e side (part-of-call .result) (a .p) after bits (part-of-call .ensures) (rest .1) (rest .2),
-      pad-tag ts w n (a .i) l r x y e side (part-of-call .result) (padding-of-call .result) (a .p) after (a .at) bits (bitsOf (a .cells .now)) _ _
-          (bit-below (a .s .now) (a .p) side after read) (part-of-call .ensures) (padding-of-call .ensures) (rest .2)
+          ∙ skip-tag ts w n (a .i) l r x y e side (c .before .before .before .before .part-of .result) (a .p) after bits
+          (c .before .before .before .before .part-of .ensures) (rest .1) (rest .2),
+      pad-tag ts w n (a .i) l r x y e side (c .before .before .before .before .part-of .result)
+          (c .before .before .before .before .before .before .before .before .before .padding-of .result) (a .p) after (a .at) bits
+          (bitsOf (a .cells .now)) _ _
+          (bit-below (a .s .now) (a .p) side after read) (c .before .before .before .before .part-of .ensures)
+          (c .before .before .before .before .before .before .before .before .before .padding-of .ensures) (rest .2)
           (c .before .before .before .before .before .before .before .write-tag .ensures) (c .before .before .pad-part .ensures .1),
     )
 

@@ -275,11 +275,6 @@ unpad-part-same-length-2 t c = search needs
 unpad-part-returns-3 : (t : ℕ) → unpad-part-lts.Need-returns-3 (unpad-part-calls t) (unpad-part-at t) unpad-part.Post
 unfolding cellsOf
 unpad-part-returns-3 t c =
-    let step-at-call = c .before .before .before .before .before .before .before .before .before .before .before .before .before .before .step-at in
-    let read-cell-call = c .before .before .before .before .before .before .before .before .before .before .read-cell in
-    let write-cell-call = c .before .before .before .before .before .before .before .before .write-cell in
-    let padding-of-call = c .before .before .before .before .before .padding-of in
-    let part-of-call = c .before .before .before .before .part-of in
     let a = c .before .before .before .before .before .before .before .before .before .before .before .before .before .before .before
     .before .before .before .before .before .args in
     let ts = a .types .now in
@@ -290,13 +285,17 @@ unpad-part-returns-3 t c =
     let r = g .0 .1 .0 in
     let x = g .0 .1 .1 .0 in
     let y = g .0 .1 .1 .1 .0 in
-    let e : stepAt ts w n (a .i) ≡ Tag l r x y = sym (step-at-call .ensures) ∙ g .1 in
+    let e : stepAt ts w n (a .i) ≡ Tag l r x y =
+    sym (c .before .before .before .before .before .before .before .before .before .before .before .before .before .before .step-at .ensures)
+    ∙ g .1 in
     let here = c .before .before .before .before .before .before .before .before .before .before .read-cell .ensures in
     let small = bit-small (a .cells .now) (a .at) in
-    unpad-tag ts w n (a .i) l r x y e (read-cell-call .result) (part-of-call .result) (padding-of-call .result) (cellsOf (a .cells .now))
-    (a .at) (a .q) (c .before .before .unpad-part .result) (bitsOf (a .answer .now)) _ _
-    (omega arith) (sym here) (part-of-call .ensures) (padding-of-call .ensures) (write-cell-call .ensures)
-    (c .before .before .unpad-part .ensures .0) (c .before .before .unpad-part .ensures .1)
+    unpad-tag ts w n (a .i) l r x y e (c .before .before .before .before .before .before .before .before .before .before .read-cell .result)
+    (c .before .before .before .before .part-of .result) (c .before .before .before .before .before .padding-of .result)
+    (cellsOf (a .cells .now)) (a .at) (a .q) (c .before .before .unpad-part .result) (bitsOf (a .answer .now)) _ _
+    (omega arith) (sym here) (c .before .before .before .before .part-of .ensures) (c .before .before .before .before .before .padding-of .ensures)
+    (c .before .before .before .before .before .before .before .before .write-cell .ensures) (c .before .before .unpad-part .ensures .0)
+    (c .before .before .unpad-part .ensures .1)
 
 unpad-part-same-length-3 : (t : ℕ) → unpad-part-lts.Need-same-length-3 (unpad-part-calls t) (unpad-part-at t) unpad-part.Post
 unpad-part-same-length-3 t c = search needs

@@ -67,20 +67,19 @@ same-length-2 c = search needs
 
 returns-3 : tie.Need-returns-3
 returns-3 c =
-    let skip-call = c .before .before .before .before .before .before .before .before .before .before .skip in
-    let enum-told-found = c .before .before .before .before .before .before .before .before .enum-told in
-    let has-room-call = c .before .before .before .before .before .has-room in
     let a = c .before .before .before .before .before .before .before .before .before .before .before .before .before .before .before .before .args in
     let A = shapeAt (a .types .now) (a .widths .now) (a .next .now) (a .i) in
     let v = getD (a .widths .now) (a .i) 0 in
     let bits = streamOf (a .s .now) in
     let d = bitsOf (a .cells .now) in
-    let there = sym (enum-told-found .given .1) ∙ skip-call .ensures in
-    let space : has-room-call .result ≡ room v (a .at) d =
-    has-room-call .ensures ∙ ap (λ (k : ℕ). room k (a .at) d) (c .before .before .before .before .before .before .width-at .ensures) in
+    let there = sym (c .before .before .before .before .before .before .before .before .enum-told .given .1)
+    ∙ c .before .before .before .before .before .before .before .before .before .before .skip .ensures in
+    let space : c .before .before .before .before .before .has-room .result ≡ room v (a .at) d =
+    c .before .before .before .before .before .has-room .ensures
+    ∙ ap (λ (k : ℕ). room k (a .at) d) (c .before .before .before .before .before .before .width-at .ensures) in
     pad-done A v bits (a .p) d (a .at) _ (c .before .before .pad-part .result) _ there
-    (sym (not-false (has-room-call .result) (c .before .before .before .before .if1 .left)) ∙ space)
-    (c .before .before .pad-part .ensures .0) (c .before .before .pad-part .ensures .1)
+    (sym (not-false (c .before .before .before .before .before .has-room .result) (c .before .before .before .before .if1 .left))
+    ∙ space) (c .before .before .pad-part .ensures .0) (c .before .before .pad-part .ensures .1)
 
 pub pad-spec : {M : Type 1} → statement M
 pad-spec =

@@ -92,37 +92,38 @@ tag-step-requires c κs = search needs
 
 returns-5 : tie.Need-returns-5
 returns-5 c =
-    let width-at-call = c .before .before .before .before .before .before .before .before .before .before .before .before .before .before .before .width-at in
-    let if1-found = c .before .before .before .before .before .before .before .before .before .before .before .before .before .before .if1 in
-    let next-at-call = c .before .before .before .before .before .before .before .before .before .before .before .before .next-at in
-    let if3-found = c .before .before .before .before .before .before .before .before .before .before .before .if3 in
-    let index-call = c .before .before .before .before .before .before .before .before .before .before .index in
-    let record-at-call = c .before .before .before .before .before .before .before .before .before .record-at in
-    let index2-call = c .before .before .before .before .before .before .before .before .index2 in
-    let index3-call = c .before .before .before .before .before .before .before .index3 in
-    let parts-fall-call = c .before .before .before .before .before .before .parts-fall in
-    let width-at2-call = c .before .before .before .before .width-at2 in
-    let width-at3-call = c .before .before .before .width-at3 in
     let a = c .before .before .before .before .before .before .before .before .before .before .before .before .before .before .before
     .before .before .before .before .args in
     let t = a .types .now in
     let w = a .widths .now in
     let n = a .next .now in
     let R = recordFor t w n (a .i) in
-    let j : index-call .result ≡ getD n (a .i) 0 = index-call .ensures .0 ∙ next-at-call .ensures in
-    let own = record-at-call .ensures ∙ ap (λ (k : ℕ). recordOf (typeAt (typeRecords t) k)) j in
-    let x : index2-call .result ≡ R .left = index2-call .ensures .0 ∙ ap (λ (r : TypeRecord). r .left) own in
-    let y : index3-call .result ≡ R .right = index3-call .ensures .0 ∙ ap (λ (r : TypeRecord). r .right) own in
-    let k : parts-fall-call .result ≡ falls (a .i) (getD n (a .i) 0) (R .left) (R .right) = parts-fall-call .ensures ∙ falls-of (a .i) j x y in
-    let p : width-at2-call .result ≡ getD w (R .left) 0 = width-at2-call .ensures ∙ ap (λ (m : ℕ). getD w m 0) x in
-    let q : width-at3-call .result ≡ getD w (R .right) 0 = width-at3-call .ensures ∙ ap (λ (m : ℕ). getD w m 0) y in
-    let tagged : record-at-call .result .tag ≡ R .tag = ap (λ (r : TypeRecord). r .tag) own in
-    let there = step-fits t w n (a .i) (omega arith) (λ z. if3-found .left (next-at-call .ensures ∙ z))
-    (sym (not-false (parts-fall-call .result) (c .before .before .before .before .before .if4 .left)) ∙ k)
-    (λ z. if1-found .left (width-at-call .ensures ∙ z)) in
+    let j : c .before .before .before .before .before .before .before .before .before .before .index .result ≡ getD n (a .i) 0 =
+    c .before .before .before .before .before .before .before .before .before .before .index .ensures .0
+    ∙ c .before .before .before .before .before .before .before .before .before .before .before .before .next-at .ensures in
+    let own = c .before .before .before .before .before .before .before .before .before .record-at .ensures
+    ∙ ap (λ (k : ℕ). recordOf (typeAt (typeRecords t) k)) j in
+    let x : c .before .before .before .before .before .before .before .before .index2 .result ≡ R .left =
+    c .before .before .before .before .before .before .before .before .index2 .ensures .0 ∙ ap (λ (r : TypeRecord). r .left) own in
+    let y : c .before .before .before .before .before .before .before .index3 .result ≡ R .right =
+    c .before .before .before .before .before .before .before .index3 .ensures .0 ∙ ap (λ (r : TypeRecord). r .right) own in
+    let k : c .before .before .before .before .before .before .parts-fall .result ≡ falls (a .i) (getD n (a .i) 0) (R .left) (R .right) =
+    c .before .before .before .before .before .before .parts-fall .ensures ∙ falls-of (a .i) j x y in
+    let p : c .before .before .before .before .width-at2 .result ≡ getD w (R .left) 0 =
+    c .before .before .before .before .width-at2 .ensures ∙ ap (λ (m : ℕ). getD w m 0) x in
+    let q : c .before .before .before .width-at3 .result ≡ getD w (R .right) 0 = c .before .before .before .width-at3 .ensures ∙ ap (λ (m : ℕ). getD w m 0) y in
+    let tagged : c .before .before .before .before .before .before .before .before .before .record-at .result .tag ≡ R .tag =
+    ap (λ (r : TypeRecord). r .tag) own in
+    let there = step-fits t w n (a .i) (omega arith)
+    (λ z. c .before .before .before .before .before .before .before .before .before .before .before .if3 .left
+    (c .before .before .before .before .before .before .before .before .before .before .before .before .next-at .ensures ∙ z))
+    (sym (not-false (c .before .before .before .before .before .before .parts-fall .result) (c .before .before .before .before .before .if4 .left)) ∙ k)
+    (λ z. c .before .before .before .before .before .before .before .before .before .before .before .before .before .before .if1 .left
+    (c .before .before .before .before .before .before .before .before .before .before .before .before .before .before .before .width-at .ensures ∙ z)) in
     let kind : 1 ≡ R .tag = sym (c .before .if5 .taken) ∙ tagged in
     c .tag-step .ensures
-    ∙ tag-of (width-at-call .ensures) x y p q
+    ∙ tag-of
+    (c .before .before .before .before .before .before .before .before .before .before .before .before .before .before .before .width-at .ensures) x y p q
     ∙ ap (λ (m : ℕ). stepBy m (getD w (a .i) 0) (R .left) (R .right) (getD w (R .left) 0) (getD w (R .right) 0)) kind
     ∙ there
 
@@ -131,72 +132,78 @@ both-step-requires c κs = search needs
 
 returns-6 : tie.Need-returns-6
 returns-6 c =
-    let width-at-call =
-    c .before .before .before .before .before .before .before .before .before .before .before .before .before .before .before .before .before .width-at in
-    let if1-found = c .before .before .before .before .before .before .before .before .before .before .before .before .before .before .before .before .if1 in
-    let next-at-call = c .before .before .before .before .before .before .before .before .before .before .before .before .before .before .next-at in
-    let if3-found = c .before .before .before .before .before .before .before .before .before .before .before .before .before .if3 in
-    let index-call = c .before .before .before .before .before .before .before .before .before .before .before .before .index in
-    let record-at-call = c .before .before .before .before .before .before .before .before .before .before .before .record-at in
-    let index2-call = c .before .before .before .before .before .before .before .before .before .before .index2 in
-    let index3-call = c .before .before .before .before .before .before .before .before .before .index3 in
-    let parts-fall-call = c .before .before .before .before .before .before .before .before .parts-fall in
-    let width-at2-call = c .before .before .before .before .before .before .width-at2 in
-    let width-at3-call = c .before .before .before .before .before .width-at3 in
     let a = c .before .before .before .before .before .before .before .before .before .before .before .before .before .before .before
     .before .before .before .before .before .before .args in
     let t = a .types .now in
     let w = a .widths .now in
     let n = a .next .now in
     let R = recordFor t w n (a .i) in
-    let j : index-call .result ≡ getD n (a .i) 0 = index-call .ensures .0 ∙ next-at-call .ensures in
-    let own = record-at-call .ensures ∙ ap (λ (k : ℕ). recordOf (typeAt (typeRecords t) k)) j in
-    let x : index2-call .result ≡ R .left = index2-call .ensures .0 ∙ ap (λ (r : TypeRecord). r .left) own in
-    let y : index3-call .result ≡ R .right = index3-call .ensures .0 ∙ ap (λ (r : TypeRecord). r .right) own in
-    let k : parts-fall-call .result ≡ falls (a .i) (getD n (a .i) 0) (R .left) (R .right) = parts-fall-call .ensures ∙ falls-of (a .i) j x y in
-    let p : width-at2-call .result ≡ getD w (R .left) 0 = width-at2-call .ensures ∙ ap (λ (m : ℕ). getD w m 0) x in
-    let q : width-at3-call .result ≡ getD w (R .right) 0 = width-at3-call .ensures ∙ ap (λ (m : ℕ). getD w m 0) y in
-    let tagged : record-at-call .result .tag ≡ R .tag = ap (λ (r : TypeRecord). r .tag) own in
-    let there = step-fits t w n (a .i) (omega arith) (λ z. if3-found .left (next-at-call .ensures ∙ z))
-    (sym (not-false (parts-fall-call .result) (c .before .before .before .before .before .before .before .if4 .left)) ∙ k)
-    (λ z. if1-found .left (width-at-call .ensures ∙ z)) in
+    let j : c .before .before .before .before .before .before .before .before .before .before .before .before .index .result ≡ getD n
+    (a .i) 0 = c .before .before .before .before .before .before .before .before .before .before .before .before .index .ensures .0
+    ∙ c .before .before .before .before .before .before .before .before .before .before .before .before .before .before .next-at .ensures in
+    let own = c .before .before .before .before .before .before .before .before .before .before .before .record-at .ensures
+    ∙ ap (λ (k : ℕ). recordOf (typeAt (typeRecords t) k)) j in
+    let x : c .before .before .before .before .before .before .before .before .before .before .index2 .result ≡ R .left =
+    c .before .before .before .before .before .before .before .before .before .before .index2 .ensures .0
+    ∙ ap (λ (r : TypeRecord). r .left) own in
+    let y : c .before .before .before .before .before .before .before .before .before .index3 .result ≡ R .right =
+    c .before .before .before .before .before .before .before .before .before .index3 .ensures .0 ∙ ap (λ (r : TypeRecord). r .right) own in
+    let k : c .before .before .before .before .before .before .before .before .parts-fall .result ≡ falls (a .i) (getD n (a .i) 0) (R .left)
+    (R .right) = c .before .before .before .before .before .before .before .before .parts-fall .ensures ∙ falls-of (a .i) j x y in
+    let p : c .before .before .before .before .before .before .width-at2 .result ≡ getD w (R .left) 0 =
+    c .before .before .before .before .before .before .width-at2 .ensures ∙ ap (λ (m : ℕ). getD w m 0) x in
+    let q : c .before .before .before .before .before .width-at3 .result ≡ getD w (R .right) 0 =
+    c .before .before .before .before .before .width-at3 .ensures ∙ ap (λ (m : ℕ). getD w m 0) y in
+    let tagged : c .before .before .before .before .before .before .before .before .before .before .before .record-at .result .tag ≡ R .tag =
+    ap (λ (r : TypeRecord). r .tag) own in
+    let there = step-fits t w n (a .i) (omega arith)
+    (λ z. c .before .before .before .before .before .before .before .before .before .before .before .before .before .if3 .left
+    (c .before .before .before .before .before .before .before .before .before .before .before .before .before .before .next-at .ensures ∙ z))
+    (sym (not-false (c .before .before .before .before .before .before .before .before .parts-fall .result)
+    (c .before .before .before .before .before .before .before .if4 .left)) ∙ k)
+    (λ z. c .before .before .before .before .before .before .before .before .before .before .before .before .before .before .before .before .if1 .left
+    (c .before .before .before .before .before .before .before .before .before .before .before .before .before .before .before .before
+    .before .width-at .ensures ∙ z)) in
     let kind : 2 ≡ R .tag = sym (c .before .if6 .taken) ∙ tagged in
     c .both-step .ensures
-    ∙ both-of (width-at-call .ensures) x y p q
+    ∙ both-of (c .before .before .before .before .before .before .before .before .before .before .before .before .before .before .before
+    .before .before .width-at .ensures) x y p q
     ∙ ap (λ (m : ℕ). stepBy m (getD w (a .i) 0) (R .left) (R .right) (getD w (R .left) 0) (getD w (R .right) 0)) kind
     ∙ there
 
 returns-7 : tie.Need-returns-7
 returns-7 c =
-    let width-at-call =
-    c .before .before .before .before .before .before .before .before .before .before .before .before .before .before .before .before .width-at in
-    let if1-found = c .before .before .before .before .before .before .before .before .before .before .before .before .before .before .before .if1 in
-    let next-at-call = c .before .before .before .before .before .before .before .before .before .before .before .before .before .next-at in
-    let if3-found = c .before .before .before .before .before .before .before .before .before .before .before .before .if3 in
-    let index-call = c .before .before .before .before .before .before .before .before .before .before .before .index in
-    let record-at-call = c .before .before .before .before .before .before .before .before .before .before .record-at in
-    let index2-call = c .before .before .before .before .before .before .before .before .before .index2 in
-    let index3-call = c .before .before .before .before .before .before .before .before .index3 in
-    let parts-fall-call = c .before .before .before .before .before .before .before .parts-fall in
-    let width-at2-call = c .before .before .before .before .before .width-at2 in
-    let width-at3-call = c .before .before .before .before .width-at3 in
     let a = c .before .before .before .before .before .before .before .before .before .before .before .before .before .before .before
     .before .before .before .before .before .args in
     let t = a .types .now in
     let w = a .widths .now in
     let n = a .next .now in
     let R = recordFor t w n (a .i) in
-    let j : index-call .result ≡ getD n (a .i) 0 = index-call .ensures .0 ∙ next-at-call .ensures in
-    let own = record-at-call .ensures ∙ ap (λ (k : ℕ). recordOf (typeAt (typeRecords t) k)) j in
-    let x : index2-call .result ≡ R .left = index2-call .ensures .0 ∙ ap (λ (r : TypeRecord). r .left) own in
-    let y : index3-call .result ≡ R .right = index3-call .ensures .0 ∙ ap (λ (r : TypeRecord). r .right) own in
-    let k : parts-fall-call .result ≡ falls (a .i) (getD n (a .i) 0) (R .left) (R .right) = parts-fall-call .ensures ∙ falls-of (a .i) j x y in
-    let p : width-at2-call .result ≡ getD w (R .left) 0 = width-at2-call .ensures ∙ ap (λ (m : ℕ). getD w m 0) x in
-    let q : width-at3-call .result ≡ getD w (R .right) 0 = width-at3-call .ensures ∙ ap (λ (m : ℕ). getD w m 0) y in
-    let tagged : record-at-call .result .tag ≡ R .tag = ap (λ (r : TypeRecord). r .tag) own in
-    let there = step-fits t w n (a .i) (omega arith) (λ z. if3-found .left (next-at-call .ensures ∙ z))
-    (sym (not-false (parts-fall-call .result) (c .before .before .before .before .before .before .if4 .left)) ∙ k)
-    (λ z. if1-found .left (width-at-call .ensures ∙ z)) in
+    let j : c .before .before .before .before .before .before .before .before .before .before .before .index .result ≡ getD n (a .i) 0 =
+    c .before .before .before .before .before .before .before .before .before .before .before .index .ensures .0
+    ∙ c .before .before .before .before .before .before .before .before .before .before .before .before .before .next-at .ensures in
+    let own = c .before .before .before .before .before .before .before .before .before .before .record-at .ensures
+    ∙ ap (λ (k : ℕ). recordOf (typeAt (typeRecords t) k)) j in
+    let x : c .before .before .before .before .before .before .before .before .before .index2 .result ≡ R .left =
+    c .before .before .before .before .before .before .before .before .before .index2 .ensures .0 ∙ ap (λ (r : TypeRecord). r .left) own in
+    let y : c .before .before .before .before .before .before .before .before .index3 .result ≡ R .right =
+    c .before .before .before .before .before .before .before .before .index3 .ensures .0 ∙ ap (λ (r : TypeRecord). r .right) own in
+    let k : c .before .before .before .before .before .before .before .parts-fall .result ≡ falls (a .i) (getD n (a .i) 0) (R .left)
+    (R .right) = c .before .before .before .before .before .before .before .parts-fall .ensures ∙ falls-of (a .i) j x y in
+    let p : c .before .before .before .before .before .width-at2 .result ≡ getD w (R .left) 0 =
+    c .before .before .before .before .before .width-at2 .ensures ∙ ap (λ (m : ℕ). getD w m 0) x in
+    let q : c .before .before .before .before .width-at3 .result ≡ getD w (R .right) 0 =
+    c .before .before .before .before .width-at3 .ensures ∙ ap (λ (m : ℕ). getD w m 0) y in
+    let tagged : c .before .before .before .before .before .before .before .before .before .before .record-at .result .tag ≡ R .tag =
+    ap (λ (r : TypeRecord). r .tag) own in
+    let there = step-fits t w n (a .i) (omega arith)
+    (λ z. c .before .before .before .before .before .before .before .before .before .before .before .before .if3 .left
+    (c .before .before .before .before .before .before .before .before .before .before .before .before .before .next-at .ensures ∙ z))
+    (sym (not-false (c .before .before .before .before .before .before .before .parts-fall .result)
+    (c .before .before .before .before .before .before .if4 .left)) ∙ k)
+    (λ z. c .before .before .before .before .before .before .before .before .before .before .before .before .before .before .before .if1 .left
+    (c .before .before .before .before .before .before .before .before .before .before .before .before .before .before .before .before .width-at .ensures
+    ∙ z)) in
     step-other (R .tag) (getD w (a .i) 0) (R .left) (R .right) (getD w (R .left) 0) (getD w (R .right) 0)
     (λ z. c .before .before .if5 .left (tagged ∙ z)) (λ z. c .if6 .left (tagged ∙ z))
     ∙ there

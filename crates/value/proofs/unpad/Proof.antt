@@ -77,20 +77,22 @@ same-length-2 c = search needs
 
 returns-3 : tie.Need-returns-3
 returns-3 c =
-    let width-at-call = c .before .before .before .before .before .before .before .before .before .width-at in
-    let has-room-call = c .before .before .before .before .before .before .before .before .has-room in
-    let has-room2-call = c .before .before .before .before .before .has-room2 in
     let a = c .before .before .before .before .before .before .before .before .before .before .before .before .before .before .before .args in
     let A = shapeAt (a .types .now) (a .widths .now) (a .next .now) (a .i) in
     let v = getD (a .widths .now) (a .i) 0 in
     let b = bitsOf (a .cells .now) in
     let d = bitsOf (a .answer .now) in
-    let first : has-room-call .result ≡ room v (a .at) b = has-room-call .ensures ∙ ap (λ (k : ℕ). room k (a .at) b) (width-at-call .ensures) in
-    let second : has-room2-call .result ≡ room v (a .q) d = has-room2-call .ensures ∙ ap (λ (k : ℕ). room k (a .q) d) (width-at-call .ensures) in
+    let first : c .before .before .before .before .before .before .before .before .has-room .result ≡ room v (a .at) b =
+    c .before .before .before .before .before .before .before .before .has-room .ensures
+    ∙ ap (λ (k : ℕ). room k (a .at) b) (c .before .before .before .before .before .before .before .before .before .width-at .ensures) in
+    let second : c .before .before .before .before .before .has-room2 .result ≡ room v (a .q) d =
+    c .before .before .before .before .before .has-room2 .ensures
+    ∙ ap (λ (k : ℕ). room k (a .q) d) (c .before .before .before .before .before .before .before .before .before .width-at .ensures) in
     unpad-done A v b (cellsOf (a .cells .now)) (a .at) d (a .q) (c .before .before .unpad-part .result) _
-    (sym (not-false (has-room-call .result) (c .before .before .before .before .before .before .before .if1 .left)) ∙ first)
-    (sym (not-false (has-room2-call .result) (c .before .before .before .before .if2 .left)) ∙ second)
-    (c .before .before .unpad-part .ensures .0) (c .before .before .unpad-part .ensures .1)
+    (sym (not-false (c .before .before .before .before .before .before .before .before .has-room .result)
+    (c .before .before .before .before .before .before .before .if1 .left)) ∙ first)
+    (sym (not-false (c .before .before .before .before .before .has-room2 .result) (c .before .before .before .before .if2 .left))
+    ∙ second) (c .before .before .unpad-part .ensures .0) (c .before .before .unpad-part .ensures .1)
 
 pub unpad-spec : {M : Type 1} → statement M
 unpad-spec =
