@@ -29,7 +29,7 @@ extern "C" {
 #endif
 
 /* Stack that is enough for any call. */
-#define DREVALOCI_STACK_BYTES (4u << 20)
+#define DREVALOCI_STACK_BYTES (8u << 20)
 
 /* The whole job. 0: the output's bits stand in answer from the top bit of its first byte, *place is their count.
  * Else the refusal, at *place. What each end leaves in the five stores is in the requirements, "When a run says no". */

@@ -3,7 +3,7 @@
 #define DREVALOCI_LIMITS_H
 
 /* Bytes of the largest dossier. */
-#define DREVALOCI_DOSSIER_BYTES (32768)
+#define DREVALOCI_DOSSIER_BYTES (49152)
 
 /* Numbers of a node's record. */
 #define DREVALOCI_NODE_RECORD (4)
@@ -12,10 +12,10 @@
 #define DREVALOCI_FRAME_RECORD (3)
 
 /* Numbers of a node store that is enough for every dossier. */
-#define DREVALOCI_NODE_NUMBERS (4 * 2048)
+#define DREVALOCI_NODE_NUMBERS (4 * 4096)
 
 /* Bytes of a hash store that is enough for every dossier. */
-#define DREVALOCI_HASH_BYTES (32768)
+#define DREVALOCI_HASH_BYTES (49152)
 
 /* Bytes of a cell store that is enough for every dossier. */
 #define DREVALOCI_CELL_BYTES (262144 / 8)

@@ -20,4 +20,4 @@ pub use limits::{
 pub use refusal::Refusal;
 
 /// Stack that is enough for any call.
-pub const STACK_BYTES: usize = 4 << 20;
+pub const STACK_BYTES: usize = 8 << 20;

@@ -5,7 +5,7 @@ use Prim.Native.Nat.{ℕ}
 
 -- the most bytes of a dossier
 abbrev pub dossierBytes : ℕ
-dossierBytes = 32768
+dossierBytes = 49152
 
 -- the most records of a type table; the least is one
 abbrev pub typeCount : ℕ
@@ -13,7 +13,7 @@ typeCount = 1024
 
 -- the most nodes of a program
 abbrev pub nodeCount : ℕ
-nodeCount = 2048
+nodeCount = 4096
 
 -- the largest width of a type, in cells
 abbrev pub typeWidth : ℕ

@@ -1,14 +1,13 @@
 // The limits of the requirements and the sizes of records, each named once.
 // Code names these constants, definitions and proofs the names of specs/Limits; `limits` shows that the two lists are the same.
-// The dossier's bytes and a type's width are two names, though their numbers are equal today.
 ghost use mathlib.Core.Path.{_≡_};
 ghost use Rattle.limits.specs.Limits.{everyLimit};
 
-pub const DOSSIER_BYTES: usize = 32_768;
+pub const DOSSIER_BYTES: usize = 49_152;
 
 pub const TYPE_COUNT: usize = 1_024;
 
-pub const NODE_COUNT: usize = 2_048;
+pub const NODE_COUNT: usize = 4_096;
 
 pub const TYPE_WIDTH: u32 = 32_768;
 

@@ -2,7 +2,7 @@
 use mathlib.Core.Path.{_≡_, refl}
 use mathlib.Core.Bool.{Bool, true, false}
 use mathlib.Core.List.{List, [], _∷_, _++_}
-use Prim.Native.Nat.{ℕ, zero, suc, _+_, _*_, _^_}
+use Prim.Native.Nat.{ℕ, zero, suc, _+_, _*_, _-_, _^_}
 use lib.ListN.{replicate}
 use Rattle.limits.specs.Limits.{nodeCount, typeCount, dossierBytes, wordMost, hashBytes, failBytes, nodeNumbers, typeBytes}
 use Rattle.refusal.specs.declared.Answer.{Answer}
@@ -99,6 +99,10 @@ stages : Hold (
     -- 26 at the first such record, by the program's bits and the hash store's bytes
     ∷ checkRecords (0 ∷ []) (zeros 64) (row 14 4 0 ∷ row 10 0 0 ∷ row 14 4 1 ∷ row 10 1 0 ∷ []) is refused (BadNodeRecord 2)
     ∷ checkRecords (0 ∷ []) (zeros 64) (row 14 4 0 ∷ row 10 0 0 ∷ row 10 1 0 ∷ row 14 4 1 ∷ []) is refused (BadNodeRecord 2)
+    -- the largest word that a program has room for
+    ∷ checkRecords (zeros dossierBytes) [] (row 14 19 (8 * dossierBytes - 262144) ∷ []) is passed tt
+    ∷ checkRecords (zeros dossierBytes) [] (row 14 19 (8 * dossierBytes - 262143) ∷ []) is refused (BadNodeRecord 0)
+    ∷ checkRecords (zeros dossierBytes) [] (row 14 20 0 ∷ []) is refused (BadNodeRecord 0)
     -- the walk's stage: 4, 26, 1 and 6 to 9, each with the next one wrong too
     ∷ walkStage tooLong [] unitNode is refused (Header 0)
     ∷ walkStage tooLong [] (unitNode ++ unitNode) is refused (Header 0)
@@ -128,6 +132,8 @@ stages : Hold (
     ∷ arrowStage unitType (unitNode ++ 11 ∷ 0 ∷ 0 ∷ 0 ∷ []) [] [] [] is refused (OneChildDisconnect 1)
     ∷ arrowStage unitType unitNode [] [] [] is refused (BadArrow 1)
     ∷ arrowStage unitType unitNode (0 ∷ 0 ∷ 0 ∷ 1 ∷ []) [] [] is refused (BadArrow 0)
+    -- the largest word is wider than every type
+    ∷ arrowStage unitType (14 ∷ 19 ∷ 0 ∷ 0 ∷ []) (zeros 4) (zeros dossierBytes) [] is refused (BadArrow 0)
     -- a word's bits are the program's
     ∷ arrowStage (unitType ++ 1 ∷ 0 ∷ 0 ∷ 0 ∷ 0 ∷ []) (14 ∷ 1 ∷ 7 ∷ 0 ∷ []) (0 ∷ 0 ∷ 0 ∷ 1 ∷ []) (1 ∷ []) [] is passed tt
     -- the hashes' stage

@@ -6,7 +6,7 @@ use mathlib.Core.List.{List, [], _∷_, _++_}
 use Prim.Native.Nat.{ℕ, _+_}
 use lib.ListN.{replicate}
 use Rattle.limits.specs.Limits.{dossierBytes}
-use Rattle.refusal.specs.declared.Refusal.the-variants.{Header, StreamEnded, Jet, CanonicalOrder, HiddenElsewhere, BothHidden, HiddenRepeated, Closing, StoreShort}
+use Rattle.refusal.specs.declared.Refusal.the-variants.{Header, StreamEnded, Natural as BadNatural, Jet, CanonicalOrder, HiddenElsewhere, BothHidden, HiddenRepeated, Closing, StoreShort}
 use Rattle.report.specs.Lines.{Line, _is_, Hold}
 use Rattle.report.specs.Nodes.{Node, comp, case, pair, disconnect, injl, injr, take, drop, disconnect1, iden, unit, witness, fail, hidden, word}
 use Rattle.scope.specs.Check.{Check, passed, refused}
@@ -146,6 +146,10 @@ decoded : Hold (
     -- two units, of which one is never used, and a jet instead of the second
     ∷ decode (0x89 ∷ 0x48 ∷ []) 2 0 is refused (CanonicalOrder 0)
     ∷ decode (0x89 ∷ 0xC0 ∷ []) 2 0 is refused (Jet 1)
+    -- 2,049 and 4,096 nodes may be, and the first is missing here; 4,097 may not
+    ∷ decode (0xEB ∷ 0 ∷ 0x20 ∷ []) 2049 0 is refused (StreamEnded 0)
+    ∷ decode (0xEC ∷ 0 ∷ 0 ∷ []) 4096 0 is refused (StreamEnded 0)
+    ∷ decode (0xEC ∷ 0 ∷ 0x10 ∷ []) 0 0 is refused (BadNatural 0)
     -- above the dossier's limit before all else
     ∷ decode (zeros (dossierBytes + 1)) 0 0 is refused (Header 0)
     ∷ [])
