@@ -5,12 +5,11 @@ import sys
 import threading
 
 sys.path.append(os.path.join(os.path.dirname(os.path.abspath(__file__)), "../../tools"))
+from limits import FRAME_NUMBERS, NODE_COUNT, TYPE_COUNT
 from parts import record, short_number, write_parts
 
 COMP, CASE, PAIR, DISCONNECT, INJL, INJR, TAKE, DROP, IDEN, UNIT, FAIL, DISCONNECT1, WITNESS, HIDDEN, WORD = range(15)
 FILLS = (0x00, 0xFF, 0xA5)
-# Numbers of a frame's record.
-FRAME_NUMBERS = 3
 
 
 class Stopped(Exception):
@@ -19,11 +18,11 @@ class Stopped(Exception):
 
 # Types, nodes and all that a run takes. Children are built before their parents, the left one first, so that nodes stand in the walk's order.
 class Program:
-    def __init__(self):
+    def __init__(self, with_bit=True):
         self.records, self.widths = [(0, 0, 0)], [0]
         self.nodes, self.arrows = [], []
         self.word_bits, self.hashes, self.given, self.witness = "", b"", b"", ""
-        self.bit = self.sum(0, 0)
+        self.bit = self.sum(0, 0) if with_bit else None
 
     def type(self, tag, left, right, width):
         if (tag, left, right) not in self.records:
@@ -418,6 +417,20 @@ def disconnects():
     yield "disconnect of width 0", p, "1"
 
 
+# The most nodes, all but one of them below each other. Each take of a chain needs a type of its own; where the types end, a witness of the largest one,
+# which takes no bits, feeds the chain below.
+def deepest():
+    p = Program(with_bit=False)
+    top = 0
+    while len(p.records) < TYPE_COUNT:
+        top = p.product(top, 0)
+    witness = p.value(0, top, "")
+    node = p.iden(0)
+    while len(p.nodes) < NODE_COUNT:
+        node = p.comp(witness, node) if p.source(node) == top else p.take(node, 0)
+    return p
+
+
 # The deepest nesting of nodes and of types, the most nodes, the largest cost.
 def largest():
     p = Program()
@@ -430,19 +443,12 @@ def largest():
     for _ in range(17):
         node = p.comp(node, node)
     yield "17 doubled comps", p, ""
-    # Each drop of a chain needs a type of its own, so no chain of 2,048 drops can be typed: two chains of 1,021 take all 1,024 types and 2,048 nodes.
+    yield f"{NODE_COUNT:,} nodes, {NODE_COUNT - 1:,} of them nested", deepest(), ""
     p = Program()
-    ends = []
-    for _ in range(2):
-        node = p.iden(p.bit)
-        for _ in range(1021):
-            node = p.drop(0, node)
-        ends.append(node)
-    node = p.pair(*ends)
-    iden = p.iden(p.target(node))
-    p.comp(p.comp(node, iden), iden)
-    assert (len(p.nodes), len(p.records)) == (2048, 1024)
-    yield "2,048 nodes, 1,021 nested drops", p, "1"
+    node = p.iden(p.bit)
+    for _ in range(TYPE_COUNT - 2):
+        node = p.drop(0, node)
+    yield f"{TYPE_COUNT - 2:,} nested drops", p, "1"
     p = Program()
     deep = p.bit
     for _ in range(1000):

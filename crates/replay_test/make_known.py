@@ -1,4 +1,4 @@
-# make_known.py OUT: writes two files into the folder OUT: `known`, the known runs of the requirements that are not proved and a unit doubled many times
+# make_known.py OUT: writes two lists into the folder OUT: `known`, the known runs of the requirements that are not proved and a unit doubled many times
 # at each place of a run, and `lengths`, runs in stores of length 0 or of odd lengths. Answers, bounds and stores are written down here as the document
 # says them.
 import os
@@ -7,9 +7,10 @@ import sys
 TOOLS = os.path.join(os.path.dirname(os.path.abspath(__file__)), "..", "..", "tools")
 sys.path[:0] = [TOOLS, os.path.join(TOOLS, "first-answers")]
 
+import limits  # noqa: E402
 from coding import COMP, DISCONNECT, DROP, IDEN, INJL, PAIR, TAKE, UNIT, WITNESS, Node, dossier, natural, pack  # noqa: E402
 from pack_cases import NO_BOUNDS, answer, bounds, lent, plain  # noqa: E402
-from parts import short_number  # noqa: E402
+from parts import short_number, write_parts  # noqa: E402
 
 UNIT_RECORD, BIT = (0, 0, 0), (1, 0, 0)
 SHORT = "00000001000000030000003800000002000000470000000200000049000000000000005100000000000000510000000000000051" \
@@ -42,19 +43,17 @@ def nested_comps(n):
     return nodes_at_unit([Node(IDEN)] + [Node(COMP, i, 0) for i in range(n)])
 
 
-# 1,024 idens below comps, two by two, in the order of the walk, and one comp more.
+# The most nodes, all but one of them below each other: chains of takes, as long as there are types for them; where they end, a witness of the largest type,
+# which takes no bits, feeds the chain below.
 def most_nodes():
-    nodes = []
-
-    def grow(depth):
-        if depth == 0:
-            nodes.append(Node(IDEN))
-            return len(nodes) - 1
-        nodes.append(Node(COMP, grow(depth - 1), grow(depth - 1)))
-        return len(nodes) - 1
-
-    nodes.append(Node(COMP, grow(10), 0))
-    return nodes_at_unit(nodes)
+    top = limits.TYPE_COUNT - 1
+    table = [UNIT_RECORD] + [(2, k, 0) for k in range(top)]
+    nodes, arrows = [Node(WITNESS), Node(IDEN)], [(0, top), (0, 0)]
+    while len(nodes) < limits.NODE_COUNT:
+        below, source = len(nodes) - 1, arrows[-1][0]
+        nodes.append(Node(COMP, 0, below) if source == top else Node(TAKE, below))
+        arrows.append((0 if source == top else source + 1, 0))
+    return dossier(table, nodes, arrows, "", "", [])
 
 
 def program_alone(bits):
@@ -70,8 +69,9 @@ def from_the_document():
     if dossier([UNIT_RECORD, BIT, (1, 0, 1)], bit, [(0, 0), (0, 2)], "", "", []) != short:
         raise ValueError("the dossier of 81 bytes")
     yield run("dossier of 81 bytes", "value 1 0", "cells 2 frames 2 cost 200", short)
-    yield run("count 2,048", "value 0", "cells 0 frames 13 cost 204900", most_nodes())
-    yield run("count 2,049", "refused 4 0", "", program_alone(natural(2049)))
+    yield run("count 4,096", "value 0", "cells 0 frames 5 cost 409800", most_nodes())
+    for count, line in ((2049, "refused 3 0"), (4096, "refused 3 0"), (4097, "refused 4 0")):
+        yield run(f"count {count:,} and no node", line, "", program_alone(natural(count)))
     for count, line in ((17, "value 0"), (18, "refused 2 17")):
         yield run(f"bit doubled to record {count - 1}", line, "", dossier(doubled([UNIT_RECORD, BIT], count), [Node(UNIT)], [(0, 0)], "", "", []))
     yield run("17 doubled comps", "value 0", "cells 0 frames 19 cost 26214300", doubled_comps(17))
@@ -82,7 +82,7 @@ def from_the_document():
 
 # A unit doubled through all records, or through all that the other types of the program leave.
 def unit_doubled():
-    table, top = doubled([UNIT_RECORD], 1024), 1023
+    table, top = doubled([UNIT_RECORD], limits.TYPE_COUNT), limits.TYPE_COUNT - 1
     no_bits = "cells 0 frames 2 cost 100"
     for name, node, source, target in (("iden", Node(IDEN), top, top), ("input", Node(UNIT), top, 0), ("witness and output", Node(WITNESS), 0, top)):
         yield run("unit doubled: " + name, "value 0", no_bits, dossier(table, [node], [(source, target)], "", "", []))
@@ -120,5 +120,5 @@ def short_stores():
 
 if __name__ == "__main__":
     for name, made in (("known", [*from_the_document(), *unit_doubled()]), ("lengths", [*short_stores()])):
-        open(f"{sys.argv[1]}/{name}", "wb").write(b"".join(made))
+        write_parts(f"{sys.argv[1]}/{name}", made)
         print(len(made), name, sum(map(len, made)), "bytes")

@@ -6,12 +6,12 @@ import random
 import sys
 
 sys.path.append(os.path.join(os.path.dirname(os.path.abspath(__file__)), "../../tools"))
+from limits import DOSSIER_BYTES, NATURAL_LENGTH, NODE_COUNT, WORD_MOST
 from parts import read_parts, record, short_number, write_parts
 
 COMP, CASE, PAIR, DISCONNECT, INJL, INJR, TAKE, DROP, IDEN, UNIT, FAIL, DISCONNECT1, WITNESS, HIDDEN, WORD = range(15)
 TWO, ONE, NONE = (COMP, CASE, PAIR, DISCONNECT), (INJL, INJR, TAKE, DROP, DISCONNECT1), (IDEN, UNIT, WITNESS)
 STORED = {FAIL: 64, HIDDEN: 32}
-MOST_NODES, MOST_BYTES, MOST_N, MOST_LENGTH = 2048, 32768, 32, 31
 TOP = (1 << 32) - 1
 
 
@@ -33,7 +33,7 @@ def holds(i, record, program_bytes, hash_bytes):
         return a == b == c == 0
     if kind in STORED:
         return a + STORED[kind] <= hash_bytes and b == c == 0
-    return kind == WORD and 1 <= a <= MOST_N and b + 2 ** (a - 1) <= 8 * program_bytes and c == 0
+    return kind == WORD and 1 <= a <= WORD_MOST and b + 2 ** (a - 1) <= 8 * program_bytes and c == 0
 
 
 def children(record):
@@ -75,12 +75,12 @@ def walk(table, hashes):
 # What a stage says of a lent table: 4, 26, 1, then the walk.
 def lent_answer(numbers, program_bytes, hashes):
     table = records(numbers)
-    if not 1 <= len(table) <= MOST_NODES:
+    if not 1 <= len(table) <= NODE_COUNT:
         return 4, 0
     for i, record in enumerate(table):
         if not holds(i, record, program_bytes, len(hashes)):
             return 26, i
-    if program_bytes > MOST_BYTES:
+    if program_bytes > DOSSIER_BYTES:
         return 1, 0
     try:
         walk(table, hashes)
@@ -123,9 +123,9 @@ def broken():
 def words():
     for n in range(0, 35):
         bits = 2 ** (n - 1) if n else 1
-        for program_bytes in (1, 16, MOST_BYTES, 65536):
+        for program_bytes in (1, 16, DOSSIER_BYTES, 65536):
             last = 8 * program_bytes - bits
-            for at in sorted({last, last + 1} | ({0, TOP + 1 - bits, TOP} if program_bytes == MOST_BYTES else set())):
+            for at in sorted({last, last + 1} | ({0, TOP + 1 - bits, TOP} if program_bytes == DOSSIER_BYTES else set())):
                 if 0 <= at <= TOP:
                     yield [[WORD, n, at, 0]], program_bytes, 0
 
@@ -146,7 +146,7 @@ def orders():
     yield [bad, bad], 0, 0
     yield [unit, bad, [15, 0, 0, 0]], 0, 0
     yield [unit, [COMP, 0, 2, 0], bad], 0, 0
-    for program_bytes in (MOST_BYTES, MOST_BYTES + 1):
+    for program_bytes in (DOSSIER_BYTES, DOSSIER_BYTES + 1):
         yield [unit], program_bytes, 0
         yield [bad], program_bytes, 0
         yield [unit, unit], program_bytes, 0
@@ -161,18 +161,16 @@ def orders():
 # The largest tables, nested as deep as can be, sound and with one thing wrong.
 def largest(rng):
     unit = [UNIT, 0, 0, 0]
-    drops = [unit] + [[DROP, i - 1, 0, 0] for i in range(1, MOST_NODES)]
-    lefts = [unit] + [[COMP, i - 1, 0, 0] for i in range(1, MOST_NODES)]
-    rights = [unit] + [[PAIR, 0, i - 1, 0] for i in range(1, MOST_NODES)]
+    drops = [unit] + [[DROP, i - 1, 0, 0] for i in range(1, NODE_COUNT)]
+    lefts = [unit] + [[COMP, i - 1, 0, 0] for i in range(1, NODE_COUNT)]
+    rights = [unit] + [[PAIR, 0, i - 1, 0] for i in range(1, NODE_COUNT)]
     for table in (drops, lefts, rights):
         yield table, 0, b""
-    yield drops + [[DROP, MOST_NODES - 1, 0, 0]], 0, b""
-    yield [[15, 0, 0, 0]] + drops, 0, b""
-    yield drops[:-1] + [[DROP, MOST_NODES - 1, 0, 0]], 0, b""
+    yield drops[:-1] + [[DROP, NODE_COUNT - 1, 0, 0]], 0, b""
     yield [unit] + lefts[:-1], 0, b""
     hashes = rng.randbytes(1100)
     ladder = [unit]
-    while len(ladder) < MOST_NODES - 1:
+    while len(ladder) < NODE_COUNT - 1:
         ladder += [[HIDDEN, len(ladder) // 2, 0, 0], [CASE, len(ladder) - 1, len(ladder), 0]]
     yield ladder, 0, hashes
     yield ladder + [[DISCONNECT1, len(ladder) - 1, 0, 0]], 0, hashes
@@ -263,7 +261,7 @@ class Reader:
         while self.take(1) == "1":
             ones += 1
         for _ in range(ones):
-            if value > MOST_LENGTH:
+            if value > NATURAL_LENGTH:
                 raise Refused(4, self.node)
             value = int("1" + self.take(value), 2)
         if value > bound:
@@ -283,7 +281,7 @@ def read_record(reader, i, stored):
     if reader.take(1) == "1":
         if reader.take(1) == "1":
             raise Refused(5, i)
-        n = reader.natural(MOST_N)
+        n = reader.natural(WORD_MOST)
         reader.take(2 ** (n - 1))
         return [WORD, n, reader.at - 2 ** (n - 1), 0], b""
     code = reader.take(2)
@@ -301,10 +299,10 @@ def read_record(reader, i, stored):
 
 # The table and the hash store of a program, where so many records and bytes are lent.
 def decoded(program, room, hash_room):
-    if len(program) > MOST_BYTES:
+    if len(program) > DOSSIER_BYTES:
         raise Refused(1, 0)
     reader, table, hashes = Reader(program), [], b""
-    count = reader.natural(MOST_NODES)
+    count = reader.natural(NODE_COUNT)
     if room < count:
         raise Refused(17, 3)
     for i in range(count):
@@ -345,7 +343,7 @@ def originals(folder):
     for turn, (group, mark, number, place, _, _, code, table, data) in enumerate(rows(folder + "/tables.tsv")):
         program = b"" if code == "-" else bytes.fromhex(code)
         more = (0, 1, 3, 4, 7)[turn % 5]
-        _, answer, found, hashes = program_record(program, 4 * MOST_NODES, MOST_BYTES)
+        _, answer, found, hashes = program_record(program, 4 * NODE_COUNT, DOSSIER_BYTES)
         made = program_record(program, 4 * len(found) + more if found else 40 + more, len(hashes) + more)[0]
         what = f"{group} {code}"
         if mark == "count":
@@ -401,8 +399,8 @@ def cases(folder):
 
 # Programs that the others do not have: over the limit, the most nodes, and no stores at all.
 def more_programs():
-    yield program_record(b"\x24" + bytes(MOST_BYTES), 4, 0)[0]
-    for room in (4 * MOST_NODES, 4 * MOST_NODES - 1):
+    yield program_record(b"\x24" + bytes(DOSSIER_BYTES), 4, 0)[0]
+    for room in (4 * NODE_COUNT, 4 * NODE_COUNT - 1):
         yield program_record(most_drops(), room, 0)[0]
     for code in ("24", "", "60", "30"):
         yield program_record(bytes.fromhex(code), 0, 0)[0]
@@ -412,9 +410,9 @@ def natural_code(n):
     return "0" if n == 1 else "1" + natural_code(n.bit_length() - 1) + f"{n:b}"[1:]
 
 
-# Iden, and drop of the node before, 2,047 times.
+# Iden, and drop of the node before, as often as nodes allow.
 def most_drops():
-    bits = natural_code(MOST_NODES) + "01000" + "001110" * (MOST_NODES - 1)
+    bits = natural_code(NODE_COUNT) + "01000" + "001110" * (NODE_COUNT - 1)
     bits += "0" * (-len(bits) % 8)
     return bytes(int(bits[k:k + 8], 2) for k in range(0, len(bits), 8))
 

@@ -6,10 +6,10 @@ import random
 import sys
 
 sys.path.append(os.path.join(os.path.dirname(os.path.abspath(__file__)), "../../tools"))
+from limits import TYPE_COUNT, TYPE_WIDTH
 from parts import record, write_parts
 
 UNIT, SUM, PRODUCT = range(3)
-MOST_TYPES, MOST_WIDTH = 1024, 32768
 UNPADDED = 65535
 
 
@@ -40,7 +40,7 @@ def width_of(table, widths, i):
     if left >= i or right >= i:
         return None
     width = 1 + max(widths[left], widths[right]) if tag == SUM else widths[left] + widths[right]
-    return width if width <= MOST_WIDTH else None
+    return width if width <= TYPE_WIDTH else None
 
 
 # The entry of a record: the mark of a type without padding, or the next record that matters.
@@ -57,7 +57,7 @@ def entry_of(table, widths, entries, i):
 # The answer, and width and entry of each record before the first bad one.
 def check(data):
     table, widths, entries = unpacked_table(data), [], []
-    if not 1 <= len(table) <= MOST_TYPES:
+    if not 1 <= len(table) <= TYPE_COUNT:
         return (4, 0), widths, entries
     for i in range(len(table)):
         width = width_of(table, widths, i)
@@ -168,9 +168,9 @@ def tables(rng):
 # Types that a walk down to every leaf, or through every product, would take long for.
 def timed(rng):
     yield value_record(rng, 3, packed_table(doubled(0, 1024)), 1023, 0, [], 0, [])
-    bits = [rng.randrange(2) for _ in range(MOST_WIDTH)]
-    yield value_record(rng, 5, packed_table(DEEP_BIT), len(DEEP_BIT) - 1, MOST_WIDTH, bits, MOST_WIDTH, bits)
-    options = [rng.choice(([0], [1, 0], [1, 1])) for _ in range(MOST_WIDTH // 2)]
+    bits = [rng.randrange(2) for _ in range(TYPE_WIDTH)]
+    yield value_record(rng, 5, packed_table(DEEP_BIT), len(DEEP_BIT) - 1, TYPE_WIDTH, bits, TYPE_WIDTH, bits)
+    options = [rng.choice(([0], [1, 0], [1, 1])) for _ in range(TYPE_WIDTH // 2)]
     bits, cells = sum(options, []), sum(((o + [0])[:2] for o in options), [])
     yield value_record(rng, 6, packed_table(DEEP_OPTION), len(DEEP_OPTION) - 1, len(bits), bits, len(bits), cells)
 

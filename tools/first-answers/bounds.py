@@ -5,9 +5,9 @@ from asking import field, number
 from coding import FAIL, WITNESS, text
 from dossiers import assemble, drawn, judged, known, made, small_types, wide_types, widths
 from graphs import Graph
+from limits import CELL_COUNT, COST_LIMIT, FRAME_COUNT, TYPE_WIDTH
 from type_table import TypeTable, UNIT_TYPE
 
-COST_LIMIT = 50_000_000
 COLUMNS = "name\tcells\tframes\tcost\textra cells\textra frames\twitness nodes\tcells less witnesses\tdossier"
 NOTES = [
     "NodeBounds of the last node, as the original gives it: extra cells, extra frames, cost.",
@@ -16,8 +16,8 @@ NOTES = [
     "witness nodes: how many; the original counts their widths among the extra cells.",
     "cells less witnesses: the original's cells of the same program with fail nodes for its",
     "witness nodes, since its row for a fail has no cells. Frames are the same. These are the",
-    "cells of a run here: above 262144 they are refused as 14 at 0, else frames above 1024 as 14",
-    "at 1, else cost above 50000000 as 14 at 2.",
+    f"cells of a run here: above {CELL_COUNT} they are refused as 14 at 0, else frames above {FRAME_COUNT} as 14",
+    f"at 1, else cost above {COST_LIMIT} as 14 at 2.",
     "No two nodes of a program are equal in kind, children, bits and arrow, but witness nodes and",
     "disconnects may be.",
 ]
@@ -53,11 +53,11 @@ def nesting(depth, width):
     return made(f"nested {depth}, width {width}", graph, at, "1" * width)
 
 
-# A chain of comps through a type of 32,768 cells, and a target of some width.
+# A chain of comps through a type of the largest width, and a target of some width.
 def wide_chain(depth, target_width):
     graph = Graph(TypeTable())
     types = graph.types
-    wide = types.padded(32768)
+    wide = types.padded(TYPE_WIDTH)
     at = graph.injl(graph.unit(), types.parts[wide][2])
     for _ in range(depth - 1):
         at = graph.comp(at, graph.iden(wide))

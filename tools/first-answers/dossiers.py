@@ -7,6 +7,7 @@ import coding
 from asking import number
 from coding import DISCONNECT, WITNESS, text
 from graphs import Graph, Grower, canonical
+from limits import TYPE_WIDTH
 from type_table import TypeTable, UNIT_TYPE, records_for
 
 # A program with its types and the compact bits of its input.
@@ -98,9 +99,9 @@ def assemble(oracle, programs, rng):
 
 # The original's widths of source and target, of each dossier.
 def widths(oracle, wholes):
-    zeros = text(bytes(4096))
+    zeros = text(bytes(TYPE_WIDTH // 8))
     asked = [
-        f"value {text(coding.records(whole.table))} {side} 32768 {zeros}"
+        f"value {text(coding.records(whole.table))} {side} {TYPE_WIDTH} {zeros}"
         for whole in wholes
         for side in (whole.source, whole.target)
     ]

@@ -5,13 +5,15 @@ import sys
 import tempfile
 from pathlib import Path
 
-import bounds
-import naturals
-import outputs
-import tables
-import values
-from asking import Oracle, built
-from rng import Rng
+sys.path.append(str(Path(__file__).resolve().parent.parent))
+
+import bounds  # noqa: E402
+import naturals  # noqa: E402
+import outputs  # noqa: E402
+import tables  # noqa: E402
+import values  # noqa: E402
+from asking import Oracle, built  # noqa: E402
+from rng import Rng  # noqa: E402
 
 COMMAND = "python3 tools/first-answers/make.py ORACLE vectors/original"
 SEED = 1

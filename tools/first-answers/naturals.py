@@ -4,6 +4,7 @@
 from itertools import product
 
 from coding import natural, pack, text
+from limits import NODE_COUNT
 
 MOST = 2**32 - 1
 POWERS = [2**k + d for k in range(7, 32) for d in (-1, 0, 1)] + [MOST]
@@ -56,7 +57,7 @@ def offsets(streams):
 # Every proper prefix of some codes.
 def cut(streams):
     streams.add("cut", "", 8)
-    for n, bound in ((2, MOST), (8, MOST), (70, 3), (2049, 2048), (2**31 + 77, MOST)):
+    for n, bound in ((2, MOST), (8, MOST), (70, 3), (NODE_COUNT + 1, NODE_COUNT), (2**31 + 77, MOST)):
         code = natural(n)
         for end in range(len(code)):
             streams.add_ending("cut", code[:end], bound)
@@ -81,14 +82,14 @@ def towers(streams):
 
 # Around a bound: one below the natural, the natural, one above.
 def bounds(streams):
-    numbers = (1, 2, 3, 5, 8, 31, 32, 33, 100, 2047, 2048, 2049, 65535, 2**31, MOST - 1)
+    numbers = (1, 2, 3, 5, 8, 31, 32, 33, 100, NODE_COUNT - 1, NODE_COUNT, NODE_COUNT + 1, 65535, 2**31, MOST - 1)
     for n, step in product(numbers, (-1, 0, 1)):
         streams.add("bound", natural(n), n % 8, n + step)
 
 
 # Far above a bound, and bounds of 0.
 def far(streams):
-    for n, bound in product((2, 9, MOST), (0, 1, 32, 2048, MOST - 1)):
+    for n, bound in product((2, 9, MOST), (0, 1, 32, NODE_COUNT, MOST - 1)):
         streams.add("far", natural(n), 3, bound)
 
 
@@ -110,7 +111,7 @@ def anything(streams):
     for _ in range(70):
         start = rng.below(8)
         bits = rng.bits(8 * (1 + rng.below(9)) - start)
-        streams.add("random", bits, start, rng.pick([MOST, 1, 4, 32, 2048, 1 + rng.below(60)]))
+        streams.add("random", bits, start, rng.pick([MOST, 1, 4, 32, NODE_COUNT, 1 + rng.below(60)]))
 
 
 MAKERS = [small, powers, offsets, cut, lengths, towers, bounds, far, ones, ones_from, anything]

@@ -6,6 +6,7 @@ from coding import (
     WITNESS, WORD, Node, natural, node_bits, pack, program, program_bits,
 )
 from graphs import canonical
+from limits import NODE_COUNT
 
 ONE_CHILD = [INJL, INJR, TAKE, DROP, DISCONNECT1]
 TWO_CHILDREN = [COMP, CASE, PAIR, DISCONNECT]
@@ -106,7 +107,7 @@ def naturals():
 
 # Counts around and above the limit of the requirements, most of their nodes missing.
 def counts():
-    numbers = (2047, 2048, 2049, 4097, 2**31, 2**32 - 1)
+    numbers = (NODE_COUNT - 1, NODE_COUNT, NODE_COUNT + 1, 2 * NODE_COUNT + 1, 2**31, 2**32 - 1)
     rests = ("", UNIT_BITS, UNIT_BITS * 8)
     return [("count", pack(natural(n) + rest)) for n in numbers for rest in rests]
 

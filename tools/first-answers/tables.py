@@ -5,8 +5,8 @@ import programs
 from asking import number
 from coding import FAIL, HIDDEN, WORD, natural, numbers, pack, program, text, unpack
 from dossiers import drawn, small_types
+from limits import NODE_COUNT
 
-COUNT_LIMIT = 2048
 COLUMNS = "group\tmark\tanswer\tplace\terror\tbits\tprogram\ttable\thashes"
 NOTES = [
     "decode_expression of the original, then close. The mark says how to compare a row:",
@@ -14,7 +14,7 @@ NOTES = [
     "  jet    as all, but the shim's empty jet family gives the 5; the crate would read on.",
     "  type   the original met a type error in its walk, where the requirements have none: all that is",
     "         known of the requirements' answer is that it is not 3, 4 or 5.",
-    "  count  the count is above 2048, which the original allows. By their own limit the requirements",
+    f"  count  the count is above {NODE_COUNT}, which the original allows. By their own limit the requirements",
     "         refuse it with 4 at place 0.",
     "answer: 0 accepted, else the requirements' number for the original's error; - for a type error.",
     "place: of 3, 4 and 5; - elsewhere. error: the original's name for it. bits: read at the end.",
@@ -99,7 +99,7 @@ def mark(oracle, data, no):
     if no == "0":
         return "type"
     count = oracle.ask([f"nat - {text(data)}"])[0].split()
-    if count[0] == "ok" and int(count[1]) > COUNT_LIMIT:
+    if count[0] == "ok" and int(count[1]) > NODE_COUNT:
         return "count"
     return "jet" if no == "5" else "all"
 

@@ -5,7 +5,7 @@ use refusal::Answer;
 ghost use Prim.Native.Nat.{_≤_};
 
 // The largest stores: node numbers, cell bytes, frame numbers, answer bytes.
-const NODES: usize = 8_192;
+const NODES: usize = limits::NODE_NUMBERS * limits::NODE_COUNT;
 
 const CELLS: usize = 4_096;
 
@@ -233,4 +233,5 @@ fn show_file(path: &[u8]) {
 fn main() {
     show_file(b"runs0");
     show_file(b"runs1");
+    show_file(b"runs2");
 }

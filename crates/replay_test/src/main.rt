@@ -1,4 +1,4 @@
-// Runs the dossiers of seven files in stores of the sizes and with the old contents that their records say, and prints for each file how many
+// Runs the dossiers of seven lists in stores of the sizes and with the old contents that their records say, and prints for each list how many
 // runs there were and how many came out otherwise: in the answer, the output, a store as it is left, or the bounds. Each of the latter is named.
 // The runs whose stores are all told are made a second time with two numbers more, which are no record, in the node store and the frame store.
 // vectors/cases/README.md says what stands in a record.
@@ -9,15 +9,15 @@ use refusal::Refusal;
 ghost use Prim.Native.Nat.{_≤_};
 
 // The largest stores: node numbers, hash bytes, cell bytes, frame numbers, answer bytes.
-const NODES: usize = 8_194;
+const NODES: usize = limits::NODE_NUMBERS * limits::NODE_COUNT;
 
-const HASHES: usize = 32_768;
+const HASHES: usize = limits::DOSSIER_BYTES;
 
-const CELLS: usize = 32_768;
+const CELLS: usize = limits::CELL_COUNT as usize / 8;
 
 const FRAMES: usize = limits::FRAME_NUMBERS * limits::FRAME_COUNT as usize + 2;
 
-const ANSWER: usize = 4_096;
+const ANSWER: usize = limits::TYPE_WIDTH as usize / 8;
 
 // A number in place of a refusal's, where nothing is told.
 const NOT_TOLD: u32 = 255;
@@ -251,10 +251,12 @@ fn replay_file(path: &[u8], odd: bool, before: Tally) -> Tally {
     replay(&file[..n], odd, before)
 }
 
-// The tally of a file, and of those whose names end in 0, 1 and so on.
-fn replay_one(path: &[u8]) {
-    let t = replay_file(path, false, Tally { count: 0, wrong: 0 });
-    packed::print_tally(path, t);
+// The tally of each list, whose files' names end in 0, 1 and so on.
+fn replay_known() {
+    let none = Tally { count: 0, wrong: 0 };
+    let mut t = replay_file(b"known0", false, none);
+    t = replay_file(b"known1", false, t);
+    packed::print_tally(b"known", t);
 }
 
 fn replay_edges() {
@@ -264,6 +266,7 @@ fn replay_edges() {
     t = replay_file(b"edges2", false, t);
     t = replay_file(b"edges3", false, t);
     t = replay_file(b"edges4", false, t);
+    t = replay_file(b"edges5", false, t);
     packed::print_tally(b"edges", t);
 }
 
@@ -272,6 +275,7 @@ fn replay_random() {
     let mut t = replay_file(b"random0", false, none);
     t = replay_file(b"random1", false, t);
     t = replay_file(b"random2", false, t);
+    t = replay_file(b"random3", false, t);
     packed::print_tally(b"random", t);
 }
 
@@ -288,7 +292,6 @@ fn replay_stores(what: &[u8], odd: bool) {
     t = replay_file(b"stores1", odd, t);
     t = replay_file(b"stores2", odd, t);
     t = replay_file(b"stores3", odd, t);
-    t = replay_file(b"stores4", odd, t);
     packed::print_tally(what, t);
 }
 
@@ -300,13 +303,18 @@ fn replay_outputs() {
     packed::print_tally(b"outputs", t);
 }
 
+fn replay_lengths() {
+    let t = replay_file(b"lengths0", false, Tally { count: 0, wrong: 0 });
+    packed::print_tally(b"lengths", t);
+}
+
 fn main() {
-    replay_one(b"known");
+    replay_known();
     replay_edges();
     replay_random();
     replay_bounds();
     replay_stores(b"stores", false);
     replay_stores(b"stores with odd numbers more", true);
-    replay_one(b"lengths");
+    replay_lengths();
     replay_outputs();
 }

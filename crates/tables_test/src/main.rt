@@ -6,8 +6,8 @@ use decode::Decoded;
 use packed::Tally;
 use refusal::Refusal;
 
-// The numbers of a store of nodes, room for a record more than a table may have and for a part of one.
-const NUMBERS: usize = 8_200;
+// The numbers of a store of nodes, room for as many records as a table may have: 64 KiB.
+const NUMBERS: usize = limits::NODE_NUMBERS * limits::NODE_COUNT;
 
 // The most bytes of a hash store, and what stands in the stores before a program is decoded.
 const HASHES: usize = 4_096;
@@ -164,9 +164,12 @@ fn main() {
     t = replay_file(b"lent1", true, t);
     t = replay_file(b"lent2", true, t);
     t = replay_file(b"lent3", true, t);
+    t = replay_file(b"lent4", true, t);
+    t = replay_file(b"lent5", true, t);
     packed::print_tally(b"lent", t);
     t = replay_file(b"programs0", false, none);
     t = replay_file(b"programs1", false, t);
     t = replay_file(b"programs2", false, t);
+    t = replay_file(b"programs3", false, t);
     packed::print_tally(b"programs", t);
 }
