@@ -16,6 +16,7 @@
 //! in "whole" and left out of "exec" and "input to output bits", where the machine is made beforehand.
 
 use compare::clock::{clocked, race, task, Effort, Time};
+use compare::document::{DOSSIER_BYTES, NODE_COUNT};
 use compare::making::{any_value, families, types, Made};
 use compare::original::{decode, nodes, write};
 use compare::rng::Rng;
@@ -71,7 +72,7 @@ fn naturals(effort: &Effort, name: &str, pick: fn(&mut Rng) -> usize) {
     let values: Vec<usize> = (0..8_000).map(|_| pick(&mut rng)).collect();
     let (bytes, _) = write::naturals(&values);
     let want: u64 = values.iter().map(|v| *v as u64).sum();
-    assert!(bytes.len() <= 32_768);
+    assert!(bytes.len() <= DOSSIER_BYTES);
     assert_eq!(timed::original_naturals(&bytes, values.len()), want);
     assert_eq!(timed::library_naturals(&bytes, values.len()), want);
     let tasks = vec![
@@ -252,7 +253,7 @@ fn measure() {
     }
     if wanted("decode") {
         heading("Decoding", &DECODE, &DECODE_PAIRS);
-        for n in [1_000, 1_500, 2_048] {
+        for n in [1_000, 1_500, 2_048, NODE_COUNT] {
             decoding_of(&effort, "chain", &families::chain(n, 1));
             decoding_of(&effort, "pairs", &families::pairs(n, 1));
             decoding_of(&effort, "gates", &families::gates(n, 1));

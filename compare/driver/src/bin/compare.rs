@@ -6,6 +6,7 @@
 //! then generated programs until there are --programs of all. The status is 0 if nothing differs.
 //! Dossiers on which something differs are kept in DIR; with --trace also the one at hand, for a crash.
 
+use compare::document::NODE_COUNT;
 use compare::judge::{Choice, Judge};
 use compare::making::{classes, limits};
 use compare::original::{decode, write};
@@ -95,7 +96,7 @@ fn naturals(judge: &mut Judge, rng: &mut Rng, count: usize) {
         natural(judge, &bytes, at, bound as u32);
         let len = 1 + rng.below(9);
         let any = rng.bytes(len);
-        natural(judge, &any, rng.below(10), *rng.pick(&[1, 32, 2_048, u32::MAX]));
+        natural(judge, &any, rng.below(10), *rng.pick(&[1, 32, NODE_COUNT as u32, u32::MAX]));
     }
 }
 
@@ -106,6 +107,7 @@ fn compare_all() -> bool {
     let mut judge = Judge::new(settings.seed, settings.saved.clone().into());
     judge.trace = std::env::args().any(|arg| arg == "--trace");
     judge.over_long();
+    judge.over_many();
     short_programs(&mut judge, &mut rng, settings.short_every);
     at_limits(&mut judge, &mut rng);
     naturals(&mut judge, &mut rng, (settings.programs / 4) as usize);

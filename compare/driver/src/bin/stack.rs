@@ -5,6 +5,7 @@
 //! Each call runs in a thread of its own. The stack below the caller is painted first; what the call
 //! wrote over is what it took.
 
+use compare::document::{NODE_COUNT, TYPE_COUNT};
 use compare::dossier::Dossier;
 use compare::facts::decoding::{Decoding, Table};
 use compare::making::{families, types, Made};
@@ -38,18 +39,27 @@ fn taken(call: impl FnOnce() + Send) -> usize {
     })
 }
 
-/// Comps nested as deep as frames allow, over takes nested as deep as types allow.
+/// The most nodes, all but one of them nested: chains of takes, as long as there are types for them. Where
+/// they end, a comp with a witness of the largest type, which takes no bits, begins the chain below.
 fn deepest() -> Dossier {
     let one = Final::unit();
-    let arrow = |source: &Arc<Final>| FinalArrow { source: Arc::clone(source), target: Final::unit() };
-    let (mut rows, mut arrows, mut source) = (vec![Row::Iden], vec![arrow(&one)], Final::unit());
-    for at in 0..1_023 {
-        source = types::product(&source, &one);
-        rows.push(Row::Take(at));
-        arrows.push(arrow(&source));
+    let mut sources = vec![Final::unit()];
+    while sources.len() < TYPE_COUNT {
+        sources.push(types::product(&sources[sources.len() - 1], &one));
     }
-    rows.extend((1_023..2_045).map(|at| Row::Comp(at, 0)));
-    arrows.resize(rows.len(), arrow(&source));
+    let arrow = |source: &Arc<Final>, target: &Arc<Final>| FinalArrow {
+        source: Arc::clone(source),
+        target: Arc::clone(target),
+    };
+    let mut rows = vec![Row::Witness, Row::Iden];
+    let mut arrows = vec![arrow(&one, &sources[TYPE_COUNT - 1]), arrow(&one, &one)];
+    let mut depth = 0;
+    while rows.len() < NODE_COUNT {
+        let below = rows.len() - 1;
+        depth = (depth + 1) % TYPE_COUNT;
+        rows.push(if depth == 0 { Row::Comp(0, below) } else { Row::Take(below) });
+        arrows.push(arrow(&sources[depth], &one));
+    }
     Made { rows, arrows }.dossier(&mut Rng::new(1))
 }
 
@@ -59,13 +69,13 @@ fn dossiers() -> Vec<(&'static str, Dossier)> {
     let one = Final::unit();
     let nested = families::fixed(families::nested_comp(1_022), &one, &one);
     let deep = families::thrown_witness(3, &families::deep_type(511));
-    let both = families::alternating(1_021, &families::deep_padded_type(1_018));
+    let both = families::alternating(1_021, 3, &families::deep_padded_type(1_018));
     vec![
         ("unit", families::fixed(vec![Row::Unit], &one, &one).dossier(&mut rng)),
         ("1,022 nested comps", nested.dossier(&mut rng)),
-        ("1,022 comps over 1,023 takes", deepest()),
+        ("4,095 nested nodes: four chains of takes", deepest()),
         ("a witness whose type is 1,021 records deep", deep.dossier(&mut rng)),
-        ("1,021 comps and pairs in turn over a witness whose type is 1,020 records deep", both.dossier(&mut rng)),
+        ("1,021 comps with three pairs each over a witness whose type is 1,020 records deep", both.dossier(&mut rng)),
     ]
 }
 

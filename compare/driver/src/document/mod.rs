@@ -7,9 +7,9 @@ pub mod reader;
 pub mod walk;
 
 /// The limits.
-pub const DOSSIER_BYTES: usize = 32_768;
+pub const DOSSIER_BYTES: usize = 49_152;
 pub const TYPE_COUNT: usize = 1_024;
-pub const NODE_COUNT: usize = 2_048;
+pub const NODE_COUNT: usize = 4_096;
 pub const TYPE_WIDTH: usize = 32_768;
 pub const CELL_COUNT: usize = 262_144;
 pub const FRAME_COUNT: usize = 1_024;

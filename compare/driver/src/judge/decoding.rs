@@ -2,7 +2,7 @@
 
 use super::{Judge, Names};
 use crate::bits;
-use crate::document::DOSSIER_BYTES;
+use crate::document::{DOSSIER_BYTES, NODE_COUNT};
 use crate::facts::whole::Facts;
 use crate::lent::{Contents, Lent, Room};
 use crate::row::Row;
@@ -101,6 +101,17 @@ impl Judge {
         let same = decoded && zero && walked && read;
         let text = || format!("decode {decoded}, stores {zero}, walk {walked}, natural {read}");
         self.tally.compared("a program longer than a dossier: 1, or no natural", Rests::Document, same, text);
+    }
+
+    /// Lent tables of the most records, each a drop of the one before, and of one more: passed, and 4 at 0.
+    pub fn over_many(&mut self) {
+        let record = |i: u32| if i == 0 { [9, 0, 0, 0] } else { [7, i - 1, 0, 0] };
+        let table = |n: usize| (0..n as u32).flat_map(record).collect::<Vec<u32>>();
+        let most = drevaloci::walk(&[], &[], &table(NODE_COUNT));
+        let over = drevaloci::walk(&[], &[], &table(NODE_COUNT + 1));
+        let same = (most, over) == (Checked::Passed, Checked::Refused(Refusal::Natural(0)));
+        let text = || format!("{most:?}, {over:?}");
+        self.tally.compared("a table of the most records, and of one more: 4", Rests::Document, same, text);
     }
 
     /// The walk call on the table as read, where the whole program could be read.

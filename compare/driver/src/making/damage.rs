@@ -1,6 +1,7 @@
 //! Sound programs and dossiers with one thing changed.
 
 use crate::bits;
+use crate::document::NODE_COUNT;
 use crate::dossier::Dossier;
 use crate::making::{graph, Made};
 use crate::original::write;
@@ -103,7 +104,7 @@ fn program(rng: &mut Rng, made: &Made, dossier: &mut Dossier) {
         2 | 3 => dossier.program = changed_rows(rng, made),
         _ => {
             let n = made.rows.len();
-            let counts = [n + 1, n.saturating_sub(1).max(1), n + 7, 2_049];
+            let counts = [n + 1, n.saturating_sub(1).max(1), n + 7, NODE_COUNT + 1];
             dossier.program = write::counted(*rng.pick(&counts), &made.rows);
         }
     }

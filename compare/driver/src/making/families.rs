@@ -86,10 +86,13 @@ pub fn deep_padded_type(depth: usize) -> Arc<Final> {
     ty
 }
 
-/// A witness thrown away at the bottom of comps and pairs in turn, k of each.
-pub fn alternating(k: usize, ty: &Arc<Final>) -> Made {
+/// A witness thrown away at the bottom of k comps, each with so many pairs below it.
+pub fn alternating(k: usize, pairs: usize, ty: &Arc<Final>) -> Made {
     let one = Final::unit();
-    let two = types::product(&one, &one);
+    let mut paired = vec![types::product(&one, &one)];
+    while paired.len() < pairs {
+        paired.push(types::product(&paired[paired.len() - 1], &one));
+    }
     let arrow = |source: &Arc<Final>, target: &Arc<Final>| FinalArrow {
         source: Arc::clone(source),
         target: Arc::clone(target),
@@ -101,9 +104,11 @@ pub fn alternating(k: usize, ty: &Arc<Final>) -> Made {
     let (mut last, beside) = (2, 3);
     let mut dropped = None;
     for _ in 0..k {
-        let pair = made.add(Row::Pair(last, beside), arrow(&one, &two));
-        let unit = *dropped.get_or_insert_with(|| made.add(Row::Unit, arrow(&two, &one)));
-        last = made.add(Row::Comp(pair, unit), arrow(&one, &one));
+        for target in &paired {
+            last = made.add(Row::Pair(last, beside), arrow(&one, target));
+        }
+        let unit = *dropped.get_or_insert_with(|| made.add(Row::Unit, arrow(&paired[pairs - 1], &one)));
+        last = made.add(Row::Comp(last, unit), arrow(&one, &one));
     }
     made
 }

@@ -141,11 +141,11 @@ fn thrown(all: &[usize]) -> Made {
     Made { rows, arrows }
 }
 
-/// Dossiers of a size: seven witnesses of the largest width, and one that makes up the rest. Its width
+/// Dossiers of a size: witnesses of the largest width, and one that makes up the rest. Its width
 /// decides how many type records there are, so the widths near the right one are tried.
 fn sizes(rng: &mut Rng) -> Vec<Dossier> {
     let with = |rng: &mut Rng, width: usize| {
-        let mut all = vec![TYPE_WIDTH; 7];
+        let mut all = vec![TYPE_WIDTH; DOSSIER_BYTES / (TYPE_WIDTH / 8) - 1];
         all.push(width);
         thrown(&all).dossier(rng)
     };
@@ -165,7 +165,7 @@ fn words(rng: &mut Rng) -> Vec<Dossier> {
         let bytes = rng.bytes((1 << (n - 1)) / 8 + 1);
         Word::from_bits(&mut BitIter::from(&bytes[..]), n - 1).unwrap()
     };
-    let mut out: Vec<Dossier> = [1, 2, 15, 16, 17, 18]
+    let mut out: Vec<Dossier> = [1, 2, 15, 16, 17, 18, 19]
         .map(|n| {
             let rows = [Row::Word(whole(rng, n))];
             let ty = types::word(n as usize - 1);
@@ -175,7 +175,7 @@ fn words(rng: &mut Rng) -> Vec<Dossier> {
             }
         })
         .into();
-    for n in [19, 31, 32, 33, 34] {
+    for n in [20, 31, 32, 33, 34] {
         let mut code = vec![false, true, false];
         code.extend(write::natural_bits(n));
         code.extend([true; 200]);
@@ -205,7 +205,7 @@ fn distances() -> Vec<Dossier> {
 /// Counts whose length is 31, and lengths of 32 and more, cut off at each bit.
 fn naturals() -> Vec<Dossier> {
     let mut out = vec![];
-    for n in [2_047, 2_048, 2_049, 65_535, 1 << 31, u32::MAX as usize, 1 << 32] {
+    for n in around(NODE_COUNT).into_iter().chain([65_535, 1 << 31, u32::MAX as usize, 1 << 32]) {
         let code = write::natural_bits(n);
         out.extend((1..=code.len()).map(|len| bare(bits::pack(&code[..len]))));
     }
