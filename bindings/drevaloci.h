@@ -4,7 +4,7 @@
  *
  * A slice is passed as two arguments: a pointer to its first element, then its length in elements.
  * Each function returns 0 where it passed or gave a value, else the refusal's number of the table in
- * the requirements (1 to 19, 26); the refusal's place is then in *place.
+ * the requirements (1 to 19, 21, 26); the refusal's place is then in *place.
  *
  * What a caller owes; nothing in the library tests it:
  *  - Each pointer is valid for the length that is passed with it, and not NULL even where that is 0.
@@ -39,7 +39,7 @@ uint32_t drevaloci_run(const uint8_t *dossier, size_t dossier_len, uint32_t *nod
                        uint32_t *place);
 
 /* Decodes a program. 0: nodes holds *place records of four numbers, hashes holds *hash_bytes bytes, the rest of both is zero.
- * Else 1, 3 to 10 or 17 at *place, and both stores are zero. */
+ * Else 1, 3 to 10, 17 or 21 at *place, and both stores are zero. */
 uint32_t drevaloci_decode(const uint8_t *program, size_t program_len, uint32_t *nodes, size_t nodes_len,
                           uint8_t *hashes, size_t hashes_len, uint32_t *place, uint32_t *hash_bytes);
 
@@ -78,7 +78,7 @@ uint32_t drevaloci_run_tables(const uint8_t *types, size_t types_len, const uint
                               uint8_t *answer, size_t answer_len, uint32_t *place);
 
 /* Reads one natural at bit `at`. 0: *value is the natural, at most bound, and *next the bit after its code.
- * Else 3 where the bytes end first, 4 where it is too long or over the bound. */
+ * Else 3 where the bytes end first, 4 where it is over the bound, 21 where a length in its code is above 31. */
 uint32_t drevaloci_natural(const uint8_t *bytes, size_t bytes_len, size_t at, uint32_t bound,
                            uint32_t *value, size_t *next);
 

@@ -35,12 +35,13 @@ pub enum Bounds {
     Refused(Refusal),
 }
 
-/// A natural and the bit after its code; or the bytes ended; or it is too long or over its bound.
+/// A natural and the bit after its code; or the bytes ended; or it is over its bound; or a length in its code is above 31.
 #[derive(Clone, Copy, Debug, PartialEq, Eq)]
 pub enum Natural {
     Value { value: u32, next: usize },
     Ended,
     TooLarge,
+    Overlong,
 }
 
 /// A program by its tables. Types, arrows and program bytes are as in a dossier, nodes and hashes
@@ -266,6 +267,7 @@ pub fn natural(bytes: &[u8], at: usize, bound: u32) -> Natural {
         0 => Natural::Value { value, next },
         3 => Natural::Ended,
         4 => Natural::TooLarge,
+        21 => Natural::Overlong,
         _ => panic!("the library gave {number} for a natural"),
     }
 }

@@ -10,7 +10,7 @@ pub enum Refusal {
     TypeRecord(u32),
     /// 3: the stream ended. Place: the node being read.
     StreamEnded(u32),
-    /// 4: a natural too long or over its bound; a table with no record or too many. Place: the node being read; 0.
+    /// 4: a natural over its bound; a table with no record or too many. Place: the node being read; 0.
     Natural(u32),
     /// 5: a jet. Place: the node being read.
     Jet(u32),
@@ -42,6 +42,8 @@ pub enum Refusal {
     FailReached(u32),
     /// 19: a pruned branch was reached. Place: the assertion.
     PrunedReached(u32),
+    /// 21: a natural with a length above 31 in its code. Place: the node being read.
+    Overlong(u32),
     /// 26: a record of a lent node table breaks a rule. Place: the first such record.
     NodeRecord(u32),
 }
@@ -49,7 +51,7 @@ pub enum Refusal {
 use Refusal::*;
 
 /// The cases in the order of their numbers.
-const CASES: [(u32, fn(u32) -> Refusal); 20] = [
+const CASES: [(u32, fn(u32) -> Refusal); 21] = [
     (1, Header),
     (2, TypeRecord),
     (3, StreamEnded),
@@ -69,6 +71,7 @@ const CASES: [(u32, fn(u32) -> Refusal); 20] = [
     (17, StoreShort),
     (18, FailReached),
     (19, PrunedReached),
+    (21, Overlong),
     (26, NodeRecord),
 ];
 
@@ -107,6 +110,7 @@ impl Refusal {
             | StoreShort(p)
             | FailReached(p)
             | PrunedReached(p)
+            | Overlong(p)
             | NodeRecord(p) => p,
         }
     }

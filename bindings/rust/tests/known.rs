@@ -114,7 +114,7 @@ fn naturals() {
     assert_eq!(natural(&[0b1000_0000], 0, 9), Natural::Value { value: 2, next: 3 });
     assert_eq!(natural(&[0b0110_1000], 1, 8), Natural::Value { value: 8, next: 8 });
     assert_eq!(natural(&[0b0110_1000], 1, 7), Natural::TooLarge);
-    assert_eq!(natural(&[0xf1, 0x00], 0, 9), Natural::TooLarge);
+    assert_eq!(natural(&[0xf1, 0x00], 0, 9), Natural::Overlong);
     assert_eq!(natural(&[0xff], 0, 9), Natural::Ended);
     assert_eq!(natural(&[0xff], 800, 9), Natural::Ended);
 }

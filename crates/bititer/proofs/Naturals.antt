@@ -11,7 +11,7 @@ use lib.Dec.{leb}
 use lib.ListN.{length, drop, length-drop}
 use lib.Pow.{pow-mono, pow-add}
 use lib.Seq.{drop-drop}
-use Rattle.limits.specs.Limits.{naturalLength}
+use Rattle.limits.specs.Limits.{naturalLength, dossierBytes}
 use Rattle.report.specs.Bits.{Bit}
 use Rattle.scope.specs.Naturals.{Natural, natural, ended, tooLong, moreBits, ofLength, readNatural}
 use Rattle.scope.specs.Reading.{got, fault, streamEnded, lengthTooLong, overBound, bounded, naturalUpTo}
@@ -182,5 +182,5 @@ module _ (bits : List Bit) (most p : ℕ) where
       go ended x e = let z : _≡_ {A = ℕ} 0 1 = cc in absurd (omega arith)
       go tooLong x e = let z : _≡_ {A = ℕ} 0 1 = cc in absurd (omega arith)
 
-pub natural-inside : (s : List ℕ) (most p n next : ℕ) → naturalUpTo (streamOf s) most p ≡ got n next → next ≤ 8 * length s
-natural-inside s most p n next e = let g = up-to-got (streamOf s) most p n next e in omega (arith, g .3, length-stream s)
+pub natural-inside : (s : List ℕ) (most p n next : ℕ) → naturalUpTo (streamOf s) most p ≡ got n next → (next ≤ 8 * length s) × (next ≤ 8 * dossierBytes)
+natural-inside s most p n next e = let g = up-to-got (streamOf s) most p n next e in (omega (arith, g .3, length-stream s), omega (arith, g .3, length-stream s))

@@ -1,7 +1,8 @@
 -- What each public call promises has one outcome: over the call's own promise, `Post`, two answers, and two stores that are left, are the same.
-use mathlib.Core.Path.{_≡_, refl, ap, sym, _∙_}
+use mathlib.Core.Path.{_≡_, refl, ap, ap₂, sym, _∙_}
 use mathlib.Core.List.{List}
-use Prim.Native.Nat.{ℕ}
+use Prim.Native.Nat.{ℕ, _+_}
+use native.Mathlib.Omega.{arith}
 use Rattle.promise.specs.Outcomes.{OneResult, OneOutcome, _&_}
 use Rattle.bititer.specs.Answers.{gotCode, gotNatural, gotBytes, Stored, stored}
 use Rattle.bititer.specs.declared.CodeRead.{CodeRead}
@@ -18,6 +19,8 @@ use Rattle.bititer.proofs.fail_bytes.Reads as fail-bytes-reads
 use Rattle.bititer.proofs.hash_bytes.Kinds as hash-bytes-kinds
 use Rattle.bititer.proofs.hash_bytes.Reads as hash-bytes-reads
 use Rattle.bititer.proofs.natural.Kinds as natural-kinds
+use Rattle.bititer.proofs.natural_refusal.Kinds as natural-refusal-kinds
+use Rattle.bititer.proofs.natural_refusal.Reads as natural-refusal-reads
 use Rattle.bititer.proofs.natural.Reads as natural-reads
 use Rattle.bititer.proofs.two_bits.Kinds as two-bits-kinds
 use Rattle.bititer.proofs.two_bits.Reads as two-bits-reads
@@ -29,19 +32,22 @@ same-code (CodeRead.Read v n) CodeRead.Ended e = cc
 same-code CodeRead.Ended (CodeRead.Read w m) e = cc
 same-code CodeRead.Ended CodeRead.Ended e = refl
 
-same-natural : (r q : NaturalRead) → gotNatural r ≡ gotNatural q → r ≡ q
-same-natural (NaturalRead.Read n a) (NaturalRead.Read m b) e = cc
-same-natural (NaturalRead.Read n a) (NaturalRead.Fault g) e = cc
-same-natural (NaturalRead.Fault f) (NaturalRead.Read m b) e = cc
-same-natural (NaturalRead.Fault NaturalFault.Ended) (NaturalRead.Fault NaturalFault.Ended) e = refl
-same-natural (NaturalRead.Fault NaturalFault.Ended) (NaturalRead.Fault NaturalFault.TooLong) e = cc
-same-natural (NaturalRead.Fault NaturalFault.Ended) (NaturalRead.Fault NaturalFault.OverBound) e = cc
-same-natural (NaturalRead.Fault NaturalFault.TooLong) (NaturalRead.Fault NaturalFault.Ended) e = cc
-same-natural (NaturalRead.Fault NaturalFault.TooLong) (NaturalRead.Fault NaturalFault.TooLong) e = refl
-same-natural (NaturalRead.Fault NaturalFault.TooLong) (NaturalRead.Fault NaturalFault.OverBound) e = cc
-same-natural (NaturalRead.Fault NaturalFault.OverBound) (NaturalRead.Fault NaturalFault.Ended) e = cc
-same-natural (NaturalRead.Fault NaturalFault.OverBound) (NaturalRead.Fault NaturalFault.TooLong) e = cc
-same-natural (NaturalRead.Fault NaturalFault.OverBound) (NaturalRead.Fault NaturalFault.OverBound) e = refl
+same-natural : (at : ℕ) (r q : NaturalRead) → gotNatural at r ≡ gotNatural at q → r ≡ q
+same-natural at (NaturalRead.Read n a) (NaturalRead.Read m b) e =
+    let v : n ≡ m = cc in
+    let next : at + a ≡ at + b = cc in
+    ap₂ NaturalRead.Read v (let w : a ≡ b = omega arith in w)
+same-natural at (NaturalRead.Read n a) (NaturalRead.Fault g) e = cc
+same-natural at (NaturalRead.Fault f) (NaturalRead.Read m b) e = cc
+same-natural at (NaturalRead.Fault NaturalFault.Ended) (NaturalRead.Fault NaturalFault.Ended) e = refl
+same-natural at (NaturalRead.Fault NaturalFault.Ended) (NaturalRead.Fault NaturalFault.TooLong) e = cc
+same-natural at (NaturalRead.Fault NaturalFault.Ended) (NaturalRead.Fault NaturalFault.OverBound) e = cc
+same-natural at (NaturalRead.Fault NaturalFault.TooLong) (NaturalRead.Fault NaturalFault.Ended) e = cc
+same-natural at (NaturalRead.Fault NaturalFault.TooLong) (NaturalRead.Fault NaturalFault.TooLong) e = refl
+same-natural at (NaturalRead.Fault NaturalFault.TooLong) (NaturalRead.Fault NaturalFault.OverBound) e = cc
+same-natural at (NaturalRead.Fault NaturalFault.OverBound) (NaturalRead.Fault NaturalFault.Ended) e = cc
+same-natural at (NaturalRead.Fault NaturalFault.OverBound) (NaturalRead.Fault NaturalFault.TooLong) e = cc
+same-natural at (NaturalRead.Fault NaturalFault.OverBound) (NaturalRead.Fault NaturalFault.OverBound) e = refl
 
 same-bytes : (r q : BytesRead) → gotBytes r ≡ gotBytes q → r ≡ q
 same-bytes (BytesRead.Read n) (BytesRead.Read m) e = cc
@@ -62,7 +68,10 @@ pub two-bits : OneResult 1 two-bits-kinds.ps two-bits-kinds.r two-bits-reads.Pos
 two-bits κs a s t x y p q = same-code s t (p ∙ sym q)
 
 pub natural : OneResult 1 natural-kinds.ps natural-kinds.r natural-reads.Post
-natural κs a s t x y p q = same-natural s t (p ∙ sym q)
+natural κs a s t x y p q = same-natural _ s t (p ∙ sym q)
+
+pub natural-refusal : OneResult 0 natural-refusal-kinds.ps natural-refusal-kinds.r natural-refusal-reads.Post
+natural-refusal κs a s t x y p q = p ∙ sym q
 
 pub hash-bytes : OneOutcome 2 hash-bytes-kinds.ps hash-bytes-kinds.r hash-bytes-reads.Post
 hash-bytes κs a s t v w p q = let e = same-stored s t (v .1 .1 .0) (w .1 .1 .0) (p ∙ sym q) in (e .0, λ i. tt & tt & e .1 i & tt & tt)

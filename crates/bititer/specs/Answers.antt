@@ -21,9 +21,10 @@ naturalFault NaturalFault.Ended = streamEnded
 naturalFault NaturalFault.TooLong = lengthTooLong
 naturalFault NaturalFault.OverBound = overBound
 
-abbrev pub gotNatural : NaturalRead → Got ℕ
-gotNatural (NaturalRead.Read n next) = got n next
-gotNatural (NaturalRead.Fault f) = fault (naturalFault f)
+-- a natural that was read at a position
+abbrev pub gotNatural : (at : ℕ) → NaturalRead → Got ℕ
+gotNatural at (NaturalRead.Read n bits) = got n (at + bits)
+gotNatural at (NaturalRead.Fault f) = fault (naturalFault f)
 
 abbrev pub bytesFault : BytesFault → Fault
 bytesFault BytesFault.Ended = streamEnded

@@ -1,6 +1,7 @@
 // Reading a lent byte slice at a bit position: a bit, two bits, a natural, 32 and 64 whole bytes, and whether the slice closes there.
-// A reader takes the position by value and answers with the next one. The bits of a slice are `streamOf` of the requirements:
+// A reader takes the position by value and answers with the next one; a natural's answers with the bits that it took. The bits of a slice are `streamOf` of the requirements:
 // from the top bit of each byte on, and none at all above the dossier's limit, so that no position wraps.
+use refusal::Refusal;
 ghost use mathlib.Core.Path.{_≡_};
 ghost use Prim.Native.Nat.{_+_, _*_, _<_, _≤_};
 ghost use lib.Dec.{leb};
@@ -8,9 +9,9 @@ ghost use lib.ListN.{length, take, drop};
 ghost use Rattle.limits.specs.Limits.{naturalLength, hashBytes, failBytes};
 ghost use Rattle.report.specs.Bits.{bitsOf, numberFrom};
 ghost use Rattle.scope.specs.Numbers.{streamOf};
-ghost use Rattle.scope.specs.Reading.{code, naturalUpTo, octets};
+ghost use Rattle.scope.specs.Reading.{refusalAt, code, naturalUpTo, octets};
 ghost use Rattle.scope.specs.Closing.{closes};
-ghost use Rattle.bititer.specs.Answers.{gotCode, gotNatural, gotBytes, stored, storing};
+ghost use Rattle.bititer.specs.Answers.{gotCode, naturalFault, gotNatural, gotBytes, stored, storing};
 ghost use Rattle.bititer.specs.Parts.{OnesMean, BitsMean};
 
 // One or two bits: their number and the position after them.
@@ -26,7 +27,7 @@ pub enum NaturalFault {
     OverBound,
 }
 
-// A natural and the position after it.
+// A natural, and how many bits it took.
 pub enum NaturalRead {
     Read(u32, usize),
     Fault(NaturalFault),
@@ -124,7 +125,7 @@ fn bits_after_one(s: &[u8], p: usize, count: u32) -> Part
 
 // The natural from p on, which is at most `bound`. A length is refused before its bits are asked for.
 pub fn natural(s: &[u8], p: usize, bound: u32) -> NaturalRead
-    ensures { λ r. ⌜ gotNatural r ≡ naturalUpTo (streamOf (now (s .entry))) bound p ⌝ }
+    ensures { λ r. ⌜ gotNatural p r ≡ naturalUpTo (streamOf (now (s .entry))) bound p ⌝ }
 {
     let Part::Number(count, first) = ones(s, p) else {
         return NaturalRead::Fault(NaturalFault::Ended);
@@ -144,9 +145,21 @@ pub fn natural(s: &[u8], p: usize, bound: u32) -> NaturalRead
         lengths -= 1;
     }
     if n <= bound {
-        NaturalRead::Read(n, at)
+        let bits = at - p;
+        NaturalRead::Read(n, bits)
     } else {
         NaturalRead::Fault(NaturalFault::OverBound)
+    }
+}
+
+// Why a natural of node i is refused.
+pub fn natural_refusal(why: NaturalFault, i: u32) -> Refusal
+    ensures { λ r. ⌜ r ≡ refusalAt i (naturalFault why) ⌝ }
+{
+    match why {
+        NaturalFault::Ended => Refusal::StreamEnded(i),
+        NaturalFault::TooLong => Refusal::Overlong(i),
+        NaturalFault::OverBound => Refusal::Natural(i),
     }
 }
 

@@ -1,11 +1,10 @@
 // Decoding, after bit_encoding/decode.rs: program bytes into the lent node store, four 32-bit numbers a node, and the lent hash store.
-// All nodes are read first (3, 4, 5, and 17 at 3 and 4), then comes the walk (6 to 9), then the closing (10).
+// All nodes are read first (3, 4, 5, 21, and 17 at 3 and 4), then comes the walk (6 to 9), then the closing (10).
 // A node's bits are read by value, and only then do its bytes and its record go into the stores.
 // A refusal leaves both stores zero; else they hold the table, and zeros after it.
 use bititer::BytesFault;
 use bititer::BytesRead;
 use bititer::CodeRead;
-use bititer::NaturalFault;
 use bititer::NaturalRead;
 use common::Checked;
 use refusal::Refusal;
@@ -77,17 +76,6 @@ enum Progressed {
     Refused(Refusal),
 }
 
-// Why a natural of node i is refused.
-fn natural_refusal(why: NaturalFault, i: u32) -> Refusal
-    ensures { λ r. ⌜ r ≡ refusalAt i (naturalFault why) ⌝ }
-{
-    match why {
-        NaturalFault::Ended => Refusal::StreamEnded(i),
-        NaturalFault::TooLong => Refusal::Natural(i),
-        NaturalFault::OverBound => Refusal::Natural(i),
-    }
-}
-
 // Why the bytes of node i are refused.
 fn bytes_refusal(why: BytesFault, i: u32) -> Refusal
     ensures { λ r. ⌜ r ≡ refusalAt i (bytesFault why) ⌝ }
@@ -104,8 +92,8 @@ fn number(program: &[u8], at: usize, most: u32, i: u32) -> NumberRead
 {
     let read = bititer::natural(program, at, most);
     match read {
-        NaturalRead::Read(n, next) => NumberRead::Number(n, next),
-        NaturalRead::Fault(why) => NumberRead::Refused(natural_refusal(why, i)),
+        NaturalRead::Read(n, bits) => NumberRead::Number(n, at + bits),
+        NaturalRead::Fault(why) => NumberRead::Refused(bititer::natural_refusal(why, i)),
     }
 }
 

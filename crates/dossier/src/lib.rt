@@ -1,5 +1,5 @@
 // The whole job: a dossier and five lent stores in, an answer out, and each store left as the requirements say.
-// The header and the types are checked (1, 2), the program is decoded (3 to 10), and the run stage does the rest on the decoded table (11 to 19).
+// The header and the types are checked (1, 2), the program is decoded (3 to 10, 21), and the run stage does the rest on the decoded table (11 to 19).
 // Where `refusal::keeps_table` says no, the node and hash stores are zero: no table is left.
 use common::Checked;
 use decode::Decoded;

@@ -128,6 +128,10 @@ module _ (bits : List Bit) where
         go ended q e = clash (cc)
         go tooLong q e = clash (cc)
 
+    -- it takes just the bits of its code
+    pub natural-takes : (most at n p : ℕ) → naturalUpTo bits most at ≡ got n p → p ≡ at + length (codeNatural n)
+    natural-takes most at n p e = natural-stands most at n p e .0 .ends-at
+
     pub stands-natural : (most at n p : ℕ) → most < naturalBound → 1 ≤ n → n ≤ most → Stands bits at p (codeNatural n)
         → naturalUpTo bits most at ≡ got n p
     unfolding naturalUpTo bounded

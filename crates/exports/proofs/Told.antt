@@ -1,7 +1,7 @@
 -- What each kind of call is told, from what the call that it wraps promises.
 use mathlib.Core.Path.{_≡_, refl, sym, ap, ap₂, _∙_}
 use mathlib.Core.List.{List}
-use Prim.Native.Nat.{ℕ}
+use Prim.Native.Nat.{ℕ, _+_}
 use lib.ListN.{length}
 use Rattle.refusal.specs.declared.Refusal.{Refusal}
 use Rattle.refusal.specs.declared.Answer.{Answer}
@@ -85,14 +85,14 @@ module _ (r : BoundsAnswer) (c : Check Bound) (e : boundedOf r ≡ c) where
   unbounded-told why q code place ec ep = ap₂ (λ (x y : ℕ). bounding x y 0 0) ec ep ∙ ap boundingBy (ap boundedOf (sym q) ∙ e)
 
 -- a natural
-module _ (r : NaturalRead) (g : Got ℕ) (e : gotNatural r ≡ g) where
-  pub natural-told : (n next : ℕ) → r ≡ NaturalRead.Read n next → read 0 n next ≡ readBy g
+module _ (r : NaturalRead) (at : ℕ) (g : Got ℕ) (e : gotNatural at r ≡ g) where
+  pub natural-told : (n bits : ℕ) → r ≡ NaturalRead.Read n bits → read 0 n (at + bits) ≡ readBy g
   unfolding readBy
-  natural-told n next q = ap readBy (ap gotNatural (sym q) ∙ e)
+  natural-told n bits q = ap readBy (ap (gotNatural at) (sym q) ∙ e)
 
   pub fault-told : (why : NaturalFault) → r ≡ NaturalRead.Fault why → (code : ℕ) → code ≡ faultCode (naturalFault why) → read code 0 0 ≡ readBy g
   unfolding readBy
-  fault-told why q code ec = ap (λ (x : ℕ). read x 0 0) ec ∙ ap readBy (ap gotNatural (sym q) ∙ e)
+  fault-told why q code ec = ap (λ (x : ℕ). read x 0 0) ec ∙ ap readBy (ap (gotNatural at) (sym q) ∙ e)
 
 -- the run stage, and the whole job
 pub stage-told : (left : Left) (said : Answer) (cells frames answer : List ℕ) → leftWith said cells frames answer ≡ left

@@ -6,7 +6,7 @@ use Rattle.refusal.specs.declared.Answer.{Answer}
 use Rattle.refusal.specs.declared.Answer.the-variants.{Value, Refused}
 use Rattle.refusal.specs.Numbers.{numberOf, placeOf}
 use Rattle.scope.specs.Check.{Check, passed, refused}
-use Rattle.scope.specs.Reading.{NodeTable, Got, got, fault, Fault, streamEnded, lengthTooLong, overBound, aJet, hashesShort}
+use Rattle.scope.specs.Reading.{NodeTable, Got, got, fault, Fault, refusalAt}
 use Rattle.scope.specs.Closing.{nodesLeft, hashesLeft}
 use Rattle.scope.specs.Bounds.{Bound}
 use Rattle.scope.specs.Run.{Left, Ended}
@@ -95,7 +95,7 @@ finished code place nodes hashes cells frames answer =
 unfoldable pub finishedBy : Ended → Finished
 finishedBy e = finished (answerCode (e .says)) (answerTold (e .says)) (e .nodes) (e .hashes) (e .cells) (e .frames) (e .answer)
 
--- what the reading of one natural hands back: 3 where the stream ended, 4 where it is too long or over its bound
+-- what the reading of one natural hands back: a fault is told by the number of its refusal
 pub record Read : Type 0 where
   pub code : ℕ
   pub value : ℕ
@@ -104,12 +104,9 @@ pub record Read : Type 0 where
 abbrev pub read : (code value next : ℕ) → Read
 read code value next = record { code = code; value = value; next = next }
 
-abbrev pub faultCode : Fault → ℕ
-faultCode streamEnded = 3
-faultCode lengthTooLong = 4
-faultCode overBound = 4
-faultCode aJet = 5
-faultCode hashesShort = 17
+unfoldable pub faultCode : Fault → ℕ
+unfolding refusalAt
+faultCode e = numberOf (refusalAt 0 e)
 
 unfoldable pub readBy : Got ℕ → Read
 readBy (got n next) = read 0 n next

@@ -38,15 +38,11 @@ fn answer_told(said: Answer) -> u32
     }
 }
 
-// The number of a fault of reading a natural: 3 where the stream ended, 4 where it is too long or over its bound.
+// The number of a fault of reading a natural.
 fn fault_code(why: NaturalFault) -> u32
     ensures { λ r. ⌜ r ≡ faultCode (naturalFault why) ⌝ }
 {
-    match why {
-        NaturalFault::Ended => 3,
-        NaturalFault::TooLong => 4,
-        NaturalFault::OverBound => 4,
-    }
+    refusal::number(bititer::natural_refusal(why, 0))
 }
 
 // The whole job.
@@ -236,9 +232,9 @@ pub extern "C" fn drevaloci_natural(
 {
     let said = bititer::natural(bytes, at, bound);
     match said {
-        NaturalRead::Read(n, end) => {
+        NaturalRead::Read(n, bits) => {
             *value = n;
-            *next = end;
+            *next = at + bits;
             0
         }
         NaturalRead::Fault(why) => {

@@ -3,7 +3,7 @@ use mathlib.Core.Bool.{Bool, true, false}
 use Prim.Native.Nat.{ℕ}
 use lib.Dec.{ltb}
 use Rattle.refusal.specs.declared.Refusal.{Refusal}
-use Rattle.refusal.specs.declared.Refusal.the-variants.{Header, TypeRecord, StreamEnded, Natural, Jet, CanonicalOrder, HiddenElsewhere, BothHidden, HiddenRepeated, Closing, OneChildDisconnect, Arrow, Hash, OverLimit, Witness, Input, StoreShort, FailReached, PrunedReached, NodeRecord}
+use Rattle.refusal.specs.declared.Refusal.the-variants.{Header, TypeRecord, StreamEnded, Natural, Jet, CanonicalOrder, HiddenElsewhere, BothHidden, HiddenRepeated, Closing, OneChildDisconnect, Arrow, Hash, OverLimit, Witness, Input, StoreShort, FailReached, PrunedReached, Overlong, NodeRecord}
 
 abbrev pub numberOf : Refusal → ℕ
 numberOf (Header at) = 1
@@ -25,6 +25,7 @@ numberOf (Input at) = 16
 numberOf (StoreShort at) = 17
 numberOf (FailReached at) = 18
 numberOf (PrunedReached at) = 19
+numberOf (Overlong at) = 21
 numberOf (NodeRecord at) = 26
 
 abbrev pub placeOf : Refusal → ℕ
@@ -47,9 +48,10 @@ placeOf (Input at) = at
 placeOf (StoreShort at) = at
 placeOf (FailReached at) = at
 placeOf (PrunedReached at) = at
+placeOf (Overlong at) = at
 placeOf (NodeRecord at) = at
 
--- whether the node and hash stores keep the decoded table: they are zero after 1 to 13, and after 17 at 3 and 4
+-- whether the node and hash stores keep the decoded table: they are zero after 1 to 13 and 21, and after 17 at 3 and 4
 abbrev pub keepsTable : Refusal → Bool
 keepsTable (Header at) = false
 keepsTable (TypeRecord at) = false
@@ -70,4 +72,5 @@ keepsTable (Input at) = true
 keepsTable (StoreShort at) = ltb at 3
 keepsTable (FailReached at) = true
 keepsTable (PrunedReached at) = true
+keepsTable (Overlong at) = false
 keepsTable (NodeRecord at) = true

@@ -11,7 +11,7 @@ pub enum Refusal {
     TypeRecord(u32),
     // 3: the stream ended. Place: the node being read.
     StreamEnded(u32),
-    // 4: a natural too long or over its bound; a table with no record or too many. Place: the node being read; 0.
+    // 4: a natural over its bound; a table with no record or too many. Place: the node being read; 0.
     Natural(u32),
     // 5: a jet. Place: the node being read.
     Jet(u32),
@@ -43,6 +43,8 @@ pub enum Refusal {
     FailReached(u32),
     // 19: a pruned branch was reached. Place: the assertion.
     PrunedReached(u32),
+    // 21: a natural with a length above 31 in its code. Place: the node being read.
+    Overlong(u32),
     // 26: a record of a lent node table breaks a rule. Place: the first such record.
     NodeRecord(u32),
 }
@@ -77,6 +79,7 @@ pub fn number(refusal: Refusal) -> u32
         Refusal::StoreShort(_) => 17,
         Refusal::FailReached(_) => 18,
         Refusal::PrunedReached(_) => 19,
+        Refusal::Overlong(_) => 21,
         Refusal::NodeRecord(_) => 26,
     }
 }
@@ -105,6 +108,7 @@ pub fn place(refusal: Refusal) -> u32
         Refusal::StoreShort(at) => at,
         Refusal::FailReached(at) => at,
         Refusal::PrunedReached(at) => at,
+        Refusal::Overlong(at) => at,
         Refusal::NodeRecord(at) => at,
     }
 }
@@ -133,6 +137,7 @@ pub fn keeps_table(refusal: Refusal) -> bool
         Refusal::StoreShort(at) => at < 3,
         Refusal::FailReached(_) => true,
         Refusal::PrunedReached(_) => true,
+        Refusal::Overlong(_) => false,
         Refusal::NodeRecord(_) => true,
     }
 }

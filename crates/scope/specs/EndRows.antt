@@ -7,7 +7,7 @@ use lib.Dec.{eqb}
 use lib.ListN.{replicate}
 use Rattle.refusal.specs.declared.Answer.{Answer}
 use Rattle.refusal.specs.declared.Answer.the-variants.{Value, Refused}
-use Rattle.refusal.specs.declared.Refusal.the-variants.{Header, StreamEnded, Natural as BadNatural, CanonicalOrder, BothHidden, Arrow as BadArrow, Hash, OverLimit, Witness, Input, StoreShort, FailReached, PrunedReached}
+use Rattle.refusal.specs.declared.Refusal.the-variants.{Header, StreamEnded, Natural as BadNatural, Overlong, CanonicalOrder, BothHidden, Arrow as BadArrow, Hash, OverLimit, Witness, Input, StoreShort, FailReached, PrunedReached}
 use Rattle.report.specs.Lines.{Line, _is_, Hold}
 use Rattle.report.specs.Nodes.{Node, comp, case, pair, disconnect, injl, injr, take, drop, iden, unit, witness, fail, hidden}
 use Rattle.scope.specs.Numbers.{zeros, tabulateFrom, tabulate}
@@ -38,7 +38,8 @@ wiped-ends : Hold (
     -- a byte behind the last section
     job spacious (dossier two (code (unit ∷ [])) (to 0 0 ∷ []) [] [] [] ++ 0 ∷ []) is wiped (Header 52)
     -- a distance whose length's length is too long; the same cut off by a byte
-    ∷ job spacious (dossier two (0x89 ∷ 0x27 ∷ 0xBC ∷ 0 ∷ 0 ∷ []) (to 0 0 ∷ to 0 0 ∷ []) [] [] []) is wiped (BadNatural 1)
+    ∷ job spacious (dossier two (0x89 ∷ 0x24 ∷ []) (to 0 0 ∷ to 0 0 ∷ []) [] [] []) is wiped (BadNatural 1)
+    ∷ job spacious (dossier two (0x89 ∷ 0x27 ∷ 0xBC ∷ 0 ∷ 0 ∷ []) (to 0 0 ∷ to 0 0 ∷ []) [] [] []) is wiped (Overlong 1)
     ∷ job spacious (dossier two (0x89 ∷ 0x27 ∷ 0xBC ∷ 0 ∷ []) (to 0 0 ∷ to 0 0 ∷ []) [] [] []) is wiped (StreamEnded 1)
     -- two nodes over one, the right one first
     ∷ job spacious (dossier four (code (unit ∷ take 0 ∷ drop 0 ∷ pair 2 1 ∷ [])) (to 0 0 ∷ to 3 0 ∷ to 3 0 ∷ to 3 3 ∷ []) [] [] []) is wiped (CanonicalOrder 1)

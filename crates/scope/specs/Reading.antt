@@ -1,4 +1,4 @@
--- Reading the nodes of a program: the stream ended (3), a natural too long or over its bound (4), a jet (5),
+-- Reading the nodes of a program: the stream ended (3), a natural over its bound (4) or with a length too long (21), a jet (5),
 -- the node store too short right after the count (17 at 3), the hash store once a hidden or fail node is read (17 at 4).
 use mathlib.Core.Bool.{Bool, true, false}
 use mathlib.Core.List.{List, [], _∷_, _++_}
@@ -7,7 +7,7 @@ use lib.Dec.{leb, ltb, eqb}
 use lib.ListN.{length, take, drop}
 use Rattle.limits.specs.Limits.{nodeCount, wordMost, hashBytes, failBytes}
 use Rattle.refusal.specs.declared.Refusal.{Refusal}
-use Rattle.refusal.specs.declared.Refusal.the-variants.{StreamEnded, Natural as BadNatural, Jet, StoreShort}
+use Rattle.refusal.specs.declared.Refusal.the-variants.{StreamEnded, Natural as BadNatural, Overlong, Jet, StoreShort}
 use Rattle.report.specs.Bits.{Bit, numberFrom, bytesOf}
 use Rattle.scope.specs.Check.{Check, passed, refused}
 use Rattle.scope.specs.Naturals.{Natural, natural, ended, tooLong, readNatural}
@@ -28,7 +28,7 @@ pub data Fault : Type 0 where
 -- a fault's refusal at node i
 unfoldable pub refusalAt : (i : ℕ) → Fault → Refusal
 refusalAt i streamEnded = StreamEnded i
-refusalAt i lengthTooLong = BadNatural i
+refusalAt i lengthTooLong = Overlong i
 refusalAt i overBound = BadNatural i
 refusalAt i aJet = Jet i
 refusalAt i hashesShort = StoreShort 4

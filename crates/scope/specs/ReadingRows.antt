@@ -4,7 +4,7 @@ use mathlib.Core.List.{List, [], _∷_, _++_}
 use Prim.Native.Nat.{ℕ, _+_, _-_, _*_, _^_}
 use lib.ListN.{replicate, take as takeL}
 use Rattle.limits.specs.Limits.{nodeCount, naturalLength, wordMost, hashBytes, failBytes}
-use Rattle.refusal.specs.declared.Refusal.the-variants.{StreamEnded, Natural as BadNatural, Jet, StoreShort}
+use Rattle.refusal.specs.declared.Refusal.the-variants.{StreamEnded, Natural as BadNatural, Overlong, Jet, StoreShort}
 use Rattle.report.specs.Lines.{Line, _is_, Hold}
 use Rattle.report.specs.Bits.{Bit, bitsOf}
 use Rattle.report.specs.Naturals.{codeNatural, codeBy, log2By, lowBits}
@@ -156,11 +156,13 @@ programs-read : Hold (
     ∷ readNodes (codeNatural nodeCount) (nodeCount - 1) 9 is refused (StoreShort 3)
     ∷ readNodes (codeNatural nodeCount) nodeCount 9 is refused (StreamEnded 0)
     ∷ readNodes (codeNatural (nodeCount + 1)) 0 9 is refused (BadNatural 0)
-    ∷ readNodes (1 ∷ codeNatural 32) 9 9 is refused (BadNatural 0)
+    ∷ readNodes (1 ∷ codeNatural 32) 9 9 is refused (Overlong 0)
+    ∷ readNodes (1 ∷ codeNatural 32) 0 9 is refused (Overlong 0)
     -- node 1 after a unit: cut off, a distance too large, a length too long, a jet
     ∷ readNodes (codeNatural 2 ++ 0 ∷ 1 ∷ 0 ∷ 0 ∷ 1 ∷ 0 ∷ []) 9 9 is refused (StreamEnded 1)
     ∷ readNodes (codeNatural 2 ++ 0 ∷ 1 ∷ 0 ∷ 0 ∷ 1 ∷ 0 ∷ 0 ∷ 1 ∷ 0 ∷ 0 ∷ 1 ∷ 0 ∷ 0 ∷ []) 9 9 is refused (BadNatural 1)
-    ∷ readNodes (codeNatural 2 ++ 0 ∷ 1 ∷ 0 ∷ 0 ∷ 1 ∷ 0 ∷ 0 ∷ 1 ∷ 0 ∷ 0 ∷ 1 ∷ codeNatural 32) 9 9 is refused (BadNatural 1)
+    ∷ readNodes (codeNatural 2 ++ 0 ∷ 1 ∷ 0 ∷ 0 ∷ 1 ∷ 0 ∷ 0 ∷ 1 ∷ 0 ∷ 0 ∷ 1 ∷ codeNatural 32) 9 9 is refused (Overlong 1)
+    ∷ readNodes (codeNatural 2 ++ 0 ∷ 1 ∷ 0 ∷ 0 ∷ 1 ∷ 1 ∷ 0 ∷ 1 ∷ codeNatural 32) 9 9 is refused (Overlong 1)
     ∷ readNodes (codeNatural 2 ++ 0 ∷ 1 ∷ 0 ∷ 0 ∷ 1 ∷ 1 ∷ 1 ∷ []) 9 9 is refused (Jet 1)
     -- the node store is judged before a node is read
     ∷ readNodes (codeNatural 2 ++ 1 ∷ 1 ∷ []) 1 9 is refused (StoreShort 3)

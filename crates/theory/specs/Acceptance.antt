@@ -264,6 +264,7 @@ decoding-checks = record {
   header = λ at h. omega arith;
   ended = λ at h. omega arith;
   natural = λ at h. omega arith;
+  overlong = λ at h. omega arith;
   jet = λ at h. omega arith;
   order = λ at h. omega arith;
   elsewhere = λ at h. omega arith;

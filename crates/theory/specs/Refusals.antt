@@ -12,7 +12,7 @@ use lib.ListN.{length, getD, take as takeL, List·getD-eq-default}
 use lib.Seq.{getD-take, length-take-le}
 use Rattle.limits.specs.Limits.{dossierBytes, headerBytes, nodeNumbers, nodeCount, cellCount, frameCount, costLimit, frameNumbers, hashBytes}
 use Rattle.refusal.specs.declared.Refusal.{Refusal}
-use Rattle.refusal.specs.declared.Refusal.the-variants.{Header, TypeRecord as BadTypeRecord, StreamEnded, Natural, Jet, CanonicalOrder, HiddenElsewhere, BothHidden, HiddenRepeated, Closing, OneChildDisconnect, Arrow as BadArrow, Hash, OverLimit, Witness, Input, StoreShort}
+use Rattle.refusal.specs.declared.Refusal.the-variants.{Header, TypeRecord as BadTypeRecord, StreamEnded, Natural, Overlong, Jet, CanonicalOrder, HiddenElsewhere, BothHidden, HiddenRepeated, Closing, OneChildDisconnect, Arrow as BadArrow, Hash, OverLimit, Witness, Input, StoreShort}
 use Rattle.report.specs.Bits.{Bit}
 use Rattle.report.specs.Types.{Ty, width}
 use Rattle.report.specs.Table.{entries}
@@ -42,11 +42,12 @@ use Rattle.common.specs.Tables.{entries-at, entries-past, length-entries}
 abbrev pub Refuses : {X : Type 0} → (Refusal → Type 0) → Check X → Type 0
 Refuses Fine c = (r : Refusal) → c ≡ refused r → Fine r
 
--- it holds of all that decoding refuses with: 1, 3 to 10, and 17 at 3 and 4
+-- it holds of all that decoding refuses with: 1, 3 to 10, 17 at 3 and 4, and 21
 pub record OfDecoding (Fine : Refusal → Type 0) : Type 0 where
   pub header : (at : ℕ) → Fine (Header at)
   pub ended : (at : ℕ) → Fine (StreamEnded at)
   pub natural : (at : ℕ) → Fine (Natural at)
+  pub overlong : (at : ℕ) → Fine (Overlong at)
   pub jet : (at : ℕ) → Fine (Jet at)
   pub order : (at : ℕ) → Fine (CanonicalOrder at)
   pub elsewhere : (at : ℕ) → Fine (HiddenElsewhere at)
@@ -116,7 +117,7 @@ module _ (Fine : Refusal → Type 0) (may : OfDecoding Fine) where
   fault-refuses : (i : ℕ) (e : Fault) → Fine (refusalAt i e)
   unfolding refusalAt
   fault-refuses i streamEnded = may .ended i
-  fault-refuses i lengthTooLong = may .natural i
+  fault-refuses i lengthTooLong = may .overlong i
   fault-refuses i overBound = may .natural i
   fault-refuses i aJet = may .jet i
   fault-refuses i hashesShort = may .hashes-short

@@ -75,6 +75,7 @@ fn natural(judge: &mut Judge, bytes: &[u8], at: usize, bound: u32) {
         Natural::Value { value, next } => Ok((value, next as usize)),
         Natural::Ended => Err(3),
         Natural::TooLarge => Err(4),
+        Natural::Overlong => Err(21),
     };
     let text = || format!("{bytes:02x?} at {at}, bound {bound}: expected {want:?}, the library says {got:?}");
     judge.tally.compared("natural: value and next bit, or number", Rests::Original, want == got, text);

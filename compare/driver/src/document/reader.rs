@@ -23,6 +23,7 @@ type Stream<'a> = BitIter<std::iter::Copied<std::slice::Iter<'a, u8>>>;
 fn natural(stream: &mut Stream, bound: usize) -> Result<usize, u32> {
     stream.read_natural::<usize>(Some(bound)).map_err(|e| match e {
         DecodeNaturalError::EndOfStream(_) => 3,
+        DecodeNaturalError::Overflow => 21,
         _ => 4,
     })
 }

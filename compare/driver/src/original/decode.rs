@@ -25,7 +25,7 @@ fn named(error: &decode::Error) -> (u32, &'static str) {
     match error {
         decode::Error::EndOfStream => (3, "EndOfStream"),
         decode::Error::Natural(N::EndOfStream(_)) => (3, "Natural.EndOfStream"),
-        decode::Error::Natural(N::Overflow) => (4, "Natural.Overflow"),
+        decode::Error::Natural(N::Overflow) => (21, "Natural.Overflow"),
         decode::Error::Natural(N::BadIndex { .. }) => (4, "Natural.BadIndex"),
         decode::Error::InvalidJet => (5, "InvalidJet"),
         decode::Error::NotInCanonicalOrder => (6, "NotInCanonicalOrder"),
@@ -113,6 +113,7 @@ pub fn natural(bytes: &[u8], at: usize, bound: u32) -> Result<(u32, usize), u32>
     match stream.read_natural::<u32>(Some(bound)) {
         Ok(value) => Ok((value, stream.n_total_read())),
         Err(DecodeNaturalError::EndOfStream(_)) => Err(3),
+        Err(DecodeNaturalError::Overflow) => Err(21),
         Err(_) => Err(4),
     }
 }

@@ -1,12 +1,13 @@
 -- A natural with its bound. The invariant: the natural from p on is what the lengths that are left lead to from n.
 -- Those lengths are the measure.
-use mathlib.Core.Path.{_≡_, sym, subst, _∙_}
-use Prim.Native.Nat.{_≤_}
+use mathlib.Core.Path.{_≡_, sym, ap, subst, _∙_}
+use Prim.Native.Nat.{_+_, _-_, _≤_}
 use native.Mathlib.Omega.{arith}
 use borrow.Author.Needs.{needs}
 use lib.ListN.{length, drop, length-drop}
 use Rattle.scope.specs.Numbers.{streamOf}
 use Rattle.scope.specs.Naturals.{natural, readNatural}
+use Rattle.scope.specs.Reading.{got}
 use Rattle.bititer.specs.Parts.{ofLengths, OnesMean, BitsMean}
 use Rattle.bititer.proofs.Naturals.{lengths-turn, lengths-cut, lengths-stop, lengths-done, bits-got, up-to-ended, up-to-long, up-to-over, up-to-read}
 use Rattle.bititer.proofs.natural.Statement.{statement}
@@ -84,13 +85,17 @@ loop-again c =
       omega (arith, length-drop (l .at) s),
     )
 
+sub-bits : tie.Need-sub-bits Inv-loop μ-loop
+sub-bits c = search needs
+
 returns-4 : tie.Need-returns-4 Inv-loop μ-loop
 returns-4 c =
     let a = c .before .before .before .before .before .before .before .before .args in
     let s = streamOf (a .s .now) in
     let l = c .before .before .loop in
     let e = l .inv .0 ∙ lengths-done (l .lengths) _ (let z : l .lengths ≡ 0 = omega arith in z) in
-    sym (up-to-read s (a .bound) (a .p) (l .n) (l .at) e (l .inv .1) (l .inv .2) (c .if2 .taken))
+    ap (got (l .n)) (let q : a .p + (l .at - a .p) ≡ l .at = omega arith in q)
+    ∙ sym (up-to-read s (a .bound) (a .p) (l .n) (l .at) e (l .inv .1) (l .inv .2) (c .if2 .taken))
 
 returns-5 : tie.Need-returns-5 Inv-loop μ-loop
 returns-5 c =
@@ -119,5 +124,6 @@ natural-spec =
     sub-lengths
     loop-less
     loop-again
+    sub-bits
     returns-4
     returns-5)

@@ -2,11 +2,8 @@
 use mathlib.Core.Path.{sym, ap}
 use Rattle.refusal.specs.Numbers.{keepsTable}
 use borrow.Author.Needs.{needs}
-use borrow.Author.Needs.{needs}
 use Rattle.refusal.proofs.keeps_table.Statement.{statement}
 use Rattle.refusal.proofs.keeps_table.Tie as tie
-use Rattle.refusal.proofs.keeps_table.Reads as reads
-use Rattle.refusal.proofs.keeps_table.Lts as lts
 
 enum-told : tie.Need-enum-told
 enum-told c = search needs
@@ -68,6 +65,9 @@ enum-told-18 c = search needs
 enum-told-19 : tie.Need-enum-told-19
 enum-told-19 c = search needs
 
+enum-told-20 : tie.Need-enum-told-20
+enum-told-20 c = search needs
+
 returns : tie.Need-returns
 returns c = search needs
 
@@ -128,6 +128,9 @@ returns-19 c = search needs
 returns-20 : tie.Need-returns-20
 returns-20 c = search needs
 
+returns-21 : tie.Need-returns-21
+returns-21 c = search needs
+
 pub keeps-table-spec : {M : Type 1} → statement M
 keeps-table-spec =
     tie.close
@@ -152,6 +155,7 @@ keeps-table-spec =
     enum-told-17
     enum-told-18
     enum-told-19
+    enum-told-20
     returns
     returns-2
     returns-3
@@ -171,4 +175,5 @@ keeps-table-spec =
     returns-17
     returns-18
     returns-19
-    returns-20)
+    returns-20
+    returns-21)

@@ -1,11 +1,11 @@
--- `decode::natural_refusal` meets its contract, case by case.
+-- `bititer::natural_refusal` meets its contract, case by case.
 use mathlib.Core.Path.{sym, ap}
 use borrow.Author.Needs.{needs}
 use Rattle.scope.specs.Reading.{refusalAt}
 use Rattle.bititer.specs.declared.NaturalFault.{NaturalFault}
 use Rattle.bititer.specs.Answers.{naturalFault}
-use Rattle.decode.proofs.natural_refusal.Statement.{statement}
-use Rattle.decode.proofs.natural_refusal.Tie as tie
+use Rattle.bititer.proofs.natural_refusal.Statement.{statement}
+use Rattle.bititer.proofs.natural_refusal.Tie as tie
 
 enum-told : tie.Need-enum-told
 enum-told c = search needs
