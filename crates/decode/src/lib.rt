@@ -92,7 +92,10 @@ fn number(program: &[u8], at: usize, most: u32, i: u32) -> NumberRead
 {
     let read = bititer::natural(program, at, most);
     match read {
-        NaturalRead::Read(n, bits) => NumberRead::Number(n, at + bits),
+        NaturalRead::Read(n, bits) => {
+            let next = at + bits;
+            NumberRead::Number(n, next)
+        }
         NaturalRead::Fault(why) => NumberRead::Refused(bititer::natural_refusal(why, i)),
     }
 }

@@ -234,7 +234,8 @@ pub extern "C" fn drevaloci_natural(
     match said {
         NaturalRead::Read(n, bits) => {
             *value = n;
-            *next = at + bits;
+            let end = at + bits;
+            *next = end;
             0
         }
         NaturalRead::Fault(why) => {

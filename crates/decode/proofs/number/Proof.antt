@@ -1,9 +1,11 @@
 -- `decode::number` meets its contract, case by case.
+use native.Mathlib.Omega.{arith}
 use mathlib.Core.Path.{sym, ap, _∙_}
 use borrow.Author.Needs.{needs}
 use Rattle.refusal.specs.declared.Refusal.{Refusal}
 use Rattle.scope.specs.Check.{refused}
 use Rattle.bititer.specs.Answers.{gotNatural}
+use Rattle.bititer.proofs.Naturals.{natural-inside}
 use Rattle.decode.specs.Heads.{atNode}
 use Rattle.decode.proofs.number.Statement.{statement}
 use Rattle.decode.proofs.number.Tie as tie
@@ -13,6 +15,12 @@ natural-requires c κs = search needs
 
 enum-known-read : tie.Need-enum-known-read
 enum-known-read c = search needs
+
+add-next : tie.Need-add-next
+add-next c =
+    let a = c .before .before .before .before .before .args in
+    let read = sym (ap (gotNatural (a .at)) (c .before .read .given .1)) ∙ c .before .before .before .natural .ensures in
+    omega (arith, natural-inside (a .program .now) (a .most) (a .at) _ _ (sym read))
 
 enum-known-read-2 : tie.Need-enum-known-read-2
 enum-known-read-2 c = search needs
@@ -34,6 +42,7 @@ number-spec =
     (tie.spec
     natural-requires
     enum-known-read
+    add-next
     enum-known-read-2
     natural-refusal-requires
     returns
