@@ -25,8 +25,8 @@ def read_record(kind, stream, at, answer=0, bound=0, value=0, following=0, read=
 
 def naturals(folder):
     for _, answer, value, following, bound, start, stream in rows(folder + "/naturals.tsv"):
-        number = int(value) if answer == "value" else 0
-        yield read_record(0, data(stream), int(start), ANSWERS[answer], int(bound), number, int(following))
+        number, bits = (int(value), int(following) - int(start)) if answer == "value" else (0, 0)
+        yield read_record(0, data(stream), int(start), ANSWERS[answer], int(bound), number, bits)
 
 
 def whole_bytes(folder):

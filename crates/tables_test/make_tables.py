@@ -262,7 +262,7 @@ class Reader:
             ones += 1
         for _ in range(ones):
             if value > NATURAL_LENGTH:
-                raise Refused(4, self.node)
+                raise Refused(21, self.node)
             value = int("1" + self.take(value), 2)
         if value > bound:
             raise Refused(4, self.node)
@@ -349,7 +349,7 @@ def originals(folder):
         if mark == "count":
             same((4, 0), answer, what)
         elif mark == "type":
-            same(False, answer[0] in (3, 4, 5), what)
+            same(False, answer[0] in (3, 4, 5, 21), what)
         else:
             same(int(number), answer[0], what)
             same(place, str(answer[1]) if place != "-" else "-", what)
@@ -389,7 +389,7 @@ def cases(folder):
             continue
         size, start = (int.from_bytes(dossier[k:k + 4], "big") for k in (12, 16))
         made, found, table, data = program_record(dossier[start:start + size], node_numbers, hash_bytes)
-        if answer[0] <= 10 and answer[0] or answer in ((17, 3), (17, 4)):
+        if answer[0] <= 10 and answer[0] or answer[0] == 21 or answer in ((17, 3), (17, 4)):
             same(answer, found, name)
         if answer[0] not in (11, 12, 13):
             same(number_list(nodes), sum(table, []) + [0] * (node_numbers - 4 * len(table)), name)

@@ -97,10 +97,10 @@ fn natural_right(record: &[u8], stream: &[u8], offset: u32) -> bool
 {
     let p = moved_number(record, POSITION, offset);
     match bititer::natural(stream, p, packed::number(record, BOUND)) {
-        NaturalRead::Read(n, next) => {
+        NaturalRead::Read(n, bits) => {
             packed::number(record, SAID) == 0
                 && n == packed::number(record, NATURAL)
-                && next == moved_number(record, NEXT, offset)
+                && bits == packed::number(record, NEXT) as usize
         }
         NaturalRead::Fault(fault) => packed::number(record, SAID) == fault_number(fault),
     }

@@ -1,5 +1,8 @@
 -- `exports::drevaloci_natural` meets its contract, by what the call that it wraps promises.
 use Rattle.exports.proofs.Told.{natural-told, fault-told}
+use native.Mathlib.Omega.{arith}
+use Rattle.bititer.specs.Answers.{gotNatural}
+use Rattle.bititer.proofs.Naturals.{natural-inside}
 use mathlib.Core.Path.{_≡_, refl, sym, ap, _∙_}
 use borrow.Author.Needs.{needs}
 use Rattle.exports.proofs.drevaloci_natural.Statement.{statement}
@@ -14,6 +17,12 @@ natural-requires c κs = search needs
 
 enum-known-said : tie.Need-enum-known-said
 enum-known-said c = search needs
+
+add-end : tie.Need-add-end
+add-end c =
+    let a = c .before .before .before .before .before .args in
+    let read = sym (ap (gotNatural (a .at)) (c .before .said .given .1)) ∙ c .before .before .before .natural .ensures in
+    omega (arith, natural-inside (a .bytes .now) (a .bound) (a .at) _ _ (sym read))
 
 enum-known-said-2 : tie.Need-enum-known-said-2
 enum-known-said-2 c = search needs
@@ -33,6 +42,7 @@ drevaloci-natural-spec =
     (tie.spec
     natural-requires
     enum-known-said
+    add-end
     enum-known-said-2
     fault-code-requires
     returns
