@@ -183,4 +183,6 @@ module _ (bits : List Bit) (most p : ℕ) where
       go tooLong x e = let z : _≡_ {A = ℕ} 0 1 = cc in absurd (omega arith)
 
 pub natural-inside : (s : List ℕ) (most p n next : ℕ) → naturalUpTo (streamOf s) most p ≡ got n next → (next ≤ 8 * length s) × (next ≤ 8 * dossierBytes)
-natural-inside s most p n next e = let g = up-to-got (streamOf s) most p n next e in (omega (arith, g .3, length-stream s), omega (arith, g .3, length-stream s))
+natural-inside s most p n next e =
+    let g =
+    up-to-got (streamOf s) most p n next e in (omega (arith, g .3, length-stream s), omega (arith, g .3, length-stream s))

@@ -30,11 +30,16 @@ natural-refusal-requires c κs = search needs
 
 returns : tie.Need-returns
 unfolding atNode
-returns c = ap (atNode (c .before .before .before .before .before .args .i)) (sym (ap (gotNatural _) (c .before .read .given .1)) ∙ c .before .before .before .natural .ensures)
+returns c =
+    ap (atNode (c .before .before .before .before .before .args .i))
+    (sym (ap (gotNatural _) (c .before .read .given .1)) ∙ c .before .before .before .natural .ensures)
 
 returns-2 : tie.Need-returns-2
 unfolding atNode
-returns-2 c = ap (λ (r : Refusal). refused r) (c .natural-refusal .ensures) ∙ ap (atNode (c .before .before .before .before .before .before .args .i)) (sym (ap (gotNatural _) (c .before .before .read2 .given .1)) ∙ c .before .before .before .before .natural .ensures)
+returns-2 c =
+    ap (λ (r : Refusal). refused r) (c .natural-refusal .ensures)
+    ∙ ap (atNode (c .before .before .before .before .before .before .args .i))
+    (sym (ap (gotNatural _) (c .before .before .read2 .given .1)) ∙ c .before .before .before .before .natural .ensures)
 
 pub number-spec : {M : Type 1} → statement M
 number-spec =

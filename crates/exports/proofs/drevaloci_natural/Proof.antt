@@ -34,7 +34,9 @@ returns : tie.Need-returns
 returns c = natural-told (c .before .before .before .natural .result) _ _ (c .before .before .before .natural .ensures) _ _ (c .before .said .given .1)
 
 returns-2 : tie.Need-returns-2
-returns-2 c = fault-told (c .before .before .before .before .natural .result) _ _ (c .before .before .before .before .natural .ensures) _ (c .before .before .said2 .given .1) _ (c .fault-code .ensures)
+returns-2 c =
+    fault-told (c .before .before .before .before .natural .result) _ _ (c .before .before .before .before .natural .ensures) _
+    (c .before .before .said2 .given .1) _ (c .fault-code .ensures)
 
 pub drevaloci-natural-spec : {M : Type 1} → statement M
 drevaloci-natural-spec =
