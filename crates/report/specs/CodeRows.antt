@@ -1,14 +1,14 @@
 -- The report's code, computed: bits and bytes, naturals, each kind of node, programs; and the order in which a walk does the nodes.
-use mathlib.Core.Path.{_≡_, refl}
-use mathlib.Core.List.{List, [], _∷_, _++_}
+use mathlib.Core.Path.{refl}
+use mathlib.Core.List.{[], _∷_, _++_}
 use mathlib.Core.Bool.{true, false}
-use Prim.Native.Nat.{ℕ, _+_, _*_}
+use Prim.Native.Nat.{_+_, _*_}
 use lib.ListN.{length, replicate}
-use Rattle.report.specs.Lines.{Line, _is_, Hold}
-use Rattle.report.specs.Bits.{Bit, byteBits, bitsOf, numberFrom, bytesOf}
+use Rattle.report.specs.Lines.{_is_, Hold}
+use Rattle.report.specs.Bits.{byteBits, bitsOf, numberFrom, bytesOf}
 use Rattle.report.specs.Table.{entriesFrom, entries}
 use Rattle.report.specs.Naturals.{lowBits, log2By, log2, codeBy, codeNatural}
-use Rattle.report.specs.Nodes.{Node, comp, case, pair, disconnect, injl, injr, take, drop, disconnect1, iden, unit, witness, fail, hidden, word, codeNode, codeNodes, codeProgram}
+use Rattle.report.specs.Nodes.{comp, case, pair, disconnect, injl, injr, take, drop, disconnect1, iden, unit, witness, fail, hidden, word, codeNode, codeNodes, codeProgram}
 use Rattle.report.specs.Canonical.{children, isDone, order, upFrom, Canonical}
 
 -- each bit of a byte alone, and all bits below it; of a larger number the last byte

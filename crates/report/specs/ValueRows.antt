@@ -1,13 +1,12 @@
 -- Types and values, computed: widths, paddings, parts, compact bits, padded cells, and both read back.
 -- The two sides of a sum or a product are unlike, each wider than the other in turn, so that one taken for the other shows.
-use mathlib.Core.Path.{_≡_, refl}
+use mathlib.Core.Path.{refl}
 use mathlib.Core.List.{List, [], _∷_}
-use Prim.Native.Nat.{ℕ}
 use lib.ListN.{getD}
-use Rattle.report.specs.Lines.{Line, _is_, Hold, b1, b2, b3, o, i}
+use Rattle.report.specs.Lines.{_is_, Hold, b1, b2, b3, o, i}
 use Rattle.report.specs.Bits.{Bit}
-use Rattle.report.specs.Types.{Ty, one, sum, prod, width, padL, padR, wordTy, leftOf, rightOf}
-use Rattle.report.specs.Values.{Val, ⟨⟩, inl, inr, _&_, HasTy, isUnit, isLeft, isRight, isPair, compact, padded, Read, value, short, readValue, Cells, valueAt}
+use Rattle.report.specs.Types.{one, sum, prod, width, padL, padR, wordTy, leftOf, rightOf}
+use Rattle.report.specs.Values.{⟨⟩, inl, inr, _&_, HasTy, isUnit, isLeft, isRight, isPair, compact, padded, value, short, readValue, Cells, valueAt}
 
 widths : Hold (
     width one is 0

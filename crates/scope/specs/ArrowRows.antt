@@ -1,13 +1,12 @@
 -- The arrow of each kind of node, computed: a row that fits, and a row for each comparison that fails by it alone. And refusals 11 and 12.
-use mathlib.Core.Path.{_≡_, refl}
+use mathlib.Core.Path.{refl}
 use mathlib.Core.Bool.{Bool, true, false}
 use mathlib.Core.List.{List, [], _∷_}
 use Prim.Native.Nat.{ℕ}
-use lib.ListN.{length}
 use Rattle.refusal.specs.declared.Refusal.the-variants.{OneChildDisconnect, Arrow as BadArrow}
-use Rattle.report.specs.Lines.{Line, _is_, Hold}
+use Rattle.report.specs.Lines.{_is_, Hold}
 use Rattle.report.specs.Nodes.{Node, comp, case, pair, disconnect, injl, injr, take, drop, disconnect1, iden, unit, witness, fail, hidden, word}
-use Rattle.scope.specs.Check.{Check, passed, refused}
+use Rattle.scope.specs.Check.{passed, refused}
 use Rattle.scope.specs.Types.{TypeRecord, isUnit, isSum, isProduct, leftAt, rightAt, isWord}
 use Rattle.scope.specs.Arrows.{Arrow, arrowRecords, noArrow, source, target, kindRule, arrowRule, checkArrows}
 use Rattle.scope.specs.Shorthand.{ty, to}

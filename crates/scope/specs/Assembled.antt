@@ -6,7 +6,7 @@ use lib.ListN.{length, replicate}
 use Rattle.limits.specs.Limits.{headerBytes, typeBytes, arrowBytes, hashBytes, nodeNumbers, frameNumbers}
 use Rattle.refusal.specs.declared.Refusal.{Refusal}
 use Rattle.refusal.specs.declared.Answer.{Answer}
-use Rattle.refusal.specs.declared.Answer.the-variants.{Value, Refused}
+use Rattle.refusal.specs.declared.Answer.the-variants.{Refused}
 use Rattle.report.specs.Bits.{Bit, bytesOf}
 use Rattle.report.specs.Nodes.{Node, codeProgram}
 use Rattle.report.specs.Naturals.{codeBy, log2By, lowBits}
@@ -87,3 +87,8 @@ nodesKept records = nodeNumbersOf records ++ zeros (36 - nodeNumbers * length re
 
 unfoldable pub hashesKept : List ℕ → List ℕ
 hashesKept hashes = hashes ++ zeros (97 - length hashes)
+
+-- a refusal that leaves the table, and all else as it was
+unfoldable pub kept : Refusal → List NodeRecord → (hashes : List ℕ) → Ended
+unfolding nodesKept hashesKept
+kept r records hashes = leaves (Refused r) (nodesKept records) (hashesKept hashes) (ones 4) (frameOnes 4) (ones 3)

@@ -1,16 +1,16 @@
 -- The header, computed: the rule of each number at its borders, the places of the sections, and a section opened.
 -- The dossier has all six sections: 2 types, 3 bytes of program, 1 arrow, 9 witness bits, 3 input bits, 1 hash; 108 bytes in all.
-use mathlib.Core.Path.{_≡_, refl}
-use mathlib.Core.Bool.{Bool, true, false}
+use mathlib.Core.Path.{refl}
+use mathlib.Core.Bool.{true, false}
 use mathlib.Core.List.{List, [], _∷_, _++_}
 use Prim.Native.Nat.{ℕ, suc, _+_, _*_, _-_, _/_, _%_}
 use lib.ListN.{take, drop}
 use Rattle.limits.specs.Limits.{dossierBytes, typeCount, headerBytes, typeBytes}
 use Rattle.refusal.specs.declared.Refusal.the-variants.{Header}
-use Rattle.report.specs.Lines.{Line, _is_, Hold}
-use Rattle.scope.specs.Check.{Check, passed, refused}
+use Rattle.report.specs.Lines.{_is_, Hold}
+use Rattle.scope.specs.Check.{passed, refused}
 use Rattle.scope.specs.Numbers.{zeros, tabulate}
-use Rattle.scope.specs.Header.{number, count, offset, size, start, countRule, typeCountRule, totalRule, headerRule, checkHeader, section, opened}
+use Rattle.scope.specs.Header.{number, count, offset, size, start, typeCountRule, totalRule, headerRule, checkHeader, section, opened}
 
 -- numbers of 32 bits as bytes
 unfoldable pub bytesOf32 : List ℕ → List ℕ

@@ -1,20 +1,17 @@
 -- The machine, computed: each rule with just enough room and with one cell or one frame less, and how each kind of term is run, on old ones and on old zeros.
 use mathlib.Core.Path.{_≡_, refl}
 use mathlib.Core.Bool.{Bool, true, false}
-use mathlib.Core.List.{List, [], _∷_, _++_}
+use mathlib.Core.List.{List, [], _∷_}
 use Prim.Native.Nat.{ℕ, zero, suc, _+_}
 use lib.ListN.{getD}
-use Rattle.report.specs.Lines.{Line, _is_, Hold, b1, b2, b3, o, i}
+use Rattle.report.specs.Lines.{_is_, Hold, b1, b2, b3, o, i}
 use Rattle.report.specs.Bits.{Bit}
-use Rattle.report.specs.Types.{Ty, one, sum, prod, wordTy}
-use Rattle.report.specs.Values.{Val, ⟨⟩, inl, inr, _&_, Cells}
+use Rattle.report.specs.Types.{one, sum, wordTy}
+use Rattle.report.specs.Values.{Val, ⟨⟩, inl, _&_, Cells}
 use Rattle.report.specs.Terms.{Term, iden, comp, unit, injl, injr, case, pair, take, drop, assertl, assertr, fail, witness, word, disconnect, bad}
-use Rattle.report.specs.Meaning.{Out, done, failed, pruned, stuck, Means}
+use Rattle.report.specs.Meaning.{Out, done, failed, pruned, stuck}
 use Rattle.scope.specs.Numbers.{tabulateFrom}
-use Rattle.scope.specs.Machine.{Frame, State, state, Step, putBits, copyCells, newFrame, moveFrame, dropFrame, writeBits, skip, copy, fwd, back, peek, input, output, exec, machine, answer}
-
-abbrev frame : (cursor start len : ℕ) → Frame
-frame c s l = record { cursor = c; start = s; len = l }
+use Rattle.scope.specs.Machine.{Frame, frame, frameNumbersOf, frameAt, State, state, Step, putBits, copyCells, newFrame, moveFrame, dropFrame, writeBits, skip, copy, fwd, back, peek, input, output, exec, machine, answer}
 
 -- cells that begin with these bits, and hold one and the same after them
 abbrev cells : List Bit → (rest : Bit) → Cells
@@ -39,6 +36,17 @@ shown from n (done s) = done (seen from n s)
 shown from n (failed p s) = failed p (seen from n s)
 shown from n (pruned p s) = pruned p (seen from n s)
 shown from n stuck = stuck
+
+-- three numbers a record; a number past the end is 0
+frame-records : Hold (
+    frameAt (9 ∷ 1 ∷ 2 ∷ 3 ∷ []) 1 is frame 1 2 3
+    ∷ frameAt [] 0 is frame 0 0 0
+    ∷ [])
+unfolding Hold
+frame-records = refl
+
+frame-numbers : frameNumbersOf (frame 1 2 3) ≡ 1 ∷ 2 ∷ 3 ∷ []
+frame-numbers = refl
 
 bits-put : Hold (
     tabulateFrom 0 5 (putBits (cells [] 1) 1 (0 ∷ 1 ∷ 0 ∷ [])) is (1 ∷ 0 ∷ 1 ∷ 0 ∷ 1 ∷ [])

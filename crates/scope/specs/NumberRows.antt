@@ -1,14 +1,14 @@
 -- Checks in a row, numbers in bytes, lists and tests, computed.
-use mathlib.Core.Path.{_≡_, refl}
-use mathlib.Core.Bool.{Bool, true, false}
-use mathlib.Core.List.{List, [], _∷_}
-use Prim.Native.Nat.{ℕ, _+_, _*_}
+use mathlib.Core.Path.{refl}
+use mathlib.Core.Bool.{true, false}
+use mathlib.Core.List.{[], _∷_}
+use Prim.Native.Nat.{_+_, _*_}
 use lib.Dec.{ltb, eqb}
 use Rattle.limits.specs.Limits.{dossierBytes}
 use Rattle.refusal.specs.declared.Refusal.the-variants.{Header, TypeRecord, Jet}
-use Rattle.report.specs.Lines.{Line, _is_, Hold}
+use Rattle.report.specs.Lines.{_is_, Hold}
 use Rattle.report.specs.Bits.{bitsOf}
-use Rattle.scope.specs.Check.{Check, passed, refused, _>>=_, require, firstFailing, each}
+use Rattle.scope.specs.Check.{passed, refused, _>>=_, require, each}
 use Rattle.scope.specs.Numbers.{be16, be32, bytesFor, zeros, filled, streamOf, tabulateFrom, tabulate, every, anyBelow, same, allZero}
 
 -- the first refusal is the answer

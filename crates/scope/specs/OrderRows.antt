@@ -1,19 +1,17 @@
 -- The order of the checks, computed on whole dossiers: each has two faults of neighbouring numbers, and the first one is told.
 -- 6 to 9 within one step of the walk stand in WalkRows, 4, 26, 1 and 2 of the stages in StageRows.
-use mathlib.Core.Path.{_≡_, refl}
+use mathlib.Core.Path.{refl}
 use mathlib.Core.List.{List, [], _∷_, _++_}
 use Prim.Native.Nat.{ℕ}
 use lib.ListN.{replicate}
 use Rattle.refusal.specs.declared.Answer.{Answer}
 use Rattle.refusal.specs.declared.Answer.the-variants.{Refused}
 use Rattle.refusal.specs.declared.Refusal.the-variants.{Header, TypeRecord as BadTypeRecord, Jet, HiddenRepeated, BothHidden, CanonicalOrder, Closing, OneChildDisconnect, Arrow as BadArrow, Hash, OverLimit, Witness, Input, StoreShort, FailReached, PrunedReached}
-use Rattle.report.specs.Lines.{Line, _is_, Hold}
+use Rattle.report.specs.Lines.{_is_, Hold}
 use Rattle.report.specs.Naturals.{codeNatural, codeBy, log2By, lowBits}
 use Rattle.report.specs.Nodes.{Node, comp, case, pair, disconnect1, injl, iden, unit, fail, hidden, codeNodes}
 use Rattle.scope.specs.Numbers.{zeros, tabulate}
 use Rattle.scope.specs.Types.{TypeRecord}
-use Rattle.scope.specs.Arrows.{Arrow}
-use Rattle.scope.specs.Run.{Ended}
 use Rattle.scope.specs.Rows.{lent}
 use Rattle.scope.specs.Shorthand.{ty, to}
 use Rattle.scope.specs.Assembled.{packedUp, code, dossier, job}
@@ -35,6 +33,7 @@ two = ty 0 0 0 ∷ ty 1 0 0 ∷ []
 abbrev four : List TypeRecord
 four = ty 0 0 0 ∷ ty 1 0 0 ∷ ty 2 1 0 ∷ ty 2 0 0 ∷ []
 
+-- a hidden node, of one byte again and again
 abbrev h : Node
 h = hidden (replicate 32 90)
 

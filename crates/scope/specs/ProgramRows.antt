@@ -1,16 +1,14 @@
 -- The term that each kind of node stands for, computed, and what is said of a whole program. The children's terms are `fail` with their own index.
-use mathlib.Core.Path.{_≡_, refl}
+use mathlib.Core.Path.{refl}
 use mathlib.Core.List.{List, [], _∷_}
-use Prim.Native.Nat.{ℕ}
 use lib.ListN.{getD}
-use Rattle.report.specs.Lines.{Line, _is_, Hold, b1, b2, o, i}
-use Rattle.report.specs.Types.{Ty, one, sum, prod}
-use Rattle.report.specs.Values.{Val, ⟨⟩, inl, inr, _&_}
+use Rattle.report.specs.Lines.{_is_, Hold, b1, b2, o, i}
+use Rattle.report.specs.Types.{one, sum, prod}
+use Rattle.report.specs.Values.{⟨⟩, inl, _&_}
 use Rattle.report.specs.Nodes.{Node}
 use Rattle.report.specs.Nodes as Node
-use Rattle.report.specs.Terms.{Term, iden, comp, unit, injl, injr, case, pair, take, drop, assertl, assertr, fail, witness, word, disconnect, bad}
+use Rattle.report.specs.Terms.{iden, comp, unit, injl, injr, case, pair, take, drop, assertl, assertr, fail, witness, word, disconnect, bad}
 use Rattle.scope.specs.Types.{TypeRecord}
-use Rattle.scope.specs.Arrows.{Arrow}
 use Rattle.scope.specs.Program.{Program, valueFrom, sourceTy, targetTy, termOf, termAt, last, whole, wholeSource, wholeTarget}
 use Rattle.scope.specs.Bounds.{wholeCells, wholeFrames, wholeCost}
 use Rattle.scope.specs.Shorthand.{ty, to}

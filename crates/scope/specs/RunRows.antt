@@ -6,19 +6,18 @@ use lib.ListN.{getD, replicate}
 use Rattle.limits.specs.Limits.{hashBytes}
 use Rattle.refusal.specs.declared.Answer.{Answer}
 use Rattle.refusal.specs.declared.Answer.the-variants.{Value, Refused}
-use Rattle.refusal.specs.declared.Refusal.the-variants.{OneChildDisconnect, Arrow as BadArrow, Hash, Witness, Input, StoreShort, FailReached, PrunedReached}
-use Rattle.report.specs.Lines.{Line, _is_, Hold, o, i}
-use Rattle.report.specs.Bits.{Bit}
-use Rattle.report.specs.Values.{Val, ⟨⟩, _&_, Cells}
+use Rattle.refusal.specs.declared.Refusal.the-variants.{Arrow as BadArrow, Hash, Witness, Input, StoreShort, FailReached, PrunedReached}
+use Rattle.report.specs.Lines.{_is_, Hold, o, i}
+use Rattle.report.specs.Values.{Val, ⟨⟩, _&_}
 use Rattle.report.specs.Nodes.{Node, comp, disconnect, injl, iden, unit, witness, hidden, word}
-use Rattle.report.specs.Meaning.{Out, done, failed, pruned, stuck}
-use Rattle.scope.specs.Check.{Check, passed, refused}
+use Rattle.report.specs.Meaning.{done, failed, pruned, stuck}
+use Rattle.scope.specs.Check.{passed, refused}
 use Rattle.scope.specs.Numbers.{zeros, tabulate}
 use Rattle.scope.specs.Types.{TypeRecord}
 use Rattle.scope.specs.Arrows.{Arrow}
 use Rattle.scope.specs.Program.{Program}
 use Rattle.scope.specs.Machine.{State, state}
-use Rattle.scope.specs.Run.{Tables, programOf, Ready, checkTables, checkReady, Left, leftWith, cellsOf, packed, cleared, written, ends, runTables, tablesOf}
+use Rattle.scope.specs.Run.{Tables, programOf, checkTables, Left, leftWith, cellsOf, packed, cleared, written, ends, runTables, tablesOf}
 use Rattle.scope.specs.Shorthand.{ty, to, row, table}
 use Rattle.scope.specs.HeaderRows.{with, bytesOf32}
 

@@ -4,13 +4,13 @@ use mathlib.Core.Bool.{Bool, true, false}
 use mathlib.Core.List.{List, [], _∷_, _++_}
 use Prim.Native.Nat.{ℕ, zero, suc, _+_, _*_, _-_, _^_}
 use lib.ListN.{replicate}
-use Rattle.limits.specs.Limits.{nodeCount, typeCount, dossierBytes, wordMost, hashBytes, failBytes, nodeNumbers, typeBytes}
+use Rattle.limits.specs.Limits.{nodeCount, typeCount, dossierBytes, wordMost, nodeNumbers, typeBytes}
 use Rattle.refusal.specs.declared.Answer.{Answer}
 use Rattle.refusal.specs.declared.Answer.the-variants.{Value, Refused}
 use Rattle.refusal.specs.declared.Refusal.the-variants.{Header, TypeRecord as BadTypeRecord, Natural as BadNatural, CanonicalOrder, HiddenElsewhere, OneChildDisconnect, Arrow as BadArrow, Hash, OverLimit, Witness, Input, StoreShort, NodeRecord as BadNodeRecord}
-use Rattle.report.specs.Lines.{Line, _is_, Hold}
-use Rattle.scope.specs.Check.{Check, passed, refused}
-use Rattle.scope.specs.Numbers.{zeros, tabulate}
+use Rattle.report.specs.Lines.{_is_, Hold}
+use Rattle.scope.specs.Check.{passed, refused}
+use Rattle.scope.specs.Numbers.{zeros}
 use Rattle.scope.specs.Nodes.{Kind, kComp, kCase, kPair, kDisconnect, kInjl, kInjr, kTake, kDrop, kIden, kUnit, kFail, kDisconnect1, kWitness, kHidden, kWord, kUnknown}
 use Rattle.scope.specs.Run.{Left}
 use Rattle.scope.specs.Stages.{counted, numbersRule, noRecord, recordRule, checkRecords, walkStage, arrowStage, hashStage, boundsStage, runStage}

@@ -1,14 +1,14 @@
 -- The type table, computed: its records, the type of each, and refusal 2 for every rule that a record can break.
-use mathlib.Core.Path.{_≡_, refl}
-use mathlib.Core.Bool.{Bool, true, false}
+use mathlib.Core.Path.{refl}
+use mathlib.Core.Bool.{true, false}
 use mathlib.Core.List.{List, [], _∷_, _++_}
-use Prim.Native.Nat.{ℕ, suc, _+_}
+use Prim.Native.Nat.{_+_}
 use Rattle.refusal.specs.declared.Refusal.the-variants.{TypeRecord as BadTypeRecord}
-use Rattle.report.specs.Lines.{Line, _is_, Hold, b1, b2}
-use Rattle.report.specs.Types.{Ty, one, sum, prod, width, wordTy}
-use Rattle.scope.specs.Check.{Check, passed, refused}
+use Rattle.report.specs.Lines.{_is_, Hold, b1, b2}
+use Rattle.report.specs.Types.{one, sum, prod}
+use Rattle.scope.specs.Check.{passed, refused}
 use Rattle.scope.specs.Numbers.{tabulate}
-use Rattle.scope.specs.Types.{TypeRecord, typeRecord, typeRecords, typeFrom, typeMake, tyAt, typeAt, sameType, typeRule, checkTypes}
+use Rattle.scope.specs.Types.{TypeRecord, typeRecord, typeRecords, typeFrom, tyAt, typeAt, sameType, typeRule, checkTypes}
 use Rattle.scope.specs.Shorthand.{ty}
 
 -- unit, a bit, two bits, and the sum and the product of the two
