@@ -5,8 +5,8 @@ use mathlib.Core.List.{List, [], _∷_}
 use lib.ListN.{getD}
 use Rattle.report.specs.Lines.{_is_, Hold, b1, b2, b3, o, i}
 use Rattle.report.specs.Bits.{Bit}
-use Rattle.report.specs.Types.{one, sum, prod, width, padL, padR, wordTy, leftOf, rightOf}
-use Rattle.report.specs.Values.{⟨⟩, inl, inr, _&_, HasTy, isUnit, isLeft, isRight, isPair, compact, padded, value, short, readValue, Cells, valueAt}
+use Rattle.report.specs.Types.{Ty, one, sum, prod, width, padL, padR, wordTy, leftOf, rightOf}
+use Rattle.report.specs.Values.{Val, ⟨⟩, inl, inr, _&_, HasTy, isUnit, isLeft, isRight, isPair, compact, padded, value, short, readValue, Cells, valueAt}
 
 widths : Hold (
     width one is 0
@@ -107,3 +107,13 @@ pair-typed = isPair (isRight isUnit) (isLeft isUnit)
 
 pairs-typed : HasTy (i & i & o) (prod b1 b2)
 pairs-typed = isPair (isRight isUnit) (isPair (isRight isUnit) (isLeft isUnit))
+
+-- and what each rule asks for: the parts of a value have the parts of its type
+left-part : {v : Val} {A B : Ty} → HasTy (inl v) (sum A B) → HasTy v A
+left-part (isLeft v) = v
+
+right-part : {v : Val} {A B : Ty} → HasTy (inr v) (sum A B) → HasTy v B
+right-part (isRight v) = v
+
+pair-parts : {v w : Val} {A B : Ty} → HasTy (v & w) (prod A B) → HasTy v A × HasTy w B
+pair-parts (isPair v w) = (v, w)

@@ -1,20 +1,17 @@
 -- Every end, computed on whole dossiers in stores with room to spare that held ones: what is said, and what is left in each of the five stores.
-use mathlib.Core.Path.{_≡_, refl}
+use mathlib.Core.Path.{refl}
 use mathlib.Core.List.{List, [], _∷_, _++_}
 use mathlib.Core.Bool.{true, false}
 use Prim.Native.Nat.{ℕ, _+_, _*_, _-_, _%_}
 use lib.Dec.{eqb}
 use lib.ListN.{replicate}
-use Rattle.refusal.specs.declared.Answer.{Answer}
 use Rattle.refusal.specs.declared.Answer.the-variants.{Value, Refused}
 use Rattle.refusal.specs.declared.Refusal.the-variants.{Header, StreamEnded, Natural as BadNatural, Overlong, CanonicalOrder, BothHidden, Arrow as BadArrow, Hash, OverLimit, Witness, Input, StoreShort, FailReached, PrunedReached}
-use Rattle.report.specs.Lines.{Line, _is_, Hold}
+use Rattle.report.specs.Lines.{_is_, Hold}
 use Rattle.report.specs.Nodes.{Node, comp, case, pair, disconnect, injl, injr, take, drop, iden, unit, witness, fail, hidden}
 use Rattle.scope.specs.Numbers.{zeros, tabulateFrom, tabulate}
 use Rattle.scope.specs.Types.{TypeRecord}
 use Rattle.scope.specs.Nodes.{nodeNumbersOf}
-use Rattle.scope.specs.Arrows.{Arrow}
-use Rattle.scope.specs.Run.{Ended}
 use Rattle.scope.specs.Rows.{lent, needed, programIn}
 use Rattle.scope.specs.Shorthand.{ty, to, row}
 use Rattle.scope.specs.Assembled.{code, dossier, job, leaves, spacious, ones, frameOnes, wiped, nodesKept, hashesKept}

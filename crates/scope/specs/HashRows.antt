@@ -1,17 +1,17 @@
 -- The supplied hashes, computed: which disconnect each belongs to, refusal 13, and the hash of a branch.
-use mathlib.Core.Path.{_≡_, refl}
-use mathlib.Core.Bool.{Bool, true, false}
+use mathlib.Core.Path.{refl}
+use mathlib.Core.Bool.{true, false}
 use mathlib.Core.List.{List, [], _∷_, _++_}
 use Prim.Native.Nat.{ℕ}
 use lib.ListN.{replicate}
 use Rattle.limits.specs.Limits.{hashBytes}
 use Rattle.refusal.specs.declared.Refusal.the-variants.{Hash}
-use Rattle.report.specs.Lines.{Line, _is_, Hold}
+use Rattle.report.specs.Lines.{_is_, Hold}
 use Rattle.report.specs.Nodes.{Node, comp, disconnect, disconnect1, iden, unit, fail, hidden}
-use Rattle.scope.specs.Check.{Check, passed, refused}
+use Rattle.scope.specs.Check.{passed, refused}
 use Rattle.scope.specs.Nodes.{nodesOf}
 use Rattle.scope.specs.Shorthand.{row}
-use Rattle.scope.specs.Hashes.{rights, wholeHash, entry, lastPlace, countPlace, checkHashes, branchHash}
+use Rattle.scope.specs.Hashes.{rights, wholeHash, entry, countPlace, clash, checkHashes, branchHash}
 
 -- a hash of one byte again and again
 abbrev hash : ℕ → List ℕ
@@ -63,6 +63,7 @@ refusals : Hold (
     ∷ checkHashes nodes (hash 7 ++ hash 7 ++ hash 7) is passed tt
     ∷ checkHashes nodes (hash 7 ++ hash 8) is refused (Hash 2)
     ∷ checkHashes nodes (hash 7 ++ hash 8 ++ hash 7 ++ hash 7) is refused (Hash 4)
+    ∷ checkHashes (unit ∷ unit ∷ disconnect 0 0 ∷ disconnect 0 1 ∷ []) (hash 7) is refused (Hash 1)
     ∷ checkHashes nodes (hash 7 ++ hash 8 ++ hash 9) is refused (Hash 2)
     -- odd bytes at the end are of no hash
     ∷ checkHashes nodes (hash 7 ++ hash 8 ++ hash 7 ++ 7 ∷ []) is passed tt
@@ -73,6 +74,15 @@ refusals : Hold (
     ∷ [])
 unfolding Hold checkHashes
 refusals = refl
+
+-- an entry unlike an earlier one of its child; past the disconnects an entry is of node 0
+clashes : Hold (
+    clash nodes (hash 7 ++ hash 8 ++ hash 9) 2 is true
+    ∷ clash nodes (hash 7 ++ hash 8 ++ hash 7) 2 is false
+    ∷ clash (unit ∷ []) (hash 7 ++ hash 8) 1 is true
+    ∷ [])
+unfolding Hold clash
+clashes = refl
 
 -- a count is its own place up to the last place there is, which stands for every larger one
 count-places : Hold (

@@ -1,14 +1,12 @@
 -- The node store, computed: the numbers of the kinds, the records of a store, the node that each stands for, and what tells the kinds apart.
-use mathlib.Core.Path.{_≡_, refl}
+use mathlib.Core.Path.{refl}
 use mathlib.Core.List.{List, [], _∷_}
 use Prim.Native.Nat.{ℕ, _+_, _*_}
-use lib.ListN.{replicate}
 use Rattle.limits.specs.Limits.{hashBytes, failBytes}
-use Rattle.report.specs.Lines.{Line, _is_, Hold}
-use Rattle.report.specs.Bits.{Bit}
+use Rattle.report.specs.Lines.{_is_, Hold}
 use Rattle.report.specs.Nodes.{Node, comp, case, pair, disconnect, injl, injr, take, drop, disconnect1, iden, unit, witness, fail, hidden, word}
 use Rattle.scope.specs.Numbers.{tabulate}
-use Rattle.scope.specs.Nodes.{Kind, kComp, kCase, kPair, kDisconnect, kInjl, kInjr, kTake, kDrop, kIden, kUnit, kFail, kDisconnect1, kWitness, kHidden, kWord, kUnknown, kindOf, NodeRecord, nodeRecord, nodeRecords, nodeNumbersOf, noNode, nodesOf, nodeAt, onHidden, onDisconnect, onOneChild, onWitness}
+use Rattle.scope.specs.Nodes.{kComp, kCase, kPair, kDisconnect, kInjl, kInjr, kTake, kDrop, kIden, kUnit, kFail, kDisconnect1, kWitness, kHidden, kWord, kUnknown, kindOf, NodeRecord, nodeRecord, nodeRecords, nodeNumbersOf, noNode, nodesOf, nodeAt, onHidden, onDisconnect, onOneChild, onWitness}
 
 kinds : Hold (
     tabulate 16 kindOf

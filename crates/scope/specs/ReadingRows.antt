@@ -1,19 +1,19 @@
 -- Reading, computed: naturals at their borders, each kind of node, every way in which a node's bits can be wrong, and the stores that are too short.
-use mathlib.Core.Path.{_≡_, refl}
+use mathlib.Core.Path.{refl}
 use mathlib.Core.List.{List, [], _∷_, _++_}
 use Prim.Native.Nat.{ℕ, _+_, _-_, _*_, _^_}
-use lib.ListN.{replicate, take as takeL}
+use lib.ListN.{replicate}
 use Rattle.limits.specs.Limits.{nodeCount, naturalLength, wordMost, hashBytes, failBytes}
 use Rattle.refusal.specs.declared.Refusal.the-variants.{StreamEnded, Natural as BadNatural, Overlong, Jet, StoreShort}
-use Rattle.report.specs.Lines.{Line, _is_, Hold}
+use Rattle.report.specs.Lines.{_is_, Hold}
 use Rattle.report.specs.Bits.{Bit, bitsOf}
 use Rattle.report.specs.Naturals.{codeNatural, codeBy, log2By, lowBits}
-use Rattle.report.specs.Nodes.{Node, comp, unit, injl, fail, hidden, word, codeProgram}
-use Rattle.scope.specs.Check.{Check, passed, refused}
+use Rattle.report.specs.Nodes.{comp, unit, injl, fail, hidden, codeProgram}
+use Rattle.scope.specs.Check.{passed, refused}
 use Rattle.scope.specs.Numbers.{tabulate}
-use Rattle.scope.specs.Naturals.{Natural, natural, ended, tooLong, readNatural}
-use Rattle.scope.specs.Nodes.{Kind, kUnknown, kindNumber, NodeRecord}
-use Rattle.scope.specs.Reading.{codes, Fault, streamEnded, lengthTooLong, overBound, aJet, hashesShort, Got, got, fault, Item, next, code, naturalUpTo, child, octets, node, nodeIn, NodeTable, nodesFrom, readNodes}
+use Rattle.scope.specs.Naturals.{natural, ended, tooLong, readNatural}
+use Rattle.scope.specs.Nodes.{Kind, kUnknown, kindNumber}
+use Rattle.scope.specs.Reading.{codes, streamEnded, lengthTooLong, overBound, aJet, hashesShort, Got, got, fault, Item, next, code, naturalUpTo, child, octets, node, nodeIn, readNodes}
 use Rattle.scope.specs.Shorthand.{row, table}
 
 naturals : Hold (

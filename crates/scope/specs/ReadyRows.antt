@@ -1,18 +1,17 @@
 -- What a run needs beyond its tables, computed: witness bits (15), input bits (16), and the stores of 17 at 0, 1 and 2 in their order.
-use mathlib.Core.Path.{_≡_, refl}
+use mathlib.Core.Path.{refl}
 use mathlib.Core.List.{List, [], _∷_}
 use Prim.Native.Nat.{ℕ, _+_}
 use lib.ListN.{replicate}
 use Rattle.limits.specs.Limits.{dossierBytes}
 use Rattle.refusal.specs.declared.Refusal.the-variants.{Witness, Input, StoreShort}
-use Rattle.report.specs.Lines.{Line, _is_, Hold, o, i}
-use Rattle.report.specs.Types.{Ty, one, sum, prod}
+use Rattle.report.specs.Lines.{_is_, Hold, o, i}
+use Rattle.report.specs.Types.{one, sum}
 use Rattle.report.specs.Values.{Val, ⟨⟩, inl, inr, _&_}
-use Rattle.report.specs.Nodes.{Node, iden, unit, witness}
+use Rattle.report.specs.Nodes.{iden, unit, witness}
 use Rattle.scope.specs.Check.{Check, passed, refused}
 use Rattle.scope.specs.Numbers.{zeros}
 use Rattle.scope.specs.Types.{TypeRecord, tyAt}
-use Rattle.scope.specs.Arrows.{Arrow}
 use Rattle.scope.specs.Program.{Program}
 use Rattle.scope.specs.Witness.{checkWitness}
 use Rattle.scope.specs.Input.{checkInput}

@@ -1,18 +1,16 @@
 -- The walk and the closing, computed: hidden nodes under each kind of parent, 6 to 9 at their places and within one step, 10 and the end of the bits,
 -- decoding as a whole, and what it leaves in the two stores.
-use mathlib.Core.Path.{_≡_, refl}
-use mathlib.Core.Bool.{Bool, true, false}
-use mathlib.Core.List.{List, [], _∷_, _++_}
-use Prim.Native.Nat.{ℕ, _+_}
-use lib.ListN.{replicate}
+use mathlib.Core.Path.{refl}
+use mathlib.Core.Bool.{true, false}
+use mathlib.Core.List.{[], _∷_}
+use Prim.Native.Nat.{_+_, _-_}
 use Rattle.limits.specs.Limits.{dossierBytes}
-use Rattle.refusal.specs.declared.Refusal.the-variants.{Header, StreamEnded, Natural as BadNatural, Jet, CanonicalOrder, HiddenElsewhere, BothHidden, HiddenRepeated, Closing, StoreShort}
-use Rattle.report.specs.Lines.{Line, _is_, Hold}
+use Rattle.refusal.specs.declared.Refusal.the-variants.{Header, StreamEnded, Natural as BadNatural, Overlong, Jet, CanonicalOrder, HiddenElsewhere, BothHidden, HiddenRepeated, Closing, StoreShort}
+use Rattle.report.specs.Lines.{_is_, Hold}
 use Rattle.report.specs.Nodes.{Node, comp, case, pair, disconnect, injl, injr, take, drop, disconnect1, iden, unit, witness, fail, hidden, word}
 use Rattle.scope.specs.Check.{Check, passed, refused}
 use Rattle.scope.specs.Numbers.{zeros}
-use Rattle.scope.specs.Nodes.{NodeRecord, nodesOf}
-use Rattle.scope.specs.Reading.{NodeTable}
+use Rattle.scope.specs.Nodes.{nodesOf}
 use Rattle.scope.specs.Walk.{hiddenAt, allowed, walkFrom, checkWalk}
 use Rattle.scope.specs.Closing.{closes, decode, nodesLeft, hashesLeft}
 use Rattle.scope.specs.Shorthand.{row, table}
@@ -116,6 +114,9 @@ walks-from : Hold (
     ∷ walkFrom (unit ∷ injl 0 ∷ iden ∷ []) 1 (0 ∷ 1 ∷ []) is passed (0 ∷ 1 ∷ [])
     ∷ walkFrom (unit ∷ injl 0 ∷ iden ∷ []) 3 (0 ∷ []) is passed (0 ∷ [])
     ∷ walkFrom (unit ∷ case 0 7 ∷ []) 1 [] is passed (0 ∷ 1 ∷ [])
+    -- a node comes when as many are done as stand before it, no fewer and no more
+    ∷ walkFrom (unit ∷ iden ∷ []) 1 [] is refused (CanonicalOrder 0)
+    ∷ walkFrom (unit ∷ iden ∷ []) 0 (5 ∷ 6 ∷ []) is refused (CanonicalOrder 2)
     ∷ [])
 unfolding Hold walkFrom
 walks-from = refl
@@ -152,6 +153,8 @@ decoded : Hold (
     ∷ decode (0xEC ∷ 0 ∷ 0x10 ∷ []) 0 0 is refused (BadNatural 0)
     -- above the dossier's limit before all else
     ∷ decode (zeros (dossierBytes + 1)) 0 0 is refused (Header 0)
+    -- at the limit it is read: its count has a length that is too long
+    ∷ decode (0xF1 ∷ zeros (dossierBytes - 1)) 0 0 is refused (Overlong 0)
     ∷ [])
 unfolding Hold decode
 decoded = refl
