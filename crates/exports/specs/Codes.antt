@@ -104,8 +104,7 @@ pub record Read : Type 0 where
 abbrev pub read : (code value next : ℕ) → Read
 read code value next = record { code = code; value = value; next = next }
 
-unfoldable pub faultCode : Fault → ℕ
-unfolding refusalAt
+abbrev pub faultCode : Fault → ℕ
 faultCode e = numberOf (refusalAt 0 e)
 
 unfoldable pub readBy : Got ℕ → Read
