@@ -56,7 +56,8 @@ fn decoding() {
     let refused = |program: &[u8]| decode(program, &mut [7; 12], &mut []);
     assert_eq!(refused(&[0xa9, 0x40, 0x10]), Decoded::Refused(Refusal::CanonicalOrder(0)));
     assert_eq!(refused(&[]), Decoded::Refused(Refusal::StreamEnded(0)));
-    assert_eq!(refused(&[0xeb, 0x00, 0x20]), Decoded::Refused(Refusal::Natural(0)));
+    assert_eq!(refused(&[0xec, 0x00, 0x10]), Decoded::Refused(Refusal::Natural(0)));
+    assert_eq!(refused(&[0xf1, 0x00]), Decoded::Refused(Refusal::Overlong(0)));
     assert_eq!(refused(&[0x60]), Decoded::Refused(Refusal::Jet(0)));
     assert_eq!(refused(&[0x24, 0x00]), Decoded::Refused(Refusal::Closing(1)));
     assert_eq!(decode(&[0x80], &mut [7; 7], &mut []), Decoded::Refused(Refusal::StoreShort(3)));
