@@ -153,7 +153,7 @@ fn sizes(rng: &mut Rng) -> Vec<Dossier> {
     let have = with(rng, start).to_bytes().len();
     let mut of_size = |size: usize| {
         let near = start + 8 * (size - have);
-        let tried = (near - 480..near + 480).step_by(8).map(|width| with(rng, width));
+        let tried = (near - 480..near + 480).map(|width| with(rng, width));
         tried.into_iter().find(|dossier| dossier.to_bytes().len() == size).expect("a width that fits")
     };
     around(DOSSIER_BYTES).map(&mut of_size).into()
