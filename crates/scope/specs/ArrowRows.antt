@@ -80,6 +80,8 @@ type-tests : Hold (
     ∷ isWord types 1 24 is false
     ∷ isWord types 8 13 is true
     ∷ isWord types 8 12 is false
+    -- a bit is a sum of units, whichever records they are
+    ∷ isWord (ty 0 0 0 ∷ ty 0 0 0 ∷ ty 1 0 1 ∷ []) 0 2 is true
     ∷ [])
 unfolding Hold isUnit isSum isProduct isWord
 type-tests = refl

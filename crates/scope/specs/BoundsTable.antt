@@ -5,14 +5,19 @@ use mathlib.Core.Bool.{Bool, true, false}
 use mathlib.Core.List.{List, [], _∷_}
 use Prim.Native.Nat.{ℕ, zero, suc, _+_}
 use lib.Dec.{eqb}
+use lib.ListN.{replicate}
 use Rattle.limits.specs.Limits.{cellCount, frameCount, costLimit}
 use Rattle.refusal.specs.declared.Refusal.the-variants.{OverLimit}
 use Rattle.report.specs.Lines.{_is_, Hold}
 use Rattle.report.specs.Types.{Ty, one, sum, prod, width, wordTy}
 use Rattle.report.specs.Values.{Val, ⟨⟩}
+use Rattle.report.specs.Nodes as Node
 use Rattle.report.specs.Terms.{Term, iden, comp, unit, injl, injr, case, pair, take, drop, assertl, assertr, fail, witness, word, disconnect, bad}
 use Rattle.scope.specs.Check.{Check, passed, refused}
-use Rattle.scope.specs.Bounds.{Bound, bounds, checkLimits}
+use Rattle.scope.specs.Numbers.{tabulate}
+use Rattle.scope.specs.Program.{Program}
+use Rattle.scope.specs.Bounds.{Bound, bounds, checkLimits, checkBounds}
+use Rattle.scope.specs.Shorthand.{ty, to}
 
 -- a cell of the table, at a term
 pub data Line : Type 0 where
@@ -85,6 +90,25 @@ limits-kept : Hold (
     ∷ [])
 unfolding Hold checkLimits
 limits-kept = refl
+
+-- iden of the words of 2 ^ k bits, and so many comps of the node before them with it
+abbrev comps : (k n : ℕ) → Program
+comps k n = record {
+  types = ty 0 0 0 ∷ ty 1 0 0 ∷ tabulate k (λ j. ty 2 (j + 1) (j + 1));
+  nodes = Node.iden ∷ tabulate n (λ j. Node.comp j 0);
+  arrows = replicate (suc n) (to (k + 1) (k + 1));
+  witnesses = [];
+  hash = λ j. ⟨⟩;
+}
+
+-- a whole program: 2,048 cells, 2 frames and a cost of 1,124; as many cells as there may be, and more
+programs-kept : Hold (
+    checkBounds (comps 10 0) is passed tt
+    ∷ checkBounds (comps 15 6) is passed tt
+    ∷ checkBounds (comps 15 7) is refused (OverLimit 0)
+    ∷ [])
+unfolding Hold checkBounds tabulate
+programs-kept = refl
 
 -- a witness of the widest type under seven comps with iden: its middles and its target take all the cells that there are
 widest : Ty
