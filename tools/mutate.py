@@ -7,11 +7,11 @@
 WHAT is a crate (`report`, `scope`), a file (`scope/Walk`), or one edit by its number (`scope/Walk:12`); all of both crates if left out.
     --each N       at most N edits of one kind in one file, drawn at random
     --seed S       another draw (default 1)
-    --beside       try them on the rows beside them alone, which is quick: what passes may still be refused elsewhere
+    --beside       try them on the rows beside them alone, where there are any: what passes may still be refused elsewhere
     --show         print the outcome of every edit, not only of those that pass
 
 Not part of the gate. tools/edits.py makes the edits. One check tries many: each edit has its own copy of the file that it changes and of the files between
-that one and some computed rows. It is tried on the nearest rows first, then on all that rest on the file. Its outcome is one of
+that one and some computed rows. It is tried on the nearest rows first, last on all that rest on the file. Its outcome is one of
     refused         every definition still stands, and a theorem of the crate, most often a table of computed rows, no longer does
     no definition   the edited text does not parse, or it or a definition that uses it has no type: such an edit counts for nothing
     unclear         the check could not tell, or a theorem fails by something other than what it states
@@ -33,9 +33,11 @@ CRATES = ["report", "scope"]
 ROWS = re.compile(r"(Rows|Lines|Shorthand|Assembled|Known|BoundsTable|Dossiers)$")
 # how many edits one check tries, and how many characters of copies it reads
 BATCH, BATCH_TEXT = 60, 1000000
+# how many tables of rows an edit is tried on before all that rests on its file
+BESIDE = 3
 ERROR = re.compile(r"specs/(\w+?)Edit(\d+)\.antt:\d+:\d+: error: (?:`([^`]*)`: )?(.*)")
 # what the prover says where a theorem's two sides, or what it has and what it states, are not the same
-MISMATCH = re.compile(r"two types|two indices|expected type|lands at index|is checked against")
+MISMATCH = re.compile(r"two types|two indices|expected type|lands at index|is checked against|components but its type")
 
 
 def read(path):
@@ -86,11 +88,13 @@ class Files:
         return {n for n in self.needs(ends) if name in self.needs([n])}
 
     def stages(self, name):
-        """What an edit of a file is tried on, in turn: the rows that name most of it for the text that is copied, all rows beside it, all that rests on it."""
-        beside = sorted(self.users(name) & self.tables) or [name]
-        nearest = max(beside, key=lambda row: self.named(row, name) / sum(len(self.texts[n]) for n in self.between(name, [row])))
-        stages = [self.between(name, ends) for ends in ([nearest], beside, [n for n in self.texts if name in self.needs([n])])]
-        return [names for k, names in enumerate(stages) if names not in stages[:k]]
+        """What an edit of a file is tried on, in turn: a few tables of rows beside it, first the one that names most of it for the text that is copied;
+        then all that rests on it."""
+        def worth(row):
+            return self.named(row, name) / sum(len(self.texts[n]) for n in self.between(name, [row]))
+        beside = sorted(self.users(name) & self.tables, key=worth, reverse=True)[:BESIDE]
+        every = self.between(name, [n for n in self.texts if name in self.needs([n])])
+        return [names for names in (self.between(name, [row]) for row in beside) if names != every] + [every]
 
     def named(self, row, name):
         """How many names of a file another one imports."""
@@ -124,6 +128,7 @@ class Bench:
                 there, here = (os.path.join(r, "target", part % name) for r in (root, self.root))
                 os.makedirs(os.path.dirname(here), exist_ok=True)
                 (shutil.copytree if os.path.isdir(there) else shutil.copy)(there, here)
+        shutil.copytree(os.path.join(root, "target", "inc", files.crate), os.path.join(self.root, "target", "inc", files.crate))
         self.specs = os.path.join(self.root, "crates", files.crate, "specs")
 
     def copies(self, number, edit, names):
@@ -173,7 +178,9 @@ class Bench:
 
     def attempt_all(self, chosen, beside, show):
         """Tries edits stage by stage, each until it is refused."""
-        stages = {name: self.files.stages(name)[:2 if beside else None] for name in {edit.name for edit in chosen}}
+        stages = {name: self.files.stages(name) for name in {edit.name for edit in chosen}}
+        if beside:
+            stages = {name: names[:-1] or names for name, names in stages.items()}
         stage, todo = 0, chosen
         while todo:
             for batch in batches([(edit, stages[edit.name][stage]) for edit in todo], self.files):
@@ -282,7 +289,10 @@ def main():
         print("%d edits" % len(chosen))
         return
     names = [crate for crate in CRATES if any(edit.crate == crate for edit in chosen)]
-    subprocess.run(["rt", "check", *names], cwd=root, check=True, stdout=subprocess.DEVNULL, env=dict(os.environ, RT_JOBS="1"))
+    for crate in names:
+        done = subprocess.run(["rt", "dev", crate], cwd=root, capture_output=True, text=True, env=dict(os.environ, RT_JOBS="1"))
+        if done.returncode != 0:
+            raise SystemExit(done.stdout + done.stderr)
     for crate in names:
         bench = Bench(root, crates[crate])
         try:
