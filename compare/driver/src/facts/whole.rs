@@ -200,7 +200,7 @@ impl<'a> Facts<'a> {
     fn put_table(&self, refused: Option<Verdict>, left: &mut Contents) {
         left.nodes.fill(0);
         left.hashes.fill(0);
-        let zeroed = matches!(refused.map(|v| v.pair()), Some((1..=13, _)) | Some((17, 3..)));
+        let zeroed = matches!(refused.map(|v| v.pair()), Some((1..=13 | 21, _)) | Some((17, 3..)));
         if !zeroed {
             left.nodes[..self.table.nodes.len()].copy_from_slice(&self.table.nodes);
             left.hashes[..self.table.hashes.len()].copy_from_slice(&self.table.hashes);
