@@ -1,6 +1,6 @@
 -- The engine's own function at every node that a run enters: lent the tables and a state's layout, its condition holds, and what it
--- promises is the layout of how the node's run ends.
--- Only this module knows the list of the function's arguments: what it is lent, what it answers and what it promises are handed on by name.
+-- promises is the layout of how the node's run ends. Only this module knows the list of the function's arguments: what it is lent, what it
+-- answers and what it promises are handed on by name.
 use mathlib.Core.Path.{_≡_, ap, ap₂, _∙_}
 use mathlib.Core.List.{List}
 use Prim.Native.Nat.{ℕ, _*_, _≤_}

@@ -1,7 +1,6 @@
-// Reading a lent byte slice at a bit position: a bit, two bits, a natural, 32 and 64 whole bytes, and whether the slice closes there.
-// A reader takes the position by value and answers with the next one; a natural's answers with the bits that it took. The bits of a slice
-// are `streamOf` of the requirements:
-// from the top bit of each byte on, and none at all above the dossier's limit, so that no position wraps.
+// Reading a lent byte slice at a bit position: a bit, two bits, a natural, 32 and 64 whole bytes, and whether the slice closes there. A
+// reader takes the position by value and answers with the next one; a natural's answers with the bits that it took. The bits of a slice are
+// `streamOf` of the requirements: from the top bit of each byte on, and none at all above the dossier's limit, so that no position wraps.
 use refusal::Refusal;
 ghost use mathlib.Core.Path.{_≡_};
 ghost use Prim.Native.Nat.{_+_, _*_, _<_, _≤_};

@@ -11,7 +11,8 @@ ghost use mathlib.Core.Path.{_≡_};
 ghost use Prim.Native.Nat.{_<_, _≤_};
 ghost use lib.ListN.{length};
 
-// The numbers of a record: the kind of read, its bit position, its answer, a natural's bound and the natural, and the next position.
+// The numbers of a record: the kind of read, its bit position, its answer, a natural's bound and the natural, and the next position,
+// or how many bits a natural took.
 const KIND: u32 = 0;
 
 const POSITION: u32 = 1;

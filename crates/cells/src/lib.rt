@@ -1,7 +1,6 @@
-// The machine's cells, packed in lent bytes from the top bit of each: one is read or written, a run is copied, cleared or put from elsewhere,
-// eight cells at once where they fill a byte.
-// Past the end a cell reads as 0 and a write does nothing. A position and a count are u32, so that a usize holds their sum.
-// Each promise is over the list of bits; bytes are told by their bits (bititer's law bits-tell).
+// The machine's cells, packed in lent bytes from the top bit of each: one is read or written, a run is copied, cleared or put from
+// elsewhere, eight cells at once where they fill a byte. Past the end a cell reads as 0 and a write does nothing. A position and a count
+// are u32, so that a usize holds their sum. Each promise is over the list of bits; bytes are told by their bits (bititer's law bits-tell).
 ghost use mathlib.Core.Path.{_≡_};
 ghost use Prim.Native.Nat.{_+_, _-_, _*_, _%_, _<_, _≤_};
 ghost use lib.ListN.{getD, set};

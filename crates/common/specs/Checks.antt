@@ -1,6 +1,6 @@
 -- What a test that holds or a check that passed tells, and when one holds or passes: of `every`, `anyBelow`, `same`, `require`, `counted`,
--- `each` and of checks in a row.
--- `clash` takes two unlike constructors that are equal to any statement, `not-both` a test that holds and fails.
+-- `each` and of checks in a row. `clash` takes two unlike constructors that are equal to any statement, `not-both` a test that holds and
+-- fails.
 use mathlib.Core.Path.{_≡_, refl, sym, ap, ap₂, _∙_, subst}
 use mathlib.Core.Bool.{Bool, true, false}
 use mathlib.Core.List.{List, [], _∷_}

@@ -152,8 +152,8 @@ module _ (d nodes hashes cells frames answer : List ℕ) (r : Answer) (nodes′ 
           subst (CellsLeft _ (wholeCells (R .program)) cells) (sym (ap (λ (e : Ended). e .cells) promise))
           (Theorems.job-leaves-cells d nodes hashes cells frames answer t R passes ready)
 
-      -- The program's tables keep every rule that the checks ask for (`Sound`; by `node-typed` each shown node's term then has its arrow's type),
-      -- and its input is a value of its source.
+      -- The program's tables keep every rule that the checks ask for (`Sound`; by `node-typed` each shown node's term then has its arrow's
+      -- type), and its input is a value of its source.
       pub program-sound : Sound (R .program) × HasTy (R .input) (wholeSource (R .program))
       program-sound = Theorems.dossier-sound d nodes hashes cells frames answer t R passes ready
 
@@ -197,8 +197,8 @@ module _ (d nodes hashes cells frames answer : List ℕ) (r : Answer) (nodes′ 
       pub few-visits : visits (whole (R .program)) (R .input) ≤ wholeCost (R .program) / nodeCost + 1
       few-visits = Theorems.visits-of-run (R .program) (program-sound .0) (R .input) (program-sound .1)
 
--- Old contents of the five stores change no output, no refusal and no place: two calls on one dossier with stores of the same sizes answer the same,
--- and the bytes that hold an output are the same.
+-- Old contents of the five stores change no output, no refusal and no place: two calls on one dossier with stores of the same sizes answer
+-- the same, and the bytes that hold an output are the same.
 pub old-stores : (d nodes hashes cells frames answer : List ℕ) (r : Answer) (nodes′ hashes′ cells′ frames′ answer′ : List ℕ)
     → Promise d nodes hashes cells frames answer r nodes′ hashes′ cells′ frames′ answer′
     → (nodesB hashesB cellsB framesB answerB : List ℕ) (q : Answer) (nodes″ hashes″ cells″ frames″ answer″ : List ℕ)

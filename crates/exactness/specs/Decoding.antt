@@ -1,6 +1,6 @@
--- Decoding a program passes exactly if its stream is the report's code of a well-formed, canonical table of nodes whose hidden nodes stand where they may,
--- closed by fewer than eight zeros, and the table fits the stores. What is left in the stores is then the layout of that table, which
--- stands for just those nodes.
+-- Decoding a program passes exactly if its stream is the report's code of a well-formed, canonical table of nodes whose hidden nodes stand
+-- where they may, closed by fewer than eight zeros, and the table fits the stores. What is left in the stores is then the layout of that
+-- table, which stands for just those nodes.
 use mathlib.Core.Path.{_≡_, refl, sym, ap, ap₂, _∙_, subst}
 use mathlib.Core.Bool.{Bool, true, false}
 use mathlib.Core.List.{List, [], _∷_, _++_, append-assoc, append-nil}

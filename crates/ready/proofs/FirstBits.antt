@@ -1,5 +1,5 @@
--- Values in the first n bits of a stream, as witness and input bits are lent: a value that ends within them is the value that the whole stream holds there,
--- and any other is short.
+-- Values in the first n bits of a stream, as witness and input bits are lent: a value that ends within them is the value that the whole
+-- stream holds there, and any other is short.
 use mathlib.Core.Path.{_≡_, refl, ap, sym, _∙_}
 use mathlib.Core.Bool.{Bool, true, false}
 use mathlib.Core.List.{List}

@@ -1,5 +1,5 @@
--- The code's walk over the nodes: how far it has come with the bits that it has passed and the positions that it has put down,
--- and what is then said of the witness bits.
+-- The code's walk over the nodes: how far it has come with the bits that it has passed and the positions that it has put down, and what is
+-- then said of the witness bits.
 use mathlib.Core.Path.{_≡_, refl, ap, ap₂, sym, subst, _∙_}
 use mathlib.Core.Bool.{Bool, true, false}
 use mathlib.Core.List.{List, [], _∷_}

@@ -1,6 +1,6 @@
 // What a run needs beyond its tables: the bits of the witness values (15) and of the input (16), and stores that are long enough (17).
-// Values are not kept: a witness node's value is found again by its position in the witness bits. Everything is lent by `&`,
-// so a refusal leaves all stores as they were.
+// Values are not kept: a witness node's value is found again by its position in the witness bits. Everything is lent by `&`, so a refusal
+// leaves all stores as they were.
 use analysis::BoundsAnswer;
 use common::Checked;
 use refusal::Refusal;
@@ -75,8 +75,8 @@ fn held(s: &[u8]) -> &[u8]
     common::part(s, 0, limits::DOSSIER_BYTES)
 }
 
-// Whether values that end at a position use up all of the first `count` bits, no byte stands above the limit, and the bits after
-// these are but zeros in the last byte.
+// Whether values that end at a position use up all of the first `count` bits, no byte stands above the limit, and the bits after these are
+// but zeros in the last byte.
 fn all_used(s: &[u8], end: usize, count: u32) -> bool
     ensures { λ r. ⌜ r ≡ usedUp (now (s .entry)) count (drop end (take count (heldBits (now (s .entry))))) ⌝ }
 {

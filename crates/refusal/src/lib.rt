@@ -1,7 +1,6 @@
-// Every way in which a run says no: one case for each number of the requirements' table, with its place.
-// `number` and `place` give what the table says, `keeps_table` which ends keep the decoded table, and `Answer` is what a whole run says.
-// Another refusal is one line more in each of the lists here and in specs/Numbers; besides it touches what gives it, and theory's lists of
-// what a check may give.
+// Every way in which a run says no: one case for each number of the requirements' table, with its place. `number` and `place` give what the
+// table says, `keeps_table` which ends keep the decoded table, and `Answer` is what a whole run says. Another refusal is one line more in
+// each of the lists here and in specs/Numbers; besides it touches what gives it, and theory's lists of what a check may give.
 ghost use mathlib.Core.Path.{_≡_};
 ghost use Rattle.refusal.specs.Numbers.{numberOf, placeOf, keepsTable};
 

@@ -1,8 +1,7 @@
-// Runs the dossiers of seven lists in stores of the sizes and with the old contents that their records say, and prints for each list how many
-// runs there were and how many came out otherwise: in the answer, the output, a store as it is left, or the bounds. Each of the latter is named.
-// The runs whose stores are all told are made a second time with two numbers more, which are no record, in the node store and the frame store,
-// where that is not the largest already.
-// vectors/cases/README.md says what stands in a record.
+// Runs the dossiers of seven lists in stores of the sizes and with the old contents that their records say, and prints for each list how
+// many runs there were and how many came out otherwise: in the answer, the output, a store as it is left, or the bounds. Each of the latter
+// is named. The runs whose stores are all told are made a second time with two numbers more, which are no record, in the node store and the
+// frame store, where that is not the largest already. vectors/cases/README.md says what stands in a record.
 use analysis::BoundsAnswer;
 use packed::Tally;
 use refusal::Answer;

@@ -1,5 +1,5 @@
--- What rows on whole dossiers are written with: a dossier put together from its parts, the job done on it in stores that are filled with one byte,
--- and what is left in stores with room to spare.
+-- What rows on whole dossiers are written with: a dossier put together from its parts, the job done on it in stores that are filled with
+-- one byte, and what is left in stores with room to spare.
 use mathlib.Core.List.{List, [], _∷_, _++_}
 use Prim.Native.Nat.{ℕ, _+_, _*_, _/_, _-_}
 use lib.ListN.{length, replicate}

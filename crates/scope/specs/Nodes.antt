@@ -65,8 +65,8 @@ nodeNumbersOf (r ∷ rs) = r .kind ∷ r .first ∷ r .second ∷ r .third ∷ n
 abbrev pub noNode : Node
 noNode = fail []
 
--- the node of a kind with its first two numbers; words take their bits from the program's, hidden and fail nodes their bytes from the hash store
--- (26 refuses an unknown kind first)
+-- the node of a kind with its first two numbers; words take their bits from the program's, hidden and fail nodes their bytes from the hash
+-- store (26 refuses an unknown kind first)
 unfoldable pub nodeOf : (bits : List Bit) → (hashes : List ℕ) → Kind → (a b : ℕ) → Node
 nodeOf bits hashes kComp a b = comp a b
 nodeOf bits hashes kCase a b = case a b

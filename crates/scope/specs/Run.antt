@@ -1,7 +1,6 @@
 -- The whole job: from what is lent (a dossier and five stores, of any contents and any size) to the answer and what is left in each store.
 -- Checks go in number order, 21 beside 4. Refusals 1 to 17 and 21 leave cells, frames and answer untouched; 1 to 13 and 21, and 17 at 3 or
--- 4, zero the node and hash stores;
--- every other end leaves the decoded table in them, the rest zero.
+-- 4, zero the node and hash stores; every other end leaves the decoded table in them, the rest zero.
 --
 -- In the order of a job:
 --   NodeTable  what decoding gives: node records, the bytes of the hash store, the position after the last node (Reading)

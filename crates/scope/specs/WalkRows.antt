@@ -1,5 +1,5 @@
--- The walk and the closing, computed: hidden nodes under each kind of parent, 6 to 9 at their places and within one step, 10 and the end of the bits,
--- decoding as a whole, and what it leaves in the two stores.
+-- The walk and the closing, computed: hidden nodes under each kind of parent, 6 to 9 at their places and within one step, 10 and the end of
+-- the bits, decoding as a whole, and what it leaves in the two stores.
 use mathlib.Core.Path.{refl}
 use mathlib.Core.Bool.{true, false}
 use mathlib.Core.List.{[], _∷_}

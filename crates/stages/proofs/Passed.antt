@@ -1,5 +1,5 @@
--- Lent tables that passed: what each of their checks found, so that no one needs to open the stage again,
--- and that the children of every node stand below it.
+-- Lent tables that passed: what each of their checks found, so that no one needs to open the stage again, and that the children of every
+-- node stand below it.
 use mathlib.Core.Path.{_≡_, sym, _∙_, subst}
 use mathlib.Core.Bool.{true}
 use mathlib.Core.List.{List}

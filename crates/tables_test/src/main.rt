@@ -43,8 +43,8 @@ fn check_right(record: &[u8], answer: Checked) -> bool {
     }
 }
 
-// Whether the walk's stage says what the record says. Its numbers 2 and 3 are the bytes of the program and of the hash store,
-// zeros but where a hash store is given.
+// Whether the walk's stage says what the record says. Its numbers 2 and 3 are the bytes of the program and of the hash store, zeros but
+// where a hash store is given.
 fn stage_right(record: &[u8], given: &[u8], zeros: &[u8], nodes: &[u32]) -> bool {
     let program = packed::front(zeros, packed::number(record, 2) as usize);
     if 0 < given.len() {

@@ -1,6 +1,5 @@
 -- Laws of cells. Bits are written and copied one by one; where the ranges are apart this says just which places hold what, and that all
--- others are as they were.
--- A value depends on its own cells alone, and a value's padded bits, once written, hold the value.
+-- others are as they were. A value depends on its own cells alone, and a value's padded bits, once written, hold the value.
 use mathlib.Core.Path.{_≡_, refl, sym, ap, ap₂, _∙_}
 use mathlib.Core.List.{List, [], _∷_, _++_}
 use Prim.Native.Nat.{ℕ, zero, suc, _+_, _≤_, _<_}

@@ -50,8 +50,8 @@ module _ (B : Ty) (wr nx x : ℕ) (rs ws : List Frame) (c : Cells) where
       rw e (Prunes (rw e′ at k))
   ends (Agrees.Pruned k) stuck h = clash (cc)
 
--- MACHINE = MEANING, at any point of a run: the cells at the read cursor hold a value, the write frame has room, the two are apart,
--- and there are as many cells and frames as the bounds say.
+-- MACHINE = MEANING, at any point of a run: the cells at the read cursor hold a value, the write frame has room, the two are apart, and
+-- there are as many cells and frames as the bounds say.
 pub exec-within : {t : Term} {A B : Ty} → Typed t A B → (size most : ℕ) (rs ws : List Frame) (rd wr nx : ℕ) (c : Cells)
     → At rs rd (width A) → At ws wr (width B) → rd + width A ≤ nx → wr + width B ≤ nx → Apart rd (width A) wr (width B)
     → nx + (bounds t) .cells ≤ size → length rs + length ws + (bounds t) .frames ≤ most

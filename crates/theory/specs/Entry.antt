@@ -1,6 +1,6 @@
--- What a node of an arrow A to B finds when it is entered: a value to read, room to write one, frames that lie below the first free cell and share no cell,
--- and as many cells and frames beyond them as its bounds say. From such a state the machine is the meaning; and each way into a child leads
--- to such a state again.
+-- What a node of an arrow A to B finds when it is entered: a value to read, room to write one, frames that lie below the first free cell
+-- and share no cell, and as many cells and frames beyond them as its bounds say. From such a state the machine is the meaning; and each way
+-- into a child leads to such a state again.
 use mathlib.Core.Path.{_≡_, refl, sym, ap, _∙_}
 use mathlib.Core.List.{List, [], _∷_, _++_}
 use Prim.Native.Nat.{ℕ, _+_, _≤_}

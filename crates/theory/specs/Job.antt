@@ -1,6 +1,5 @@
 -- The whole job, from a dossier's bytes: where all checks pass, what is said and what is left in the answer store is told by the meaning of
--- the dossier's program.
--- And the old contents of all five stores change nothing of what is said.
+-- the dossier's program. And the old contents of all five stores change nothing of what is said.
 use mathlib.Core.Path.{_≡_, refl, sym, ap, ap₂, _∙_, subst}
 use mathlib.Core.List.{List, [], _++_}
 use Prim.Native.Nat.{ℕ, _-_, _/_, _^_, _<_}

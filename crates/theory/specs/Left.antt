@@ -1,6 +1,5 @@
 -- What a run leaves in the lent stores beside its answer: the cells of the machine's last state, and every cell from the bound on as it
--- was; frame records within the bound zero.
--- And the bytes of the output are the same whatever the five stores held before.
+-- was; frame records within the bound zero. And the bytes of the output are the same whatever the five stores held before.
 use mathlib.Core.Path.{_≡_, refl, ap, _∙_}
 use mathlib.Core.List.{List, [], _∷_, _++_}
 use Prim.Native.Nat.{ℕ, zero, suc, _*_, _≤_, _<_}

@@ -1,6 +1,5 @@
 -- How the run of a node ends that was entered in a state of its arrow: with the meaning's value in the target's cells and all frames back,
--- or stopped where the meaning stops.
--- The cells of every other frame that stands are as they were, also where the run stops.
+-- or stopped where the meaning stops. The cells of every other frame that stands are as they were, also where the run stops.
 use mathlib.Core.Path.{_≡_, refl}
 use mathlib.Core.List.{List, [], _∷_, _++_}
 use Prim.Native.Nat.{ℕ, _+_, _≤_}

@@ -1,6 +1,5 @@
 -- A run that stops has entered the node at which it stops, and its last state is the one in which it entered that node: the fail node, or
--- the assertion whose pruned branch was picked.
--- So the nodes that a run enters reach as far as the run does.
+-- the assertion whose pruned branch was picked. So the nodes that a run enters reach as far as the run does.
 use mathlib.Core.Path.{_≡_, refl}
 use mathlib.Core.Bool.{Bool, true, false}
 use mathlib.Core.List.{List, [], _∷_}

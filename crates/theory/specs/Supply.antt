@@ -1,6 +1,6 @@
--- What is supplied beside a program's tables passes its checks exactly if it fits: the header (1), the hashes (13), the limits (14), the witness bits (15),
--- the input bits (16) and the stores (17). Bits fit if they are the compact bits of values of the right types, one after the other, then
--- fewer than eight zeros.
+-- What is supplied beside a program's tables passes its checks exactly if it fits: the header (1), the hashes (13), the limits (14), the
+-- witness bits (15), the input bits (16) and the stores (17). Bits fit if they are the compact bits of values of the right types, one after
+-- the other, then fewer than eight zeros.
 use mathlib.Core.Path.{_≡_, refl, sym, ap, ap₂, _∙_, subst}
 use mathlib.Core.Bool.{Bool, true, false, not}
 use mathlib.Core.List.{List, [], _∷_, _++_, append-nil, append-assoc}

@@ -1,6 +1,6 @@
--- What holds of a table that passed the check: its arrays have the width of every type and the entry of every record.
--- The entry is the mark exactly where the type has no padding; else it is a record that stands for what is left of the type
--- when products with a part of width 0 are passed over.
+-- What holds of a table that passed the check: its arrays have the width of every type and the entry of every record. The entry is the mark
+-- exactly where the type has no padding; else it is a record that stands for what is left of the type when products with a part of width 0
+-- are passed over.
 use mathlib.Core.Path.{_≡_, refl, ap, ap₂, sym, subst, _∙_}
 use mathlib.Core.Logic.{_⊎_, inl, inr}
 use mathlib.Core.Bool.{Bool, true, false, not}

@@ -1,7 +1,6 @@
--- What the check of a lent type table answers: 4 at 0 for no record or too many, then 2 at the first record that breaks a rule,
--- and else the count of records; odd bytes at the end are of no record.
--- Beside it, for each record before the first bad one, the width of its type and its entry, which is the mark of a type without padding
--- or the next record that matters; all else is 0.
+-- What the check of a lent type table answers: 4 at 0 for no record or too many, then 2 at the first record that breaks a rule, and else
+-- the count of records; odd bytes at the end are of no record. Beside it, for each record before the first bad one, the width of its type
+-- and its entry, which is the mark of a type without padding or the next record that matters; all else is 0.
 use mathlib.Core.Bool.{Bool}
 use mathlib.Core.List.{List, [], _∷_, _++_}
 use Prim.Native.Nat.{ℕ, _-_}

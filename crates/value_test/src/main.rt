@@ -7,8 +7,8 @@ use value::ValueRead;
 use value::ValueWritten;
 ghost use Prim.Native.Nat.{_<_};
 
-// The parts of a record, each by the number that is its size, and how many numbers a record has. The second is a table's widths and entries, or
-// a value's stream.
+// The parts of a record, each by the number that is its size, and how many numbers a record has. The second is a table's widths and
+// entries, or a value's stream.
 const TABLE: u32 = 9;
 
 const SECOND: u32 = 10;

@@ -1,6 +1,5 @@
 -- `frame::reset` meets its contract: a walk of its MIR, by hand. The borrow is opened, the start is read and written as the cursor, and the
--- borrow is closed at that frame.
--- Assumes nothing.
+-- borrow is closed at that frame. Assumes nothing.
 use mathlib.Core.Path.{refl}
 use mathlib.Core.List.{List, [], _∷_}
 use Prim.Native.Nat.{ℕ}

@@ -1,6 +1,5 @@
--- `hashes::supplied` meets its contract.
--- The loop's invariant: wherever the supplied hashes lie, the entry that is looked for is the first for node j from entry e on, among the
--- disconnects from node i on.
+-- `hashes::supplied` meets its contract. The loop's invariant: wherever the supplied hashes lie, the entry that is looked for is the first
+-- for node j from entry e on, among the disconnects from node i on.
 use mathlib.Core.Path.{_≡_, refl, sym, ap, _∙_}
 use mathlib.Core.List.{List}
 use mathlib.Core.Logic.{⊎-elim}
