@@ -4,5 +4,7 @@ pub mod Bits
 pub mod Streams
 pub mod Naturals
 pub mod Octets
+pub mod Windows
+pub mod Table
 pub mod Closing
 pub mod Pins

@@ -21,12 +21,12 @@ use Rattle.bititer.proofs.Bits.{below-eight, bits-from, byte-at}
 use Rattle.bititer.proofs.Streams.{stream-some, octets-within, octets-past}
 
 -- a number from two parts of its bits
-number-append : (n : ℕ) (l r : List Bit) → numberFrom n (l ++ r) ≡ numberFrom (numberFrom n l) r
+pub number-append : (n : ℕ) (l r : List Bit) → numberFrom n (l ++ r) ≡ numberFrom (numberFrom n l) r
 unfolding numberFrom
 number-append n [] r = refl
 number-append n (b ∷ l) r = number-append (n * 2 + b) l r
 
-number-scaled : (n : ℕ) (l : List Bit) → numberFrom n l ≡ n * 2 ^ length l + numberFrom 0 l
+pub number-scaled : (n : ℕ) (l : List Bit) → numberFrom n l ≡ n * 2 ^ length l + numberFrom 0 l
 unfolding numberFrom
 number-scaled n [] = omega arith
 number-scaled n (b ∷ l) =

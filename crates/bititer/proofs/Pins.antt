@@ -5,7 +5,9 @@ use Prim.Native.Nat.{ℕ, _+_}
 use native.Mathlib.Omega.{arith}
 use Rattle.promise.specs.Outcomes.{OneResult, OneOutcome, _&_}
 use Rattle.bititer.specs.Answers.{gotCode, gotNatural, gotBytes, Stored, stored}
+use Rattle.bititer.specs.Windows.{gotWindow}
 use Rattle.bititer.specs.declared.CodeRead.{CodeRead}
+use Rattle.bititer.specs.declared.WindowRead.{WindowRead}
 use Rattle.bititer.specs.declared.NaturalFault.{NaturalFault}
 use Rattle.bititer.specs.declared.NaturalRead.{NaturalRead}
 use Rattle.bititer.specs.declared.BytesFault.{BytesFault}
@@ -18,7 +20,15 @@ use Rattle.bititer.proofs.fail_bytes.Kinds as fail-bytes-kinds
 use Rattle.bititer.proofs.fail_bytes.Reads as fail-bytes-reads
 use Rattle.bititer.proofs.hash_bytes.Kinds as hash-bytes-kinds
 use Rattle.bititer.proofs.hash_bytes.Reads as hash-bytes-reads
+use Rattle.bititer.proofs.after_one.Kinds as after-one-kinds
+use Rattle.bititer.proofs.after_one.Reads as after-one-reads
 use Rattle.bititer.proofs.natural.Kinds as natural-kinds
+use Rattle.bititer.proofs.natural_by_lengths.Kinds as natural-by-lengths-kinds
+use Rattle.bititer.proofs.natural_by_lengths.Reads as natural-by-lengths-reads
+use Rattle.bititer.proofs.natural_table.Kinds as natural-table-kinds
+use Rattle.bititer.proofs.natural_table.Reads as natural-table-reads
+use Rattle.bititer.proofs.window.Kinds as window-kinds
+use Rattle.bititer.proofs.window.Reads as window-reads
 use Rattle.bititer.proofs.natural_refusal.Kinds as natural-refusal-kinds
 use Rattle.bititer.proofs.natural_refusal.Reads as natural-refusal-reads
 use Rattle.bititer.proofs.natural.Reads as natural-reads
@@ -61,6 +71,12 @@ same-bytes (BytesRead.Fault BytesFault.NoRoom) (BytesRead.Fault BytesFault.NoRoo
 same-stored : (r q : BytesRead) (l m : List ℕ) → stored (gotBytes r) l ≡ stored (gotBytes q) m → (r ≡ q) × (l ≡ m)
 same-stored r q l m e = (same-bytes r q (ap (λ (x : Stored). x .says) e), ap (λ (x : Stored). x .store) e)
 
+same-window : (at : ℕ) (r q : WindowRead) → gotWindow at r ≡ gotWindow at q → r ≡ q
+same-window at (WindowRead.Read v) (WindowRead.Read w) e = cc
+same-window at (WindowRead.Read v) WindowRead.Ended e = cc
+same-window at WindowRead.Ended (WindowRead.Read w) e = cc
+same-window at WindowRead.Ended WindowRead.Ended e = refl
+
 pub bit : OneResult 1 bit-kinds.ps bit-kinds.r bit-reads.Post
 bit κs a s t x y p q = same-code s t (p ∙ sym q)
 
@@ -69,6 +85,18 @@ two-bits κs a s t x y p q = same-code s t (p ∙ sym q)
 
 pub natural : OneResult 1 natural-kinds.ps natural-kinds.r natural-reads.Post
 natural κs a s t x y p q = same-natural _ s t (p ∙ sym q)
+
+pub natural-by-lengths : OneResult 1 natural-by-lengths-kinds.ps natural-by-lengths-kinds.r natural-by-lengths-reads.Post
+natural-by-lengths κs a s t x y p q = same-natural _ s t (p ∙ sym q)
+
+pub natural-table : OneResult 0 natural-table-kinds.ps natural-table-kinds.r natural-table-reads.Post
+natural-table κs a s t x y p q = p ∙ sym q
+
+pub window : OneResult 1 window-kinds.ps window-kinds.r window-reads.Post
+window κs a s t x y p q = same-window _ s t (p ∙ sym q)
+
+pub after-one : OneResult 0 after-one-kinds.ps after-one-kinds.r after-one-reads.Post
+after-one κs a s t x y p q = p ∙ sym q
 
 pub natural-refusal : OneResult 0 natural-refusal-kinds.ps natural-refusal-kinds.r natural-refusal-reads.Post
 natural-refusal κs a s t x y p q = p ∙ sym q

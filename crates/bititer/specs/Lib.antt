@@ -1,3 +1,4 @@
--- What the readers' answers say, and the parts of a natural's code.
+-- What the readers' answers say, the parts of a natural's code, and windows.
 pub mod Answers
 pub mod Parts
+pub mod Windows

@@ -1,18 +1,21 @@
 // Reading a lent byte slice at a bit position: a bit, two bits, a natural, 32 and 64 whole bytes, and whether the slice closes there. A
 // reader takes the position by value and answers with the next one; a natural's answers with the bits that it took. The bits of a slice are
 // `streamOf` of the requirements: from the top bit of each byte on, and none at all above the dossier's limit, so that no position wraps.
+// Most naturals are read from a window, the 25 bits that any four bytes hold from a position on.
 use refusal::Refusal;
 ghost use mathlib.Core.Path.{_≡_};
+ghost use mathlib.Core.List.{List};
 ghost use Prim.Native.Nat.{_+_, _*_, _<_, _≤_};
 ghost use lib.Dec.{leb};
 ghost use lib.ListN.{length, take, drop};
 ghost use Rattle.limits.specs.Limits.{naturalLength, hashBytes, failBytes};
-ghost use Rattle.report.specs.Bits.{bitsOf, numberFrom};
+ghost use Rattle.report.specs.Bits.{Bit, bitsOf, numberFrom};
 ghost use Rattle.scope.specs.Numbers.{streamOf};
 ghost use Rattle.scope.specs.Reading.{refusalAt, code, naturalUpTo, octets};
 ghost use Rattle.scope.specs.Closing.{closes};
 ghost use Rattle.bititer.specs.Answers.{gotCode, naturalFault, gotNatural, gotBytes, stored, storing};
 ghost use Rattle.bititer.specs.Parts.{OnesMean, BitsMean};
+ghost use Rattle.bititer.specs.Windows.{windowBits, gotWindow, Window, afterOne, naturalEntries, BeginsWith};
 
 // One or two bits: their number and the position after them.
 pub enum CodeRead {
@@ -25,6 +28,12 @@ pub enum NaturalFault {
     Ended,
     TooLong,
     OverBound,
+}
+
+// The 25 bits from a position on, as a number.
+pub enum WindowRead {
+    Read(u32),
+    Ended,
 }
 
 // A natural, and how many bits it took.
@@ -50,6 +59,283 @@ enum Part {
     Number(u32, usize),
     Cut,
 }
+
+// The natural that a window begins with, and how many bits it takes; or its code may go on past the window.
+enum Begins {
+    Natural(u32, u32),
+    Longer,
+}
+
+// How many bits a window has, and the least windows that begin with one, two, three and four ones.
+const WINDOW_BITS: u32 = 25;
+
+const ONE: u32 = 16_777_216;
+
+const TWO_ONES: u32 = 25_165_824;
+
+const THREE_ONES: u32 = 29_360_128;
+
+const FOUR_ONES: u32 = 31_457_280;
+
+// For each byte the natural that stands in its leading bits: sixteen times the number, and the bits that it takes; 0 where no whole one does.
+const NATURALS: [u8; 256] = [
+    17,
+    17,
+    17,
+    17,
+    17,
+    17,
+    17,
+    17,
+    17,
+    17,
+    17,
+    17,
+    17,
+    17,
+    17,
+    17,
+    17,
+    17,
+    17,
+    17,
+    17,
+    17,
+    17,
+    17,
+    17,
+    17,
+    17,
+    17,
+    17,
+    17,
+    17,
+    17,
+    17,
+    17,
+    17,
+    17,
+    17,
+    17,
+    17,
+    17,
+    17,
+    17,
+    17,
+    17,
+    17,
+    17,
+    17,
+    17,
+    17,
+    17,
+    17,
+    17,
+    17,
+    17,
+    17,
+    17,
+    17,
+    17,
+    17,
+    17,
+    17,
+    17,
+    17,
+    17,
+    17,
+    17,
+    17,
+    17,
+    17,
+    17,
+    17,
+    17,
+    17,
+    17,
+    17,
+    17,
+    17,
+    17,
+    17,
+    17,
+    17,
+    17,
+    17,
+    17,
+    17,
+    17,
+    17,
+    17,
+    17,
+    17,
+    17,
+    17,
+    17,
+    17,
+    17,
+    17,
+    17,
+    17,
+    17,
+    17,
+    17,
+    17,
+    17,
+    17,
+    17,
+    17,
+    17,
+    17,
+    17,
+    17,
+    17,
+    17,
+    17,
+    17,
+    17,
+    17,
+    17,
+    17,
+    17,
+    17,
+    17,
+    17,
+    17,
+    17,
+    17,
+    17,
+    17,
+    17,
+    35,
+    35,
+    35,
+    35,
+    35,
+    35,
+    35,
+    35,
+    35,
+    35,
+    35,
+    35,
+    35,
+    35,
+    35,
+    35,
+    35,
+    35,
+    35,
+    35,
+    35,
+    35,
+    35,
+    35,
+    35,
+    35,
+    35,
+    35,
+    35,
+    35,
+    35,
+    35,
+    51,
+    51,
+    51,
+    51,
+    51,
+    51,
+    51,
+    51,
+    51,
+    51,
+    51,
+    51,
+    51,
+    51,
+    51,
+    51,
+    51,
+    51,
+    51,
+    51,
+    51,
+    51,
+    51,
+    51,
+    51,
+    51,
+    51,
+    51,
+    51,
+    51,
+    51,
+    51,
+    70,
+    70,
+    70,
+    70,
+    86,
+    86,
+    86,
+    86,
+    102,
+    102,
+    102,
+    102,
+    118,
+    118,
+    118,
+    118,
+    135,
+    135,
+    151,
+    151,
+    167,
+    167,
+    183,
+    183,
+    199,
+    199,
+    215,
+    215,
+    231,
+    231,
+    247,
+    247,
+    0,
+    0,
+    0,
+    0,
+    0,
+    0,
+    0,
+    0,
+    0,
+    0,
+    0,
+    0,
+    0,
+    0,
+    0,
+    0,
+    0,
+    0,
+    0,
+    0,
+    0,
+    0,
+    0,
+    0,
+    0,
+    0,
+    0,
+    0,
+    0,
+    0,
+    0,
+    0,
+];
 
 // How many bits the slice's stream has.
 fn stream_length(s: &[u8]) -> usize
@@ -123,8 +409,8 @@ fn bits_after_one(s: &[u8], p: usize, count: u32) -> Part
     Part::Number(n, at)
 }
 
-// The natural from p on, which is at most `bound`. A length is refused before its bits are asked for.
-pub fn natural(s: &[u8], p: usize, bound: u32) -> NaturalRead
+// The natural from p on, which is at most `bound`, length by length. A length is refused before its bits are asked for.
+pub fn natural_by_lengths(s: &[u8], p: usize, bound: u32) -> NaturalRead
     ensures { λ r. ⌜ gotNatural p r ≡ naturalUpTo (streamOf (now (s .entry))) bound p ⌝ }
 {
     let Part::Number(count, first) = ones(s, p) else {
@@ -147,6 +433,79 @@ pub fn natural(s: &[u8], p: usize, bound: u32) -> NaturalRead
     if n <= bound {
         let bits = at - p;
         NaturalRead::Read(n, bits)
+    } else {
+        NaturalRead::Fault(NaturalFault::OverBound)
+    }
+}
+
+// The table of naturals that stand whole in a byte.
+pub fn natural_table() -> [u8; 256]
+    ensures { λ r. ⌜ r ≡ naturalEntries ⌝ }
+{
+    NATURALS
+}
+
+// The 25 bits from p on, as a number.
+pub fn window(s: &[u8], p: usize) -> WindowRead
+    ensures { λ r. ⌜ gotWindow p r ≡ code (streamOf (now (s .entry))) windowBits p ⌝ }
+{
+    let i = p / 8;
+    if s.len() < i + 4 {
+        return WindowRead::Ended;
+    }
+    if limits::DOSSIER_BYTES < s.len() {
+        return WindowRead::Ended;
+    }
+    WindowRead::Read((common::number_at(s, i) << (p % 8)) >> 7)
+}
+
+// The number that is 1 followed by `count` bits of a window from its bit `at` on; 0 where the window has not so many.
+pub fn after_one(w: u32, at: u32, count: u32) -> u32
+    ensures { λ r. ⌜ r ≡ afterOne w at count ⌝ }
+{
+    if WINDOW_BITS < count {
+        return 0;
+    }
+    if WINDOW_BITS - count < at {
+        return 0;
+    }
+    (1u32 << count) + (w >> (WINDOW_BITS - count - at)) % (1u32 << count)
+}
+
+// The natural that a window begins with, by the ones that its code begins with and the lengths that these tell of.
+fn natural_in(w: u32) -> Begins
+    ensures { λ r. ⌜ ((l : List Bit) → Window l w → BeginsWith l r) ⌝ }
+{
+    if w < ONE {
+        return Begins::Natural(1, 1);
+    }
+    if w < TWO_ONES {
+        return Begins::Natural(after_one(w, 2, 1), 3);
+    }
+    if w < THREE_ONES {
+        let length = after_one(w, 3, 1);
+        return Begins::Natural(after_one(w, 4, length), 4 + length);
+    }
+    if w < FOUR_ONES {
+        let first = after_one(w, 4, 1);
+        let length = after_one(w, 5, first);
+        return Begins::Natural(after_one(w, 5 + first, length), 5 + first + length);
+    }
+    Begins::Longer
+}
+
+// The natural from p on, which is at most `bound`: from a window, or else length by length.
+pub fn natural(s: &[u8], p: usize, bound: u32) -> NaturalRead
+    ensures { λ r. ⌜ gotNatural p r ≡ naturalUpTo (streamOf (now (s .entry))) bound p ⌝ }
+{
+    let WindowRead::Read(w) = window(s, p) else {
+        return natural_by_lengths(s, p, bound);
+    };
+    let Begins::Natural(n, bits) = natural_in(w) else {
+        return natural_by_lengths(s, p, bound);
+    };
+    if n <= bound {
+        NaturalRead::Read(n, bits as usize)
     } else {
         NaturalRead::Fault(NaturalFault::OverBound)
     }

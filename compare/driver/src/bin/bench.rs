@@ -4,8 +4,8 @@
 //!   bench --lines
 //!   bench --calls COUNT RIVAL LINE
 //!
-//! The other two forms time nothing. One prints the lines of the machine, the other makes so many calls of one rival on one of
-//! them, for a tool that counts instructions: a call takes what two calls take less what one takes.
+//! The other two forms time nothing. One prints the lines of the machine, the other makes so many calls of one rival on a line
+//! of any part, for a tool that counts instructions: a call takes what two calls take less what one takes.
 //!
 //! Each figure is the best and the median of several batches, in processor time of one thread, all
 //! rivals in turns; figures of different runs are not to be compared. Answers are compared before
@@ -15,7 +15,7 @@
 //! left. One column clears all five stores first. The original makes its own stores: this is counted
 //! in "whole" and left out of "exec" and "input to output bits", where the machine is made beforehand.
 
-use compare::clock::{clocked, race, task, Effort, Time};
+use compare::clock::{clocked, race, task, Effort, Task, Time};
 use compare::document::{DOSSIER_BYTES, NODE_COUNT};
 use compare::making::{any_value, families, types, Made};
 use compare::original::{decode, nodes, write};
@@ -46,14 +46,15 @@ fn print(what: &str, times: &[Time], pairs: &[(usize, usize)]) {
 
 const NATURALS: [&str; 2] = ["original", "library"];
 const NATURAL_PAIRS: [(usize, usize); 1] = [(1, 0)];
-const DECODE: [&str; 5] = [
+const DECODE: [&str; 6] = [
     "original, all freed",
     "original, nothing freed",
     "original, reading alone",
     "library, stores just large enough",
     "library, largest stores",
+    "library, reading alone",
 ];
-const DECODE_PAIRS: [(usize, usize); 2] = [(3, 1), (3, 2)];
+const DECODE_PAIRS: [(usize, usize); 3] = [(3, 1), (3, 2), (5, 2)];
 const RUN: [&str; 8] = [
     "original, exec",
     "original, input to output bits",
@@ -66,50 +67,7 @@ const RUN: [&str; 8] = [
 ];
 const RUN_PAIRS: [(usize, usize); 2] = [(7, 1), (3, 2)];
 
-/// Naturals of some range, one after the other.
-fn naturals(effort: &Effort, name: &str, pick: fn(&mut Rng) -> usize) {
-    let mut rng = Rng::new(7);
-    let values: Vec<usize> = (0..8_000).map(|_| pick(&mut rng)).collect();
-    let (bytes, _) = write::naturals(&values);
-    let want: u64 = values.iter().map(|v| *v as u64).sum();
-    assert!(bytes.len() <= DOSSIER_BYTES);
-    assert_eq!(timed::original_naturals(&bytes, values.len()), want);
-    assert_eq!(timed::library_naturals(&bytes, values.len()), want);
-    let tasks = vec![
-        task(|| clocked(|| timed::original_naturals(black_box(&bytes), values.len()))),
-        task(|| clocked(|| timed::library_naturals(black_box(&bytes), values.len()))),
-    ];
-    print(&format!("8,000 naturals, {name}"), &race(effort, tasks), &NATURAL_PAIRS);
-}
-
-/// One program, decoded.
-fn decoding_of(effort: &Effort, name: &str, rows: &[Row]) {
-    let bytes = write::program(rows);
-    let longer = write::program(&[rows, &[Row::Iden]].concat());
-    assert!(decode::decode(&bytes).is_ok_and(|(back, _)| back == rows));
-    let hashes: usize = rows.iter().map(|row| row.hash_bytes().len()).sum();
-    let library = |numbers: usize, hash_bytes: usize| {
-        let (mut nodes, mut store) = (vec![0; numbers], vec![0; hash_bytes]);
-        let bytes = &bytes;
-        move || {
-            clocked(|| {
-                let done = drevaloci::decode(black_box(bytes), &mut nodes, &mut store);
-                assert!(matches!(done, Decoded::Table { nodes, .. } if nodes as usize == rows.len()));
-            })
-        }
-    };
-    let tasks = vec![
-        task(|| clocked(|| timed::original_decode(&bytes))),
-        task(|| timed::original_decode(&bytes)),
-        task(|| timed::original_reading(&longer)),
-        task(library(4 * rows.len(), hashes)),
-        task(library(drevaloci::NODE_NUMBERS, drevaloci::HASH_BYTES)),
-    ];
-    let what = format!("{name}, {} nodes, {} bytes", rows.len(), bytes.len());
-    print(&what, &race(effort, tasks), &DECODE_PAIRS);
-}
-
-/// What to do with the lines of the machine: time them, print their names, or make so many calls of one rival on one of them.
+/// What to do with the lines: time them, print the names of those of the machine, or make so many calls of one rival on one line.
 enum Aim {
     Time(Effort),
     Lines,
@@ -124,6 +82,84 @@ impl Aim {
             Aim::Lines => false,
             Aim::Calls { line, .. } => line == name,
         }
+    }
+}
+
+/// Times the rivals of a line, or makes the calls that are asked for; then there are no times.
+fn contest(aim: &Aim, rivals: &[&str], mut tasks: Vec<Task>) -> Option<Vec<Time>> {
+    match aim {
+        Aim::Time(effort) => Some(race(effort, tasks)),
+        Aim::Lines => None,
+        Aim::Calls { count, rival, .. } => {
+            let at = rivals.iter().position(|name| name == rival).expect("a rival that is called");
+            for _ in 0..*count {
+                black_box(tasks[at]());
+            }
+            None
+        }
+    }
+}
+
+/// Naturals of some range, one after the other.
+fn naturals(aim: &Aim, name: &str, pick: fn(&mut Rng) -> usize) {
+    let what = format!("8,000 naturals, {name}");
+    if !aim.wants(&what) {
+        return;
+    }
+    let mut rng = Rng::new(7);
+    let values: Vec<usize> = (0..8_000).map(|_| pick(&mut rng)).collect();
+    let (bytes, _) = write::naturals(&values);
+    let want: u64 = values.iter().map(|v| *v as u64).sum();
+    assert!(bytes.len() <= DOSSIER_BYTES);
+    assert_eq!(timed::original_naturals(&bytes, values.len()), want);
+    assert_eq!(timed::library_naturals(&bytes, values.len()), want);
+    let tasks = vec![
+        task(|| clocked(|| timed::original_naturals(black_box(&bytes), values.len()))),
+        task(|| clocked(|| timed::library_naturals(black_box(&bytes), values.len()))),
+    ];
+    if let Some(times) = contest(aim, &NATURALS, tasks) {
+        print(&what, &times, &NATURAL_PAIRS);
+    }
+}
+
+/// One program of a family, decoded.
+fn decoding_of(aim: &Aim, name: &str, size: usize, family: fn(usize, u64) -> Vec<Row>) {
+    if !aim.wants(&format!("{name}, {size} nodes")) {
+        return;
+    }
+    let rows = &family(size, 1)[..];
+    let bytes = write::program(rows);
+    let longer = write::program(&[rows, &[Row::Iden]].concat());
+    assert!(decode::decode(&bytes).is_ok_and(|(back, _)| back == rows));
+    let hashes: usize = rows.iter().map(|row| row.hash_bytes().len()).sum();
+    let library = |numbers: usize, hash_bytes: usize| {
+        let (mut nodes, mut store) = (vec![0; numbers], vec![0; hash_bytes]);
+        let bytes = &bytes;
+        move || {
+            clocked(|| {
+                let done = drevaloci::decode(black_box(bytes), &mut nodes, &mut store);
+                assert!(matches!(done, Decoded::Table { nodes, .. } if nodes as usize == rows.len()));
+            })
+        }
+    };
+    let (mut nodes, mut store) = (vec![0; 4 * rows.len() + 4], vec![0; hashes]);
+    let reading = || {
+        clocked(|| {
+            let done = drevaloci::decode(black_box(&longer), &mut nodes, &mut store);
+            assert!(matches!(done, Decoded::Refused(why) if why.number() == 6));
+        })
+    };
+    let tasks = vec![
+        task(|| clocked(|| timed::original_decode(&bytes))),
+        task(|| timed::original_decode(&bytes)),
+        task(|| timed::original_reading(&longer)),
+        task(library(4 * rows.len(), hashes)),
+        task(library(drevaloci::NODE_NUMBERS, drevaloci::HASH_BYTES)),
+        task(reading),
+    ];
+    let what = format!("{name}, {} nodes, {} bytes", rows.len(), bytes.len());
+    if let Some(times) = contest(aim, &DECODE, tasks) {
+        print(&what, &times, &DECODE_PAIRS);
     }
 }
 
@@ -144,7 +180,7 @@ fn running(aim: &Aim, name: &str, made: &Made, input: Value) {
         largest.borrow_mut().clear();
         largest.borrow_mut().run(&job.bytes)
     };
-    let mut tasks = vec![
+    let tasks = vec![
         task(|| timed::original_exec(&job, false)),
         task(|| timed::original_exec(&job, true)),
         task(|| clocked(|| timed::original_whole(&job.bytes))),
@@ -153,18 +189,9 @@ fn running(aim: &Aim, name: &str, made: &Made, input: Value) {
         task(|| clocked(|| largest.borrow_mut().tables(&job.bytes, &job.table, true))),
         task(|| clocked(|| largest.borrow_mut().tables(&job.bytes, &job.table, false))),
     ];
-    let effort = match aim {
-        Aim::Time(effort) => effort,
-        Aim::Lines => return,
-        Aim::Calls { count, rival, .. } => {
-            let at = RUN.iter().position(|name| name == rival).expect("a rival that is called");
-            for _ in 0..*count {
-                black_box(tasks[at]());
-            }
-            return;
-        }
+    let Some(mut times) = contest(aim, &RUN, tasks) else {
+        return;
     };
-    let mut times = race(effort, tasks);
     let (all, checks) = (&times[5], &times[6]);
     let machine = Time { best: all.best - checks.best, median: all.median - checks.median };
     times.push(machine);
@@ -223,6 +250,25 @@ fn machine(aim: &Aim) {
     mixtures(aim);
 }
 
+/// Every line of naturals.
+fn all_naturals(aim: &Aim) {
+    naturals(aim, "1 to 8", |rng| 1 + rng.below(8));
+    naturals(aim, "1 to 2,048", |rng| 1 + rng.below(2_048));
+    naturals(aim, "of any length", |rng| {
+        let bits = rng.below(32);
+        (1usize << bits) + rng.below(1 << bits)
+    });
+}
+
+/// Every line of decoding.
+fn decoding(aim: &Aim) {
+    for n in [1_000, 1_500, 2_048, NODE_COUNT - 1] {
+        decoding_of(aim, "chain", n, families::chain);
+        decoding_of(aim, "pairs", n, families::pairs);
+        decoding_of(aim, "gates", n, families::gates);
+    }
+}
+
 /// Measures what is asked for.
 fn measure() {
     let args: Vec<String> = std::env::args().collect();
@@ -231,7 +277,10 @@ fn measure() {
         ["--lines"] => return machine(&Aim::Lines),
         ["--calls", count, rival, line] => {
             let count = count.parse().expect("a count");
-            return machine(&Aim::Calls { count, rival: rival.into(), line: line.into() });
+            let aim = Aim::Calls { count, rival: rival.into(), line: line.into() };
+            all_naturals(&aim);
+            decoding(&aim);
+            return machine(&aim);
         }
         _ => {}
     }
@@ -242,26 +291,18 @@ fn measure() {
         Effort { batch: Duration::from_millis(if quick { 4 } else { 20 }), batches: if quick { 5 } else { 31 } };
     println!("Microseconds: the best of {} batches (the median), processor time of one thread.", effort.batches);
     println!("Stores lent to the library are not cleared between calls, except where a column says so.");
+    let aim = Aim::Time(effort);
     if wanted("naturals") {
         heading("Naturals", &NATURALS, &NATURAL_PAIRS);
-        naturals(&effort, "1 to 8", |rng| 1 + rng.below(8));
-        naturals(&effort, "1 to 2,048", |rng| 1 + rng.below(2_048));
-        naturals(&effort, "of any length", |rng| {
-            let bits = rng.below(32);
-            (1usize << bits) + rng.below(1 << bits)
-        });
+        all_naturals(&aim);
     }
     if wanted("decode") {
         heading("Decoding", &DECODE, &DECODE_PAIRS);
-        for n in [1_000, 1_500, 2_048, NODE_COUNT] {
-            decoding_of(&effort, "chain", &families::chain(n, 1));
-            decoding_of(&effort, "pairs", &families::pairs(n, 1));
-            decoding_of(&effort, "gates", &families::gates(n, 1));
-        }
+        decoding(&aim);
     }
     if wanted("machine") {
         heading("The machine and the whole job", &RUN, &RUN_PAIRS);
-        machine(&Aim::Time(effort));
+        machine(&aim);
     }
 }
 
