@@ -17,6 +17,7 @@ use Rattle.scope.specs.Naturals.{Natural, natural, ended, tooLong, moreBits, of
 use Rattle.scope.specs.Reading.{got, fault, streamEnded, lengthTooLong, overBound, bounded, naturalUpTo}
 use Rattle.scope.specs.Numbers.{streamOf}
 use Rattle.common.specs.Numbers.{length-fits, length-too-long}
+use Rattle.bititer.specs.Answers.{atMost}
 use Rattle.bititer.specs.Parts.{ofLengths}
 use Rattle.bititer.proofs.Streams.{length-stream}
 
@@ -137,6 +138,13 @@ natural-told (suc b ∷ l) n r e = go (readNatural l) (λ m t f. natural-told l 
     go ended ih e = let z : _≡_ {A = ℕ} 0 1 = cc in absurd (omega arith)
     go tooLong ih e = let z : _≡_ {A = ℕ} 0 1 = cc in absurd (omega arith)
 
+-- a number within its bound, and one over it
+pub at-most-read : (bound n next : ℕ) → n ≤ bound → got n next ≡ atMost bound n next
+at-most-read bound n next h = rw (le-leb n bound h, atMost)
+
+pub at-most-over : (bound n next : ℕ) → bound < n → fault overBound ≡ atMost bound n next
+at-most-over bound n next h = rw (lt-leb n bound h, atMost)
+
 -- the reader with its bound, at a position
 module _ (bits : List Bit) (most p : ℕ) where
   pub up-to-ended : readNatural (drop p bits) ≡ ended → naturalUpTo bits most p ≡ fault streamEnded
@@ -157,6 +165,14 @@ module _ (bits : List Bit) (most p : ℕ) where
   up-to-read n next e a b h =
       let j : p + (length (drop p bits) - length (drop next bits)) ≡ next = omega (arith, length-drop p bits, length-drop next bits) in
       ap (bounded bits most p (drop p bits)) e ∙ rw (le-leb n most h, bounded) (ap (got n) j)
+
+  -- a natural that was read, whatever its bound
+  pub up-to-natural : (n next : ℕ) → readNatural (drop p bits) ≡ natural n (drop next bits) → p ≤ next → next ≤ length bits
+      → naturalUpTo bits most p ≡ atMost most n next
+  unfolding naturalUpTo bounded
+  up-to-natural n next e a b =
+      let j : p + (length (drop p bits) - length (drop next bits)) ≡ next = omega (arith, length-drop p bits, length-drop next bits) in
+      ap (bounded bits most p (drop p bits)) e ∙ ap (atMost most n) j
 
   -- a natural that was read: from 1 to its bound, the next position within the stream, and what stands from there on
   pub up-to-got : (n next : ℕ) → naturalUpTo bits most p ≡ got n next

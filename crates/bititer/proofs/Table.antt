@@ -5,15 +5,17 @@ use mathlib.Core.List.{List, [], _∷_, _++_}
 use Prim.Native.Nat.{ℕ, zero, suc, _+_, _*_, _-_, _/_, _%_, _^_, _≤_, _<_}
 use native.Mathlib.Omega.{arith}
 use native.Mathlib.Decide.{decLt}
-use lib.ListN.{length, getD, take, drop, length-drop, take-append-drop}
+use lib.Dec.{T, ltb, ltb→lt, lit<}
+use lib.ListN.{length, getD, take, drop, length-drop, take-append-drop, List·getD-eq-default}
 use lib.Seq.{length-take-le, take-take, drop-drop, drop-append-le}
 use Rattle.limits.specs.Limits.{naturalLength}
 use Rattle.report.specs.Bits.{Bit, byteBits, bitsOf, numberFrom, bytesOf}
 use Rattle.scope.specs.Naturals.{Natural, natural, ended, tooLong, moreBits, ofLength, readNatural}
 use Rattle.common.specs.Bits.{AreBits, below-take, below-drop, bits-of-bytes}
 use Rattle.common.specs.Numbers.{length-fits, length-too-long}
-use Rattle.common.specs.Tables.{tabulate-at}
+use Rattle.common.specs.Tables.{length-tabulate, tabulate-at}
 use Rattle.bititer.specs.Windows.{windowBits, Window, afterOne, entryOf, naturalEntries}
+use Rattle.bititer.proofs.Tests.{below, below-at}
 use Rattle.bititer.proofs.Naturals.{natural-zero, natural-told}
 use Rattle.bititer.proofs.Windows.{window-part, window-small, one-begins, length-read}
 
@@ -70,6 +72,22 @@ entry-told b e q some = go (readNatural (byteBits b)) refl q
 entry-of : (b : ℕ) → b < 256 → getD naturalEntries b 0 ≡ entryOf (readNatural (byteBits b))
 unfolding naturalEntries
 entry-of b h = tabulate-at (λ x. entryOf (readNatural (byteBits x))) 256 b 0 h
+
+-- each entry is a byte
+every-entry-small : T (below (λ b. ltb (entryOf (readNatural (byteBits b))) 256) 256)
+unfolding entryOf readNatural ofLength moreBits
+every-entry-small = tt
+
+pub entry-small : (b : ℕ) → getD naturalEntries b 0 < 256
+unfolding naturalEntries
+entry-small b = elim (decLt b 256) [
+  | yes h ↦ rw (entry-of b h)
+      (ltb→lt (entryOf (readNatural (byteBits b))) 256 (below-at (λ x. ltb (entryOf (readNatural (byteBits x))) 256) 256 b every-entry-small h))
+  | no m ↦ past (let h : 256 ≤ b = omega arith in h)
+]
+  where
+    past : 256 ≤ b → getD naturalEntries b 0 < 256
+    past h = rw (List·getD-eq-default naturalEntries 0 {n = b} (omega (arith, length-tabulate (λ x. entryOf (readNatural (byteBits x))) 256))) (lit< tt)
 
 -- a byte whose first bit is 0 has the entry of 1
 zero-entry : (b : ℕ) → b < 128 → getD naturalEntries b 0 ≡ 17

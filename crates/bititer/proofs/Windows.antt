@@ -90,7 +90,8 @@ four-bytes s i h byte =
     byte-first s i (omega arith) ∙ ap (λ (l : List Bit). byteBits a ++ l) (byte-first s (suc i) (omega arith)
     ∙ ap (λ (l : List Bit). byteBits b ++ l) (byte-first s (suc (suc i)) (omega arith)
     ∙ ap (λ (l : List Bit). byteBits c ++ l) (byte-first s (suc (suc (suc i))) (omega arith)))) in
-    let first : take 32 (byteBits a ++ (byteBits b ++ (byteBits c ++ (byteBits d ++ rest)))) ≡ byteBits a ++ (byteBits b ++ (byteBits c ++ (byteBits d ++ []))) =
+    let first : take 32 (byteBits a ++ (byteBits b ++ (byteBits c ++ (byteBits d ++ rest))))
+    ≡ byteBits a ++ (byteBits b ++ (byteBits c ++ (byteBits d ++ []))) =
     refl in
     let e : getD s (i + 1) 0 ≡ b = ap (λ (n : ℕ). getD s n 0) (let q : i + 1 ≡ suc i = omega arith in q) in
     let f : getD s (i + 2) 0 ≡ c = ap (λ (n : ℕ). getD s n 0) (let q : i + 2 ≡ suc (suc i) = omega arith in q) in

@@ -26,6 +26,10 @@ abbrev pub gotNatural : (at : ℕ) → NaturalRead → Got ℕ
 gotNatural at (NaturalRead.Read n bits) = got n (at + bits)
 gotNatural at (NaturalRead.Fault f) = fault (naturalFault f)
 
+-- a number that was read, unless it is over its bound
+abbrev pub atMost : (bound n next : ℕ) → Got ℕ
+atMost bound n next = elim (leb n bound) [ true ↦ got n next | false ↦ fault overBound ]
+
 abbrev pub bytesFault : BytesFault → Fault
 bytesFault BytesFault.Ended = streamEnded
 bytesFault BytesFault.NoRoom = hashesShort

@@ -5,7 +5,7 @@
 use refusal::Refusal;
 ghost use mathlib.Core.Path.{_≡_};
 ghost use mathlib.Core.List.{List};
-ghost use Prim.Native.Nat.{_+_, _*_, _<_, _≤_};
+ghost use Prim.Native.Nat.{ℕ, _+_, _*_, _<_, _≤_};
 ghost use lib.Dec.{leb};
 ghost use lib.ListN.{length, take, drop};
 ghost use Rattle.limits.specs.Limits.{naturalLength, hashBytes, failBytes};
@@ -13,7 +13,7 @@ ghost use Rattle.report.specs.Bits.{Bit, bitsOf, numberFrom};
 ghost use Rattle.scope.specs.Numbers.{streamOf};
 ghost use Rattle.scope.specs.Reading.{refusalAt, code, naturalUpTo, octets};
 ghost use Rattle.scope.specs.Closing.{closes};
-ghost use Rattle.bititer.specs.Answers.{gotCode, naturalFault, gotNatural, gotBytes, stored, storing};
+ghost use Rattle.bititer.specs.Answers.{gotCode, naturalFault, gotNatural, atMost, gotBytes, stored, storing};
 ghost use Rattle.bititer.specs.Parts.{OnesMean, BitsMean};
 ghost use Rattle.bititer.specs.Windows.{windowBits, gotWindow, Window, afterOne, naturalEntries, BeginsWith};
 
@@ -409,6 +409,17 @@ fn bits_after_one(s: &[u8], p: usize, count: u32) -> Part
     Part::Number(n, at)
 }
 
+// A natural that was read with so many bits, unless it is over its bound.
+fn within(n: u32, bits: usize, bound: u32) -> NaturalRead
+    ensures { λ r. ⌜ ((p : ℕ) → gotNatural p r ≡ atMost bound n (p + bits)) ⌝ }
+{
+    if n <= bound {
+        NaturalRead::Read(n, bits)
+    } else {
+        NaturalRead::Fault(NaturalFault::OverBound)
+    }
+}
+
 // The natural from p on, which is at most `bound`, length by length. A length is refused before its bits are asked for.
 pub fn natural_by_lengths(s: &[u8], p: usize, bound: u32) -> NaturalRead
     ensures { λ r. ⌜ gotNatural p r ≡ naturalUpTo (streamOf (now (s .entry))) bound p ⌝ }
@@ -430,12 +441,8 @@ pub fn natural_by_lengths(s: &[u8], p: usize, bound: u32) -> NaturalRead
         at = next;
         lengths -= 1;
     }
-    if n <= bound {
-        let bits = at - p;
-        NaturalRead::Read(n, bits)
-    } else {
-        NaturalRead::Fault(NaturalFault::OverBound)
-    }
+    let bits = at - p;
+    within(n, bits, bound)
 }
 
 // The table of naturals that stand whole in a byte.
@@ -450,10 +457,11 @@ pub fn window(s: &[u8], p: usize) -> WindowRead
     ensures { λ r. ⌜ gotWindow p r ≡ code (streamOf (now (s .entry))) windowBits p ⌝ }
 {
     let i = p / 8;
-    if s.len() < i + 4 {
+    let all = s.len();
+    if all < i + 4 {
         return WindowRead::Ended;
     }
-    if limits::DOSSIER_BYTES < s.len() {
+    if limits::DOSSIER_BYTES < all {
         return WindowRead::Ended;
     }
     WindowRead::Read((common::number_at(s, i) << (p % 8)) >> 7)
@@ -504,11 +512,7 @@ pub fn natural(s: &[u8], p: usize, bound: u32) -> NaturalRead
     let Begins::Natural(n, bits) = natural_in(w) else {
         return natural_by_lengths(s, p, bound);
     };
-    if n <= bound {
-        NaturalRead::Read(n, bits as usize)
-    } else {
-        NaturalRead::Fault(NaturalFault::OverBound)
-    }
+    within(n, bits as usize, bound)
 }
 
 // Why a natural of node i is refused.

@@ -7,7 +7,7 @@ use lib.Seq.{drop-drop}
 use Rattle.scope.specs.Numbers.{streamOf}
 use Rattle.scope.specs.Naturals.{natural, readNatural}
 use Rattle.bititer.specs.Windows.{gotWindow, BeginsWith}
-use Rattle.bititer.proofs.Naturals.{up-to-over, up-to-read}
+use Rattle.bititer.proofs.Naturals.{up-to-natural}
 use Rattle.bititer.proofs.Windows.{window-read}
 use borrow.Author.Needs.{needs}
 use Rattle.bititer.proofs.natural.Statement.{statement}
@@ -43,8 +43,11 @@ natural-by-lengths-requires-2 c κs = search needs
 returns-2 : tie.Need-returns-2
 returns-2 c = search needs
 
-cast-t11 : tie.Need-cast-t11
-cast-t11 c = search needs
+cast-within : tie.Need-cast-within
+cast-within c = search needs
+
+within-requires : tie.Need-within-requires
+within-requires c κs = search needs
 
 returns-3 : tie.Need-returns-3
 returns-3 c =
@@ -52,21 +55,14 @@ returns-3 c =
     let s = streamOf (a .s .now) in
     let w = c .before .before .before .before .before .before .w .given .0 .0 in
     let begun = c .before .before .n .given in
-    let window = window-read (a .s .now) (a .p) w (sym (c .before .before .before .before .before .before .before .before .window .ensures) ∙ ap (gotWindow (a .p)) (c .before .before .before .before .before .before .w .given .1)) in
+    let read = sym (c .before .before .before .before .before .before .before .before .window .ensures)
+    ∙ ap (gotWindow (a .p)) (c .before .before .before .before .before .before .w .given .1) in
+    let window = window-read (a .s .now) (a .p) w read in
     let m = subst (BeginsWith (drop (a .p) s)) (begun .1) (c .before .before .before .before .natural-in .ensures (drop (a .p) s) window) in
-    sym (up-to-read s (a .bound) (a .p) (begun .0 .0) (a .p + begun .0 .1 .0)
+    c .within .ensures (a .p)
+    ∙ sym (up-to-natural s (a .bound) (a .p) (begun .0 .0) (a .p + begun .0 .1 .0)
     (m .0 ∙ ap (natural (begun .0 .0)) (drop-drop (begun .0 .1 .0) (a .p) s)) (omega arith)
-    (omega (arith, m .1, window .1, length-drop (a .p) s)) (c .if1 .taken))
-
-returns-4 : tie.Need-returns-4
-returns-4 c =
-    let a = c .before .before .before .before .before .before .before .before .before .before .args in
-    let s = streamOf (a .s .now) in
-    let w = c .before .before .before .before .before .before .w .given .0 .0 in
-    let begun = c .before .before .n .given in
-    let window = window-read (a .s .now) (a .p) w (sym (c .before .before .before .before .before .before .before .before .window .ensures) ∙ ap (gotWindow (a .p)) (c .before .before .before .before .before .before .w .given .1)) in
-    let m = subst (BeginsWith (drop (a .p) s)) (begun .1) (c .before .before .before .before .natural-in .ensures (drop (a .p) s) window) in
-    sym (up-to-over s (a .bound) (a .p) (begun .0 .0) _ (m .0) (c .if1 .left))
+    (omega (arith, m .1, window .1, length-drop (a .p) s)))
 
 pub natural-spec : {M : Type 1} → statement M
 natural-spec =
@@ -82,6 +78,6 @@ natural-spec =
     enum-told-2
     natural-by-lengths-requires-2
     returns-2
-    cast-t11
-    returns-3
-    returns-4)
+    cast-within
+    within-requires
+    returns-3)

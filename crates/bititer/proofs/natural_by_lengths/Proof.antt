@@ -7,9 +7,9 @@ use borrow.Author.Needs.{needs}
 use lib.ListN.{length, drop, length-drop}
 use Rattle.scope.specs.Numbers.{streamOf}
 use Rattle.scope.specs.Naturals.{natural, readNatural}
-use Rattle.scope.specs.Reading.{got}
+use Rattle.bititer.specs.Answers.{atMost}
 use Rattle.bititer.specs.Parts.{ofLengths, OnesMean, BitsMean}
-use Rattle.bititer.proofs.Naturals.{lengths-turn, lengths-cut, lengths-stop, lengths-done, bits-got, up-to-ended, up-to-long, up-to-over, up-to-read}
+use Rattle.bititer.proofs.Naturals.{lengths-turn, lengths-cut, lengths-stop, lengths-done, bits-got, up-to-ended, up-to-long, up-to-natural}
 use Rattle.bititer.proofs.natural_by_lengths.Statement.{statement}
 use Rattle.bititer.proofs.natural_by_lengths.Tie as tie
 
@@ -88,22 +88,18 @@ loop-again c =
 sub-bits : tie.Need-sub-bits Inv-loop μ-loop
 sub-bits c = search needs
 
+within-requires : tie.Need-within-requires Inv-loop μ-loop
+within-requires c κs = search needs
+
 returns-4 : tie.Need-returns-4 Inv-loop μ-loop
 returns-4 c =
     let a = c .before .before .before .before .before .before .before .before .args in
     let s = streamOf (a .s .now) in
     let l = c .before .before .loop in
     let e = l .inv .0 ∙ lengths-done (l .lengths) _ (let z : l .lengths ≡ 0 = omega arith in z) in
-    ap (got (l .n)) (let q : a .p + (l .at - a .p) ≡ l .at = omega arith in q)
-    ∙ sym (up-to-read s (a .bound) (a .p) (l .n) (l .at) e (l .inv .1) (l .inv .2) (c .if2 .taken))
-
-returns-5 : tie.Need-returns-5 Inv-loop μ-loop
-returns-5 c =
-    let a = c .before .before .before .before .before .before .before .before .args in
-    let s = streamOf (a .s .now) in
-    let l = c .before .before .loop in
-    let e = l .inv .0 ∙ lengths-done (l .lengths) _ (let z : l .lengths ≡ 0 = omega arith in z) in
-    sym (up-to-over s (a .bound) (a .p) (l .n) _ e (c .if2 .left))
+    c .within .ensures (a .p)
+    ∙ ap (atMost (a .bound) (l .n)) (let q : a .p + (l .at - a .p) ≡ l .at = omega arith in q)
+    ∙ sym (up-to-natural s (a .bound) (a .p) (l .n) (l .at) e (l .inv .1) (l .inv .2))
 
 pub natural-by-lengths-spec : {M : Type 1} → statement M
 natural-by-lengths-spec =
@@ -125,5 +121,5 @@ natural-by-lengths-spec =
     loop-less
     loop-again
     sub-bits
-    returns-4
-    returns-5)
+    within-requires
+    returns-4)
