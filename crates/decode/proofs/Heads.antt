@@ -2,7 +2,7 @@
 use mathlib.Core.Path.{_≡_, refl, sym, ap, ap₂, _∙_}
 use mathlib.Core.Bool.{Bool, true, false}
 use mathlib.Core.List.{List, []}
-use Prim.Native.Nat.{ℕ, zero, suc, _+_, _-_, _/_, _^_, _<_, _≤_}
+use Prim.Native.Nat.{ℕ, zero, suc, _+_, _-_, _/_, _%_, _^_, _<_, _≤_}
 use native.Mathlib.Nat.{zero-add}
 use native.Mathlib.Omega.{arith}
 use lib.Dec.{eqb}
@@ -17,7 +17,9 @@ use Rattle.scope.specs.Numbers.{streamOf}
 use Rattle.scope.specs.Reading.{Got, got, fault, Fault, streamEnded, aJet, refusalAt, Reader, _>>=_, give, stop, here, Item, item, next, code, naturalUpTo, child, octets, combinator, wordItem, node}
 use Rattle.common.specs.Checks.{clash}
 use Rattle.common.specs.Bits.{length-within}
+use Rattle.bititer.specs.Windows.{windowBits}
 use Rattle.bititer.proofs.Streams.{next-within, next-past}
+use Rattle.bititer.proofs.Windows.{window-code}
 use Rattle.exactness.specs.Stream.{then-reads}
 use Rattle.decode.specs.declared.NumberRead.{NumberRead}
 use Rattle.decode.specs.declared.Follows.{Follows}
@@ -205,6 +207,43 @@ module _ (bits : List Bit) (i at : ℕ) where
 
   pub no-jet : (held b n jet m : ℕ) → code bits 1 at ≡ got b n → (b ≡ 0 → ⊥) → code bits 1 n ≡ got jet m → (jet ≡ 1 → ⊥) → node bits i held at ≡ wordItem bits m
   no-jet held b n jet m e h f k = second-bit held b n jet m false e h f (ne-eqb jet 1 k)
+
+-- a node by the five bits of its code, which are its kind: two children, one child, or none
+module _ (program : List ℕ) (i at held w : ℕ) (read : code (streamOf program) windowBits at ≡ got w (at + windowBits)) (small : w / 1048576 < 12) where
+  first-three : node (streamOf program) i held at ≡ combinator (streamOf program) i held (w / 1048576 / 4) (at + 1 + 2)
+  first-three =
+      let z : at ≡ at + 0 = omega arith in
+      let low : w < 2 ^ 24 = omega arith in
+      code-read (streamOf program) i at held (w / 2 ^ 24 % 2) (at + 1) (w / 1048576 / 4) (at + 1 + 2)
+      (ap (code (streamOf program) 1) z ∙ window-code program at w 0 1 read (omega arith)
+      ∙ ap (got (w / 2 ^ 24 % 2)) (let y : at + 0 + 1 ≡ at + 1 = omega arith in y))
+      (omega arith)
+      (window-code program at w 1 2 read (omega arith) ∙ ap (λ (n : ℕ). got n (at + 1 + 2)) (let y : w / 2 ^ 22 % 2 ^ 2 ≡ w / 1048576 / 4 = omega arith in y))
+
+  last-two : code (streamOf program) 2 (at + 1 + 2) ≡ got (w / 1048576 % 4) (at + 5)
+  last-two =
+      let y : at + 1 + 2 ≡ at + 3 = omega arith in
+      let z : at + 3 + 2 ≡ at + 5 = omega arith in
+      ap (code (streamOf program) 2) y ∙ window-code program at w 3 2 read (omega arith) ∙ ap (got (w / 2 ^ 20 % 2 ^ 2)) z
+
+  pub kind-two : w / 1048576 < 4 → node (streamOf program) i held at ≡ twoChildren (streamOf program) (w / 1048576) i (at + 5)
+  kind-two h =
+      first-three ∙ combinator-two (streamOf program) i (at + 1 + 2) held (w / 1048576 / 4) (w / 1048576 % 4) (at + 5) (omega arith) last-two
+      ∙ ap (λ (k : ℕ). twoChildren (streamOf program) k i (at + 5)) (let y : 0 + w / 1048576 % 4 ≡ w / 1048576 = omega arith in y)
+
+  pub kind-one : 4 ≤ w / 1048576 → w / 1048576 < 8 → node (streamOf program) i held at ≡ oneChild (streamOf program) (w / 1048576) i (at + 5)
+  kind-one g h =
+      first-three ∙ combinator-one (streamOf program) i (at + 1 + 2) held (w / 1048576 / 4) (w / 1048576 % 4) (at + 5) (omega arith) last-two
+      ∙ ap (λ (k : ℕ). oneChild (streamOf program) k i (at + 5)) (let y : 4 + w / 1048576 % 4 ≡ w / 1048576 = omega arith in y)
+
+  pub kind-none : 8 ≤ w / 1048576 → w / 1048576 < 10
+      → followed (streamOf program) (record { kind = w / 1048576; first = 0; second = 0; third = 0 }) Follows.Nothing (at + 5)
+      ≡ node (streamOf program) i held at
+  kind-none g h =
+      let y : w / 1048576 ≡ 8 + w / 1048576 % 4 = omega arith in
+      ap (λ (k : ℕ). followed (streamOf program) (record { kind = k; first = 0; second = 0; third = 0 }) Follows.Nothing (at + 5)) y
+      ∙ third-leaf (streamOf program) i (at + 5) held (w / 1048576 % 4) (λ q. omega arith) (λ q. omega arith)
+      ∙ sym (first-three ∙ combinator-third (streamOf program) i (at + 1 + 2) held (w / 1048576 / 4) (w / 1048576 % 4) (at + 5) (omega arith) last-two)
 
 -- a word whose bits are not all there, and one whose bits are
 module _ (program : List ℕ) (i n first : ℕ) (within : length program ≤ dossierBytes) where

@@ -1,16 +1,20 @@
 -- Reading a node in two steps, as the code does it: its head, with only the program lent, and then the bytes that follow it.
 -- A head stands for what the requirements' reader of the whole node gives from there on.
+use mathlib.Core.Path.{_≡_}
 use mathlib.Core.Bool.{true, false}
 use mathlib.Core.List.{List, []}
-use Prim.Native.Nat.{ℕ, _+_, _-_, _^_}
+use Prim.Native.Nat.{ℕ, _+_, _-_, _^_, _≤_}
 use lib.Dec.{leb, eqb}
+use lib.ListN.{length, drop}
 use Rattle.limits.specs.Limits.{nodeCount, hashBytes, failBytes}
 use Rattle.refusal.specs.declared.Refusal.the-variants.{StoreShort}
 use Rattle.report.specs.Bits.{Bit}
 use Rattle.scope.specs.Check.{Check, passed, refused}
+use Rattle.scope.specs.Naturals.{natural, readNatural}
 use Rattle.scope.specs.Nodes.{NodeRecord}
 use Rattle.scope.specs.Reading.{Got, got, fault, Reader, _>>=_, give, Item, item, refusalAt, next, code, naturalUpTo, child, octets}
 use Rattle.table.specs.Answers.{recordOf}
+use Rattle.decode.specs.declared.TableRead.{TableRead}
 use Rattle.decode.specs.declared.NumberRead.{NumberRead}
 use Rattle.decode.specs.declared.Follows.{Follows}
 use Rattle.decode.specs.declared.NodeHead.{NodeHead}
@@ -22,6 +26,11 @@ unfoldable pub atNode : {X : Type 0} → (i : ℕ) → Got X → Check (X × ℕ
 unfolding refusalAt
 atNode i (got x next) = passed (x, next)
 atNode i (fault e) = refused (refusalAt i e)
+
+-- a natural that the table tells of, with the position after it
+abbrev pub TableMeans : List Bit → (at : ℕ) → TableRead → Type 0
+TableMeans bits at (TableRead.Read n next) = (readNatural (drop at bits) ≡ natural n (drop next bits)) × (at ≤ next) × (next ≤ length bits)
+TableMeans bits at TableRead.Longer = Unit {0}
 
 -- a head of these numbers
 abbrev pub plain : (kind first second : ℕ) → Follows → NodeHead

@@ -6,6 +6,7 @@ use bititer::BytesFault;
 use bititer::BytesRead;
 use bititer::CodeRead;
 use bititer::NaturalRead;
+use bititer::WindowRead;
 use common::Checked;
 use refusal::Refusal;
 use table::NodeRecord;
@@ -20,10 +21,11 @@ ghost use Rattle.scope.specs.Numbers.{streamOf};
 ghost use Rattle.scope.specs.Reading.{refusalAt, naturalUpTo, child, combinator as combinatorAt, wordItem, node as nodeAt, nodesFrom};
 ghost use Rattle.scope.specs.Closing.{closes, decode as decodeAll};
 ghost use Rattle.bititer.specs.Answers.{naturalFault, bytesFault, gotBytes, stored, storing};
+ghost use Rattle.bititer.specs.Windows.{naturalEntries};
 ghost use Rattle.common.specs.Answers.{checkOf};
 ghost use Rattle.table.specs.Answers.{recordOf};
 ghost use Rattle.decode.specs.Answers.{numberOf, sizeOf, saidOf};
-ghost use Rattle.decode.specs.Heads.{atNode, bytesAfter, withOne, twoChildren, plain, third, last, wordFrom, headOf, countIn, begunOf};
+ghost use Rattle.decode.specs.Heads.{atNode, TableMeans, bytesAfter, withOne, twoChildren, plain, third, last, wordFrom, headOf, countIn, begunOf};
 ghost use Rattle.decode.specs.Stores.{recordPut, NodeMeans, Room, StepMeans, ReadMeans, readAll, settledOf, stoppedOf, tableOf, JudgedMeans, DecodedMeans, sizesWith, sizesOf, left, leftBy};
 
 // How many records and how many bytes of hashes were decoded.
@@ -63,6 +65,12 @@ enum NumberRead {
     Refused(Refusal),
 }
 
+// A natural with the position after it, or its code is too long for the table.
+enum TableRead {
+    Read(u32, usize),
+    Longer,
+}
+
 // How far the stores are filled, in records and in bytes, and the position after the last node read.
 struct Progress {
     nodes: u32,
@@ -86,11 +94,11 @@ fn bytes_refusal(why: BytesFault, i: u32) -> Refusal
     }
 }
 
-// A natural of node i, at most `most`.
-fn number(program: &[u8], at: usize, most: u32, i: u32) -> NumberRead
+// A natural of node i, at most `most`, length by length.
+fn number_by_lengths(program: &[u8], at: usize, most: u32, i: u32) -> NumberRead
     ensures { λ r. ⌜ numberOf r ≡ atNode i (naturalUpTo (streamOf (now (program .entry))) most at) ⌝ }
 {
-    let read = bititer::natural(program, at, most);
+    let read = bititer::natural_by_lengths(program, at, most);
     match read {
         NaturalRead::Read(n, bits) => {
             let next = at + bits;
@@ -100,11 +108,48 @@ fn number(program: &[u8], at: usize, most: u32, i: u32) -> NumberRead
     }
 }
 
+// The natural from a position on by the table of naturals: it, or its length, stands whole in a byte.
+fn by_table(naturals: &[u8; 256], program: &[u8], at: usize) -> TableRead
+    requires { ⌜ now naturals ≡ naturalEntries ⌝ }
+    ensures { λ r. ⌜ TableMeans (streamOf (now (program .entry))) at r ⌝ }
+{
+    let WindowRead::Read(w) = bititer::window(program, at) else {
+        return TableRead::Longer;
+    };
+    let whole = naturals[(w / 131_072) as usize] as u32;
+    if 0 < whole {
+        return TableRead::Read(whole / 16, at + (whole % 16) as usize);
+    }
+    let length = naturals[(w / 65_536 % 256) as usize] as u32;
+    if length == 0 {
+        return TableRead::Longer;
+    }
+    let first = 1 + length % 16;
+    let count = length / 16;
+    let n = bititer::after_one(w, first, count);
+    TableRead::Read(n, at + (first + count) as usize)
+}
+
+// A natural of node i, at most `most`: by the table, or else length by length.
+fn number(naturals: &[u8; 256], program: &[u8], at: usize, most: u32, i: u32) -> NumberRead
+    requires { ⌜ now naturals ≡ naturalEntries ⌝ }
+    ensures { λ r. ⌜ numberOf r ≡ atNode i (naturalUpTo (streamOf (now (program .entry))) most at) ⌝ }
+{
+    let TableRead::Read(n, next) = by_table(naturals, program, at) else {
+        return number_by_lengths(program, at, most, i);
+    };
+    if most < n {
+        return NumberRead::Refused(Refusal::Natural(i));
+    }
+    NumberRead::Number(n, next)
+}
+
 // A child of node i, told by its distance.
-fn child(program: &[u8], i: u32, at: usize) -> NumberRead
+fn child(naturals: &[u8; 256], program: &[u8], i: u32, at: usize) -> NumberRead
+    requires { ⌜ now naturals ≡ naturalEntries ⌝ }
     ensures { λ r. ⌜ numberOf r ≡ atNode i (child (streamOf (now (program .entry))) i at) ⌝ }
 {
-    let distance = number(program, at, i, i);
+    let distance = number(naturals, program, at, i, i);
     let NumberRead::Number(d, next) = distance else {
         return distance;
     };
@@ -137,14 +182,15 @@ fn one_number(kind: u32, read: NumberRead) -> HeadRead
 }
 
 // A node with two children. The first distance is judged before the second is read.
-fn two_children(program: &[u8], kind: u32, i: u32, at: usize) -> HeadRead
+fn two_children(naturals: &[u8; 256], program: &[u8], kind: u32, i: u32, at: usize) -> HeadRead
+    requires { ⌜ now naturals ≡ naturalEntries ⌝ }
     ensures { λ r. ⌜ headOf (streamOf (now (program .entry))) i r ≡ atNode i (twoChildren (streamOf (now (program .entry))) kind i at) ⌝ }
 {
-    let left = child(program, i, at);
+    let left = child(naturals, program, i, at);
     let NumberRead::Number(a, middle) = left else {
         return one_number(kind, left);
     };
-    let right = child(program, i, middle);
+    let right = child(naturals, program, i, middle);
     let NumberRead::Number(b, next) = right else {
         return one_number(kind, right);
     };
@@ -152,11 +198,19 @@ fn two_children(program: &[u8], kind: u32, i: u32, at: usize) -> HeadRead
 }
 
 // Iden, unit, fail, or a disconnect with one child.
-fn third_group(program: &[u8], i: u32, held: u32, sub: u8, at: usize) -> HeadRead
+fn third_group(
+    naturals: &[u8; 256],
+    program: &[u8],
+    i: u32,
+    held: u32,
+    sub: u8,
+    at: usize,
+) -> HeadRead
+    requires { ⌜ now naturals ≡ naturalEntries ⌝ }
     ensures { λ r. ⌜ headOf (streamOf (now (program .entry))) i r ≡ atNode i (third (streamOf (now (program .entry))) i held sub at) ⌝ }
 {
     if sub == 3 {
-        return one_number(table::DISCONNECT1, child(program, i, at));
+        return one_number(table::DISCONNECT1, child(naturals, program, i, at));
     }
     if sub == 2 {
         return HeadRead::Read(head(table::FAIL, held, 0, Follows::Fail), at);
@@ -178,7 +232,15 @@ fn last_group(program: &[u8], i: u32, held: u32, at: usize) -> HeadRead
 }
 
 // A combinator after its two-bit code, where the hash store holds so many bytes.
-fn combinator(program: &[u8], i: u32, held: u32, code: u8, at: usize) -> HeadRead
+fn combinator(
+    naturals: &[u8; 256],
+    program: &[u8],
+    i: u32,
+    held: u32,
+    code: u8,
+    at: usize,
+) -> HeadRead
+    requires { ⌜ now naturals ≡ naturalEntries ⌝ }
     ensures { λ r. ⌜ headOf (streamOf (now (program .entry))) i r ≡ atNode i (combinatorAt (streamOf (now (program .entry))) i held code at) ⌝ }
 {
     if 3 <= code {
@@ -188,12 +250,12 @@ fn combinator(program: &[u8], i: u32, held: u32, code: u8, at: usize) -> HeadRea
         return HeadRead::Refused(Refusal::StreamEnded(i));
     };
     if code == 0 {
-        return two_children(program, table::COMP + sub as u32, i, next);
+        return two_children(naturals, program, table::COMP + sub as u32, i, next);
     }
     if code == 1 {
-        return one_number(table::INJL + sub as u32, child(program, i, next));
+        return one_number(table::INJL + sub as u32, child(naturals, program, i, next));
     }
-    third_group(program, i, held, sub, next)
+    third_group(naturals, program, i, held, sub, next)
 }
 
 // A word of n whose bits begin at a position.
@@ -209,18 +271,20 @@ fn word_from(program: &[u8], i: u32, n: u32, first: usize) -> HeadRead
 }
 
 // A word after its two bits.
-fn word(program: &[u8], i: u32, at: usize) -> HeadRead
+fn word(naturals: &[u8; 256], program: &[u8], i: u32, at: usize) -> HeadRead
+    requires { ⌜ now naturals ≡ naturalEntries ⌝ }
     ensures { λ r. ⌜ headOf (streamOf (now (program .entry))) i r ≡ atNode i (wordItem (streamOf (now (program .entry))) at) ⌝ }
 {
-    let size = number(program, at, limits::WORD_MOST, i);
+    let size = number(naturals, program, at, limits::WORD_MOST, i);
     let NumberRead::Number(n, first) = size else {
         return one_number(table::WORD, size);
     };
     word_from(program, i, n, first)
 }
 
-// The head of node i, where the hash store holds so many bytes.
-fn node_head(program: &[u8], i: u32, held: u32, at: usize) -> HeadRead
+// The head of node i bit by bit, where the hash store holds so many bytes.
+fn head_by_bits(naturals: &[u8; 256], program: &[u8], i: u32, held: u32, at: usize) -> HeadRead
+    requires { ⌜ now naturals ≡ naturalEntries ⌝ }
     ensures { λ r. ⌜ headOf (streamOf (now (program .entry))) i r ≡ atNode i (nodeAt (streamOf (now (program .entry))) i held at) ⌝ }
 {
     let CodeRead::Read(other, second) = bititer::bit(program, at) else {
@@ -230,7 +294,7 @@ fn node_head(program: &[u8], i: u32, held: u32, at: usize) -> HeadRead
         let CodeRead::Read(code, next) = bititer::two_bits(program, second) else {
             return HeadRead::Refused(Refusal::StreamEnded(i));
         };
-        return combinator(program, i, held, code, next);
+        return combinator(naturals, program, i, held, code, next);
     }
     let CodeRead::Read(jet, next) = bititer::bit(program, second) else {
         return HeadRead::Refused(Refusal::StreamEnded(i));
@@ -238,7 +302,28 @@ fn node_head(program: &[u8], i: u32, held: u32, at: usize) -> HeadRead
     if jet == 1 {
         return HeadRead::Refused(Refusal::Jet(i));
     }
-    word(program, i, next)
+    word(naturals, program, i, next)
+}
+
+// The head of node i, where the hash store holds so many bytes: a window has the five bits that are the kind of most.
+fn node_head(naturals: &[u8; 256], program: &[u8], i: u32, held: u32, at: usize) -> HeadRead
+    requires { ⌜ now naturals ≡ naturalEntries ⌝ }
+    ensures { λ r. ⌜ headOf (streamOf (now (program .entry))) i r ≡ atNode i (nodeAt (streamOf (now (program .entry))) i held at) ⌝ }
+{
+    let WindowRead::Read(w) = bititer::window(program, at) else {
+        return head_by_bits(naturals, program, i, held, at);
+    };
+    let kind = w / 1_048_576;
+    if kind <= table::DISCONNECT {
+        return two_children(naturals, program, kind, i, at + 5);
+    }
+    if kind <= table::DROP {
+        return one_number(kind, child(naturals, program, i, at + 5));
+    }
+    if kind <= table::UNIT {
+        return HeadRead::Read(head(kind, 0, 0, Follows::Nothing), at + 5);
+    }
+    head_by_bits(naturals, program, i, held, at)
 }
 
 // How many bytes follow.
@@ -271,11 +356,18 @@ fn store_bytes(
 }
 
 // Node i whole: its head, with the position after its bytes, which stand in the hash store from `held` on.
-fn read_node(program: &[u8], hashes: &mut [u8], i: u32, held: u32, at: usize) -> HeadRead
-    requires { ⌜ held ≤ length (now hashes) ⌝ }
+fn read_node(
+    naturals: &[u8; 256],
+    program: &[u8],
+    hashes: &mut [u8],
+    i: u32,
+    held: u32,
+    at: usize,
+) -> HeadRead
+    requires { ⌜ (now naturals ≡ naturalEntries) × (held ≤ length (now hashes)) ⌝ }
     ensures { λ r. ⌜ NodeMeans (streamOf (now (program .entry))) i held at (now (hashes .entry)) r (now (hashes .exit)) ⌝ }
 {
-    let read = node_head(program, i, held, at);
+    let read = node_head(naturals, program, i, held, at);
     let HeadRead::Read(h, middle) = read else {
         return read;
     };
@@ -300,12 +392,18 @@ fn put_record(nodes: &mut [u32], i: u32, r: NodeRecord)
 }
 
 // The next node, into both stores.
-fn next_node(program: &[u8], nodes: &mut [u32], hashes: &mut [u8], done: Progress) -> Progressed
-    requires { ⌜ Room (now nodes) (now hashes) done ⌝ }
+fn next_node(
+    naturals: &[u8; 256],
+    program: &[u8],
+    nodes: &mut [u32],
+    hashes: &mut [u8],
+    done: Progress,
+) -> Progressed
+    requires { ⌜ (now naturals ≡ naturalEntries) × (Room (now nodes) (now hashes) done) ⌝ }
     ensures { λ r. ⌜ StepMeans (streamOf (now (program .entry))) (now (nodes .entry)) (now (hashes .entry)) done r (now (nodes .exit)) (now (hashes .exit)) ⌝ }
 {
     let i = done.nodes;
-    let read = read_node(program, hashes, i, done.hashes, done.at);
+    let read = read_node(naturals, program, hashes, i, done.hashes, done.at);
     match read {
         HeadRead::Read(h, next) => {
             let node = h.node;
@@ -323,13 +421,14 @@ fn next_node(program: &[u8], nodes: &mut [u32], hashes: &mut [u8], done: Progres
 
 // So many nodes from a position on, into both stores.
 fn read_nodes(
+    naturals: &[u8; 256],
     program: &[u8],
     nodes: &mut [u32],
     hashes: &mut [u8],
     count: u32,
     first: usize,
 ) -> Progressed
-    requires { ⌜ (1 ≤ count) × (count ≤ nodeCount) × (nodeNumbers * count ≤ length (now nodes)) ⌝ }
+    requires { ⌜ (now naturals ≡ naturalEntries) × ((1 ≤ count) × (count ≤ nodeCount) × (nodeNumbers * count ≤ length (now nodes))) ⌝ }
     ensures { λ r. ⌜ ReadMeans (nodesFrom (streamOf (now (program .entry))) (length (now (hashes .entry))) count 0 [] [] first) r
         (now (nodes .exit)) (now (hashes .exit)) ⌝ }
 {
@@ -339,7 +438,7 @@ fn read_nodes(
         at: first,
     };
     while done.nodes < count {
-        let step = next_node(program, nodes, hashes, done);
+        let step = next_node(naturals, program, nodes, hashes, done);
         let Progressed::Read(after) = step else {
             return step;
         };
@@ -349,10 +448,11 @@ fn read_nodes(
 }
 
 // The count of nodes (3, 4), which the node store has room for (17 at 3).
-fn read_count(program: &[u8], room: usize) -> NumberRead
+fn read_count(naturals: &[u8; 256], program: &[u8], room: usize) -> NumberRead
+    requires { ⌜ now naturals ≡ naturalEntries ⌝ }
     ensures { λ r. ⌜ numberOf r ≡ countIn (streamOf (now (program .entry))) room ⌝ }
 {
-    let count = number(program, 0, limits::NODE_COUNT as u32, 0);
+    let count = number(naturals, program, 0, limits::NODE_COUNT as u32, 0);
     let NumberRead::Number(n, next) = count else {
         return count;
     };
@@ -384,11 +484,12 @@ fn read_table(program: &[u8], nodes: &mut [u32], hashes: &mut [u8]) -> Progresse
     if limits::DOSSIER_BYTES < program.len() {
         return Progressed::Refused(Refusal::Header(0));
     }
-    let count = read_count(program, nodes.len() / limits::NODE_NUMBERS);
+    let naturals = bititer::natural_table();
+    let count = read_count(&naturals, program, nodes.len() / limits::NODE_NUMBERS);
     let NumberRead::Number(n, first) = count else {
         return begun(count);
     };
-    read_nodes(program, nodes, hashes, n, first)
+    read_nodes(&naturals, program, nodes, hashes, n, first)
 }
 
 // So many records and so many bytes.

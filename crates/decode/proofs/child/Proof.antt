@@ -26,8 +26,8 @@ returns c =
     let at = start .args .at in
     ap numberOf (c .enum-told .given .1) ∙ child-stops bits i at _ (number-stopped i _ _ _ (c .before .before .number .ensures) (c .enum-told .given .1))
 
-sub-t7 : tie.Need-sub-t7
-sub-t7 c =
+sub-t8 : tie.Need-sub-t8
+sub-t8 c =
     let start = c .before .before .before .before .before in
     let bits = streamOf (start .args .program .now) in
     let i = start .args .i in
@@ -44,4 +44,4 @@ returns-2 c =
 
 pub child-spec : {M : Type 1} → statement M
 child-spec =
-    tie.close (tie.spec number-requires enum-known-distance enum-told returns sub-t7 returns-2)
+    tie.close (tie.spec number-requires enum-known-distance enum-told returns sub-t8 returns-2)

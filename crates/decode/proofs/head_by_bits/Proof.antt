@@ -1,4 +1,4 @@
--- `decode::node_head` meets its contract: the first bits tell a combinator, a jet and a word apart.
+-- `decode::head_by_bits` meets its contract: the first bits tell a combinator, a jet and a word apart.
 use mathlib.Core.Path.{_≡_, sym, ap, _∙_}
 use borrow.Author.Needs.{needs}
 use Rattle.scope.specs.Reading.{got, code}
@@ -6,8 +6,8 @@ use Rattle.scope.specs.Numbers.{streamOf}
 use Rattle.bititer.specs.Answers.{gotCode}
 use Rattle.decode.specs.Heads.{atNode}
 use Rattle.decode.proofs.Heads.{at-ended, node-ended, code-ended, code-read, jet-ended, jet-read, no-jet}
-use Rattle.decode.proofs.node_head.Statement.{statement}
-use Rattle.decode.proofs.node_head.Tie as tie
+use Rattle.decode.proofs.head_by_bits.Statement.{statement}
+use Rattle.decode.proofs.head_by_bits.Tie as tie
 
 bit-requires : tie.Need-bit-requires
 bit-requires c κs = search needs
@@ -128,8 +128,8 @@ returns-6 c =
     ∙ ap (atNode i) (sym (no-jet bits i at held b n _ _ e (c .before .before .before .before .before .before .if1 .left)
     (sym (c .before .before .before .before .before .bit2 .ensures) ∙ ap gotCode (c .before .before .before .jet .given .1)) (c .before .if2 .left)))
 
-pub node-head-spec : {M : Type 1} → statement M
-node-head-spec =
+pub head-by-bits-spec : {M : Type 1} → statement M
+head-by-bits-spec =
     tie.close
     (tie.spec
     bit-requires

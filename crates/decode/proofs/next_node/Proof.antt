@@ -16,22 +16,22 @@ enum-known-read c = search needs
 put-record-requires : tie.Need-put-record-requires
 put-record-requires c κs = search needs
 
-add-t18 : tie.Need-add-t18
-add-t18 c = search needs
+add-t19 : tie.Need-add-t19
+add-t19 c = search needs
 
 bytes-of-requires : tie.Need-bytes-of-requires
 bytes-of-requires c κs = search needs
 
-add-t20 : tie.Need-add-t20
-add-t20 c =
+add-t21 : tie.Need-add-t21
+add-t21 c =
     let start = c .before .before .before .before .before .before .before .before .before .before .before .before .before .before .before .before .before in
     record {
       fits = omega (
         arith,
         c .before .bytes-of .ensures,
         size-most (c .before .before .before .before .before .before .before .before .read .given .0 .0 .follows),
-        start .pre .few,
-        start .pre .most,
+        start .pre .1 .few,
+        start .pre .1 .most,
       );
     }
 
@@ -55,7 +55,7 @@ returns c =
     let done = start .args .done in
     let m = told-node bits (done .nodes) (done .hashes) (done .at) hashes _ _ _ (read .given .1)
     (c .before .before .before .before .before .before .before .before .before .before .before .before .read-node .ensures) in
-    step-read bits nodes hashes done (start .pre) (read .given .0 .0) (read .given .0 .1 .0) _ _ m
+    step-read bits nodes hashes done (start .pre .1) (read .given .0 .0) (read .given .0 .1 .0) _ _ m
     (c .before .before .before .before .put-record .ensures) (bytes-of .result) (bytes-of .ensures)
     (omega (arith, bytes-of .ensures, size-most (read .given .0 .0 .follows)))
 
@@ -69,7 +69,7 @@ returns-2 c =
     let nodes = start .args .nodes .now in
     let hashes = start .args .hashes .now in
     let done = start .args .done in
-    step-refused bits nodes hashes done (start .pre) _
+    step-refused bits nodes hashes done (start .pre .1) _
     (told-node bits (done .nodes) (done .hashes) (done .at) hashes _ _ _ (c .before .read2 .given .1)
     (c .before .before .before .before .before .read-node .ensures))
 
@@ -80,9 +80,9 @@ next-node-spec =
     read-node-requires
     enum-known-read
     put-record-requires
-    add-t18
+    add-t19
     bytes-of-requires
-    add-t20
+    add-t21
     enum-known-read-2
     same-length
     same-length-2

@@ -15,13 +15,13 @@ use Rattle.decode.proofs.read_nodes.Statement.{statement}
 use Rattle.decode.proofs.read_nodes.Tie as tie
 
 abbrev Inv-loop : tie.InvT-loop
-Inv-loop program nodes₀ hashes₀ count first done₀ nodes hashes done =
+Inv-loop naturals program nodes₀ hashes₀ count first done₀ nodes hashes done =
     (nodesFrom (streamOf program) (length hashes₀) count 0 [] [] first ≡ more (streamOf program) (length hashes₀) (count - done .nodes) nodes hashes done)
     × (done .nodes ≤ count) × (done .hashes ≤ length hashes) × (done .hashes ≤ failBytes * done .nodes) × (length nodes ≡ length nodes₀)
     × (length hashes ≡ length hashes₀)
 
 abbrev μ-loop : tie.MeasureT-loop
-μ-loop program nodes₀ hashes₀ count first done₀ nodes hashes done = count - done .nodes
+μ-loop naturals program nodes₀ hashes₀ count first done₀ nodes hashes done = count - done .nodes
 
 loop-holds : tie.Need-loop-holds Inv-loop μ-loop
 loop-holds c =
@@ -87,7 +87,7 @@ loop-again c =
     let t = turn-goes bits wanted (length (start .args .hashes .now)) count (l .nodes) (l .hashes) (l .done) (l .inv .0) (if1 .taken)
     (l .inv .5) (next-node .result) _ _ (next-node .ensures) _ (c .before .step .given .1) in
     let less = if1 .taken in
-    (t .3, omega arith, omega (arith, next-node .kept .1 .1 .0), t .2, next-node .kept .1 .0 ∙ l .inv .4, next-node .kept .1 .1 .0 ∙ l .inv .5)
+    (t .3, omega arith, omega (arith, next-node .kept .1 .1 .1 .0), t .2, next-node .kept .1 .1 .0 ∙ l .inv .4, next-node .kept .1 .1 .1 .0 ∙ l .inv .5)
 
 same-length-3 : tie.Need-same-length-3 Inv-loop μ-loop
 same-length-3 c = search needs

@@ -19,6 +19,9 @@ returns c =
     let bytes = length (start .args .hashes .now) in
     too-long program room bytes (c .if1 .taken)
 
+natural-table-requires : tie.Need-natural-table-requires
+natural-table-requires c κs = search needs
+
 read-count-requires : tie.Need-read-count-requires
 read-count-requires c κs = search needs
 
@@ -33,24 +36,24 @@ begun-requires c κs = search needs
 
 returns-2 : tie.Need-returns-2
 returns-2 c =
-    let start = c .before .before .before .before .before .before .before .before in
+    let start = c .before .before .before .before .before .before .before .before .before .before in
     let program = start .args .program .now in
     let room = length (start .args .nodes .now) / nodeNumbers in
     let bytes = length (start .args .hashes .now) in
     let told = c .before .enum-told .given .1 in
     begun-means _ _ _ _ _ _ (c .begun .ensures) told
-    (count-refused program room bytes _ (c .before .before .before .before .if1 .left)
+    (count-refused program room bytes _ (c .before .before .before .before .before .before .if1 .left)
     (sym (c .before .before .before .read-count .ensures) ∙ ap numberOf told))
 
 read-nodes-requires : tie.Need-read-nodes-requires
 read-nodes-requires c κs =
-    let start = c .before .before .before .before .before .before .before .before .before .before in
+    let start = c .before .before .before .before .before .before .before .before .before .before .before .before .before in
     let program = start .args .program .now in
     let room = length (start .args .nodes .now) / nodeNumbers in
     let bytes = length (start .args .hashes .now) in
     let b = count-bounds (streamOf program) room _ _
-    (sym (c .before .before .before .before .before .read-count .ensures) ∙ ap numberOf (c .before .before .before .count .given .1)) in
-    (b .0, b .1, omega arith)
+    (sym (c .before .before .before .before .before .before .read-count .ensures) ∙ ap numberOf (c .before .before .before .before .count .given .1)) in
+    (c .before .before .before .before .before .before .before .before .natural-table .ensures, (b .0, b .1, omega arith))
 
 same-length : tie.Need-same-length
 same-length c = search needs
@@ -60,15 +63,16 @@ same-length-2 c = search needs
 
 returns-3 : tie.Need-returns-3
 returns-3 c =
-    let if1-found = c .before .before .before .before .before .before .before .before .before .before .before .if1 in
-    let read-count-call = c .before .before .before .before .before .before .before .before .before .before .read-count in
-    let count-found = c .before .before .before .before .before .before .before .before .count in
-    let start = c .before .before .before .before .before .before .before .before .before .before .before .before .before .before .before in
+    let if1-found = c .before .before .before .before .before .before .before .before .before .before .before .before .before .before .if1 in
+    let read-count-call = c .before .before .before .before .before .before .before .before .before .before .before .read-count in
+    let count-found = c .before .before .before .before .before .before .before .before .before .count in
+    let start =
+    c .before .before .before .before .before .before .before .before .before .before .before .before .before .before .before .before .before .before in
     let read-nodes = c .before .before .before .before .read-nodes in
     let program = start .args .program .now in
     let room = length (start .args .nodes .now) / nodeNumbers in
     let bytes = length (start .args .hashes .now) in
-    read-means _ _ (read-nodes .result) (read-nodes .last .1 .0) (read-nodes .last .1 .1 .0)
+    read-means _ _ (read-nodes .result) (read-nodes .last .1 .1 .0) (read-nodes .last .1 .1 .1 .0)
     (count-passed program room bytes _ _ (if1-found .left) (sym (read-count-call .ensures) ∙ ap numberOf (count-found .given .1))) (read-nodes .ensures)
 
 pub read-table-spec : {M : Type 1} → statement M
@@ -76,6 +80,7 @@ read-table-spec =
     tie.close
     (tie.spec
     returns
+    natural-table-requires
     read-count-requires
     enum-known-count
     enum-told
