@@ -26,7 +26,7 @@ bits-within l p (suc n) h =
     ∙ ap (take (suc n)) (sym (drop-cons l p 0 (omega arith)))
 
 -- a list with nothing in it gives zeros
-zeros-from : (p n : ℕ) → zeros n ≡ bitsFrom [] p n
+pub zeros-from : (p n : ℕ) → zeros n ≡ bitsFrom [] p n
 unfolding bitsFrom
 zeros-from p zero = refl
 zeros-from p (suc n) = ap (λ (t : List ℕ). 0 ∷ t) (zeros-from (suc p) n)

@@ -1,6 +1,6 @@
--- A run of cells copied. The invariant: the copy of all n cells of the old list is that of the cells left, in the list as it is now.
+-- A run of cells copied. The invariant: the copy of the cells that the whole bytes left is that of the cells left, in the list as it is now.
 -- Those cells are the measure.
-use Rattle.cells.proofs.Copies.{copy-start, copy-turn, copy-done}
+use Rattle.cells.proofs.Copies.{copy-turn, copy-done}
 use Rattle.common.specs.Cells.{copyBits}
 use Rattle.report.specs.Bits.{bitsOf}
 use lib.ListN.{length}
@@ -12,13 +12,19 @@ use Rattle.cells.proofs.copy_cells.Tie as tie
 
 abbrev Inv-loop : tie.InvT-loop
 Inv-loop cells₀ from to n i₀ cells i =
-    (copyBits (bitsOf cells₀) from to n ≡ copyBits (bitsOf cells) (from + i) (to + i) (n - i)) × (i ≤ n) × (length cells ≡ length cells₀)
+    (copyBits (bitsOf cells₀) (from + i₀) (to + i₀) (n - i₀) ≡ copyBits (bitsOf cells) (from + i) (to + i) (n - i)) × (i ≤ n) × (length cells ≡ length cells₀)
 
 abbrev μ-loop : tie.MeasureT-loop
 μ-loop cells₀ from to n i₀ cells i = n - i
 
+copy-front-requires : tie.Need-copy-front-requires Inv-loop μ-loop
+copy-front-requires c κs = search needs
+
+cast-i : tie.Need-cast-i Inv-loop μ-loop
+cast-i c = search needs
+
 loop-holds : tie.Need-loop-holds Inv-loop μ-loop
-loop-holds c = (copy-start _ _ _ _, search needs, refl)
+loop-holds c = (refl, c .before .before .copy-front .ensures .0, refl)
 
 cast-copy-step : tie.Need-cast-copy-step Inv-loop μ-loop
 cast-copy-step c = search needs
@@ -46,7 +52,7 @@ loop-less c = search needs
 
 loop-again : tie.Need-loop-again Inv-loop μ-loop
 loop-again c =
-    let a = c .before .before .before .before .before .before .before .args in
+    let a = c .before .before .before .before .before .before .before .before .before .before .before .args in
     let l = c .before .before .before .before .before .loop in
     let r = c .before .before .copy-step in (
       l .inv .0 ∙ copy-turn (bitsOf (l .cells)) _ (a .from) (a .to) (a .n) (l .i) (r .result) (r .ensures .2),
@@ -58,7 +64,9 @@ same-length : tie.Need-same-length Inv-loop μ-loop
 same-length c = search needs
 
 returns : tie.Need-returns Inv-loop μ-loop
-returns c = sym (c .before .loop .inv .0 ∙ copy-done _ _ _ (c .before .before .before .args .n) (c .before .loop .i) (c .loop-test .left))
+returns c =
+    sym (c .before .before .before .before .copy-front .ensures .1 ∙ c .before .loop .inv .0
+    ∙ copy-done _ _ _ (c .before .before .before .before .before .before .before .args .n) (c .before .loop .i) (c .loop-test .left))
 
 pub copy-cells-spec : {M : Type 1} → statement M
 copy-cells-spec =
@@ -66,6 +74,8 @@ copy-cells-spec =
     (tie.spec
     Inv-loop
     μ-loop
+    copy-front-requires
+    cast-i
     loop-holds
     cast-copy-step
     add-copy-step

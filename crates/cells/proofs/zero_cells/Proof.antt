@@ -1,6 +1,6 @@
--- A run of cells cleared. The invariant: clearing all n cells of the old list is clearing those left, in the list as it is now.
+-- A run of cells cleared. The invariant: clearing the cells that the whole bytes left is clearing those left, in the list as it is now.
 -- Those cells are the measure.
-use Rattle.cells.proofs.Parts.{zero-start, zero-turn, zero-done}
+use Rattle.cells.proofs.Parts.{zero-turn, zero-done}
 use Rattle.scope.specs.Numbers.{zeros}
 use lib.Seq.{sets}
 use Rattle.report.specs.Bits.{bitsOf}
@@ -13,15 +13,19 @@ use Rattle.cells.proofs.zero_cells.Tie as tie
 
 abbrev Inv-loop : tie.InvT-loop
 Inv-loop cells₀ at n done₀ cells done =
-    (sets (bitsOf cells₀) at (zeros n) ≡ sets (bitsOf cells) (at + done) (zeros (n - done))) × (done ≤ n) × (length cells ≡ length cells₀)
+    (sets (bitsOf cells₀) (at + done₀) (zeros (n - done₀)) ≡ sets (bitsOf cells) (at + done) (zeros (n - done))) × (done ≤ n) × (length cells ≡ length cells₀)
 
 abbrev μ-loop : tie.MeasureT-loop
 μ-loop cells₀ at n done₀ cells done = n - done
 
+zero-front-requires : tie.Need-zero-front-requires Inv-loop μ-loop
+zero-front-requires c κs = search needs
+
+cast-done : tie.Need-cast-done Inv-loop μ-loop
+cast-done c = search needs
+
 loop-holds : tie.Need-loop-holds Inv-loop μ-loop
-loop-holds c =
-    let a = c .before .args in
-    (zero-start (bitsOf (a .cells .now)) (a .at) (a .n), search needs, refl)
+loop-holds c = (refl, c .before .before .zero-front .ensures .0, refl)
 
 cast-zero-step : tie.Need-cast-zero-step Inv-loop μ-loop
 cast-zero-step c = search needs
@@ -43,7 +47,7 @@ loop-less c = search needs
 
 loop-again : tie.Need-loop-again Inv-loop μ-loop
 loop-again c =
-    let a = c .before .before .before .before .before .before .before .args in
+    let a = c .before .before .before .before .before .before .before .before .before .before .before .args in
     let l = c .before .before .before .before .before .loop in
     let r = c .before .before .zero-step in (
       l .inv .0 ∙ zero-turn (bitsOf (l .cells)) _ (a .at) (a .n) (l .done) (r .result) (r .ensures .2),
@@ -57,8 +61,9 @@ same-length c = search needs
 returns : tie.Need-returns Inv-loop μ-loop
 returns c =
     let l = c .before .loop in
-    let a = c .before .before .before .args in
-    sym (l .inv .0 ∙ zero-done (bitsOf (l .cells)) (a .at + l .done) (a .n) (l .done) (c .loop-test .left))
+    let a = c .before .before .before .before .before .before .before .args in
+    sym (c .before .before .before .before .zero-front .ensures .1 ∙ l .inv .0
+    ∙ zero-done (bitsOf (l .cells)) (a .at + l .done) (a .n) (l .done) (c .loop-test .left))
 
 pub zero-cells-spec : {M : Type 1} → statement M
 zero-cells-spec =
@@ -66,6 +71,8 @@ zero-cells-spec =
     (tie.spec
     Inv-loop
     μ-loop
+    zero-front-requires
+    cast-done
     loop-holds
     cast-zero-step
     add-zero-step
