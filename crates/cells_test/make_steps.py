@@ -1,4 +1,5 @@
-# make_steps.py OUT: writes data/steps, steps on packed cells with what each leaves, by a list of bits that knows nothing of bytes.
+# make_steps.py FOLDER: writes the files `steps` and `runs`, steps on packed cells with what each leaves, by a list of bits that knows
+# nothing of bytes.
 # A cell past the end reads as 0 and is not written; a copy goes bit by bit from the first cell on, each from the list as it then is.
 import os
 import random
@@ -86,8 +87,28 @@ def puts(rng):
         yield step_record(rng.randbytes(n), PUT, place(rng, cells), place(rng, cells), count(rng, cells))
 
 
+# Cells 0 to 8, sixteen of them: the second byte is copied after it was written.
+def sixteen_from_0_to_8():
+    return step_record(bytes([0xA5, 0x3C, 0xFF]), COPY, 0, 8, 16)
+
+
+# Source and target at the same place in a byte, every place and every count of cells from 0 to 70: copies that overlap either way or lie
+# apart, puts, and clearing.
+def runs(rng):
+    for place in range(8):
+        for n in range(71):
+            a, b = rng.choice([(0, 1), (0, 2), (1, 0), (2, 0), (3, 3), (0, 5), (5, 0), (2, 1), (1, 2)])
+            yield step_record(rng.randbytes(15), COPY, 8 * a + place, 8 * b + place, n)
+            yield step_record(rng.randbytes(11), *rng.choice([(PUT, 8 * a + place, 8 * b + place, n), (ZERO, 8 * a + place, n, 0)]))
+
+
+def write_file(folder, name, steps):
+    with open(os.path.join(folder, name), "wb") as file:
+        file.write(b"".join(steps))
+    print(name, {op: sum(s[7] == op for s in steps) for op in range(5)}, sum(map(len, steps)), "bytes")
+
+
 if __name__ == "__main__":
     rng = random.Random(1)
-    steps = [*made(rng), *near(rng), *puts(rng)]
-    open(sys.argv[1], "wb").write(b"".join(steps))
-    print({op: sum(s[7] == op for s in steps) for op in range(5)}, sum(map(len, steps)), "bytes")
+    write_file(sys.argv[1], "steps", [*made(rng), *near(rng), *puts(rng)])
+    write_file(sys.argv[1], "runs", [sixteen_from_0_to_8(), *runs(rng)])

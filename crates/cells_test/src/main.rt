@@ -1,5 +1,5 @@
-// Makes steps on packed cells, and prints how many there were and how many left something else than the file `steps` says.
-// data/README.md says what stands in a record, and how the file was made.
+// Makes steps on packed cells, and prints for each file how many there were and how many left something else than it says.
+// data/README.md says what stands in a record, and how the files were made.
 use packed::Tally;
 ghost use mathlib.Core.Path.{_≡_};
 ghost use lib.ListN.{length};
@@ -95,8 +95,8 @@ fn replay(file: &[u8]) -> Tally {
     t
 }
 
-fn main() {
-    let path = b"steps";
+// The records of the file of that name, replayed, and what came of them printed.
+fn replay_file(path: &[u8]) {
     let fd = os::open_read(path);
     if fd < 0 {
         os::fail(path);
@@ -106,4 +106,9 @@ fn main() {
     let n = io::read_full(fd, &mut file);
     libc::close(fd);
     packed::print_tally(path, replay(&file[..n]));
+}
+
+fn main() {
+    replay_file(b"steps");
+    replay_file(b"runs");
 }
