@@ -214,6 +214,9 @@ fn copies(aim: &Aim) {
     let rows = vec![Row::Iden, Row::Drop(0), Row::InjL(1)];
     let made = families::fixed(rows, &source, &target);
     running(aim, "copy of 16,384 bits, not aligned, random", &made, any_value(&mut rng, &source));
+    let odd = types::of_width(32_767);
+    let doubled = families::fixed(families::doubled_iden(6), &odd, &odd);
+    running(aim, "copy of 32,767 bits 64 times, not aligned", &doubled, any_value(&mut rng, &odd));
 }
 
 /// Comps: deep and doubled, at several widths.
