@@ -20,8 +20,8 @@ pub enum Refusal {
     HiddenElsewhere(u32),
     /// 8: both children of a case hidden. Place: the case.
     BothHidden(u32),
-    /// 9: a hidden hash again. Place: the later node.
-    HiddenRepeated(u32),
+    /// 9: a hidden hash again, or a node equal to an earlier one. Place: the later node.
+    NodeRepeated(u32),
     /// 10: a whole byte left, or padding not zero. Place: the node count.
     Closing(u32),
     /// 11: a disconnect with one child. Place: the first such node.
@@ -60,7 +60,7 @@ const CASES: [(u32, fn(u32) -> Refusal); 21] = [
     (6, CanonicalOrder),
     (7, HiddenElsewhere),
     (8, BothHidden),
-    (9, HiddenRepeated),
+    (9, NodeRepeated),
     (10, Closing),
     (11, OneChildDisconnect),
     (12, Arrow),
@@ -99,7 +99,7 @@ impl Refusal {
             | CanonicalOrder(p)
             | HiddenElsewhere(p)
             | BothHidden(p)
-            | HiddenRepeated(p)
+            | NodeRepeated(p)
             | Closing(p)
             | OneChildDisconnect(p)
             | Arrow(p)

@@ -7,7 +7,7 @@ use Prim.Native.Nat.{ℕ, _-_, _<_}
 use lib.Dec.{eqb}
 use lib.ListN.{length}
 use borrow.Author.Tests.{eqb-true, eq-eqb, not-true}
-use Rattle.refusal.specs.declared.Refusal.the-variants.{HiddenElsewhere, BothHidden, HiddenRepeated}
+use Rattle.refusal.specs.declared.Refusal.the-variants.{HiddenElsewhere, BothHidden, NodeRepeated}
 use Rattle.report.specs.Nodes.{Node, comp, case, pair, disconnect, injl, injr, take, drop, disconnect1, iden, unit, witness, fail, hidden, word}
 use Rattle.report.specs.Canonical.{children, isDone}
 use Rattle.scope.specs.Check.{passed, require}
@@ -160,7 +160,7 @@ module _ (nodes : List Node) where
     one-branch = λ a b q h k. clash (cc);
     no-repeat = λ j other l h q.
         (let r : other ≡ hash = cc in
-        let none = not-true (anyBelow i (hides nodes hash)) (require-holds (not (anyBelow i (hides nodes hash))) (HiddenRepeated i) x e) in
+        let none = not-true (anyBelow i (hides nodes hash)) (require-holds (not (anyBelow i (hides nodes hash))) (NodeRepeated i) x e) in
         not-both (test-hides hash j (h ∙ ap hidden r)) (none-below i (hides nodes hash) none j l));
   }
   allowed-asks i _ x e (Other n p q r) = record {

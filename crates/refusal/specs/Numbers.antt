@@ -3,7 +3,7 @@ use mathlib.Core.Bool.{Bool, true, false}
 use Prim.Native.Nat.{ℕ}
 use lib.Dec.{ltb}
 use Rattle.refusal.specs.declared.Refusal.{Refusal}
-use Rattle.refusal.specs.declared.Refusal.the-variants.{Header, TypeRecord, StreamEnded, Natural, Jet, CanonicalOrder, HiddenElsewhere, BothHidden, HiddenRepeated, Closing, OneChildDisconnect, Arrow, Hash, OverLimit, Witness, Input, StoreShort, FailReached, PrunedReached, Overlong, NodeRecord}
+use Rattle.refusal.specs.declared.Refusal.the-variants.{Header, TypeRecord, StreamEnded, Natural, Jet, CanonicalOrder, HiddenElsewhere, BothHidden, NodeRepeated, Closing, OneChildDisconnect, Arrow, Hash, OverLimit, Witness, Input, StoreShort, FailReached, PrunedReached, Overlong, NodeRecord}
 
 abbrev pub numberOf : Refusal → ℕ
 numberOf (Header at) = 1
@@ -14,7 +14,7 @@ numberOf (Jet at) = 5
 numberOf (CanonicalOrder at) = 6
 numberOf (HiddenElsewhere at) = 7
 numberOf (BothHidden at) = 8
-numberOf (HiddenRepeated at) = 9
+numberOf (NodeRepeated at) = 9
 numberOf (Closing at) = 10
 numberOf (OneChildDisconnect at) = 11
 numberOf (Arrow at) = 12
@@ -37,7 +37,7 @@ placeOf (Jet at) = at
 placeOf (CanonicalOrder at) = at
 placeOf (HiddenElsewhere at) = at
 placeOf (BothHidden at) = at
-placeOf (HiddenRepeated at) = at
+placeOf (NodeRepeated at) = at
 placeOf (Closing at) = at
 placeOf (OneChildDisconnect at) = at
 placeOf (Arrow at) = at
@@ -61,7 +61,7 @@ keepsTable (Jet at) = false
 keepsTable (CanonicalOrder at) = false
 keepsTable (HiddenElsewhere at) = false
 keepsTable (BothHidden at) = false
-keepsTable (HiddenRepeated at) = false
+keepsTable (NodeRepeated at) = false
 keepsTable (Closing at) = false
 keepsTable (OneChildDisconnect at) = false
 keepsTable (Arrow at) = false

@@ -21,8 +21,8 @@ pub enum Refusal {
     HiddenElsewhere(u32),
     // 8: both children of a case hidden. Place: the case.
     BothHidden(u32),
-    // 9: a hidden hash again. Place: the later node.
-    HiddenRepeated(u32),
+    // 9: a hidden hash again, or a node equal to an earlier one. Place: the later node.
+    NodeRepeated(u32),
     // 10: a whole byte left, or padding not zero. Place: the node count.
     Closing(u32),
     // 11: a disconnect with one child. Place: the first such node.
@@ -68,7 +68,7 @@ pub fn number(refusal: Refusal) -> u32
         Refusal::CanonicalOrder(_) => 6,
         Refusal::HiddenElsewhere(_) => 7,
         Refusal::BothHidden(_) => 8,
-        Refusal::HiddenRepeated(_) => 9,
+        Refusal::NodeRepeated(_) => 9,
         Refusal::Closing(_) => 10,
         Refusal::OneChildDisconnect(_) => 11,
         Refusal::Arrow(_) => 12,
@@ -97,7 +97,7 @@ pub fn place(refusal: Refusal) -> u32
         Refusal::CanonicalOrder(at) => at,
         Refusal::HiddenElsewhere(at) => at,
         Refusal::BothHidden(at) => at,
-        Refusal::HiddenRepeated(at) => at,
+        Refusal::NodeRepeated(at) => at,
         Refusal::Closing(at) => at,
         Refusal::OneChildDisconnect(at) => at,
         Refusal::Arrow(at) => at,
@@ -126,7 +126,7 @@ pub fn keeps_table(refusal: Refusal) -> bool
         Refusal::CanonicalOrder(_) => false,
         Refusal::HiddenElsewhere(_) => false,
         Refusal::BothHidden(_) => false,
-        Refusal::HiddenRepeated(_) => false,
+        Refusal::NodeRepeated(_) => false,
         Refusal::Closing(_) => false,
         Refusal::OneChildDisconnect(_) => false,
         Refusal::Arrow(_) => false,

@@ -1,18 +1,21 @@
--- A disconnect with one child is refused (11). Then the arrows: one for each node (12 at the node count),
--- and each node's arrow as the report's typing has it, on indices of the type table (12 at the first such node).
-use mathlib.Core.Bool.{Bool, true, false}
+-- A disconnect with one child is refused (11). Then the arrows: one for each node (12 at the node count). Then node by node: no earlier
+-- node is equal to it (9), and its arrow is as the report's typing has it, on indices of the type table (12).
+-- iden, iden, pair(0, 1), where both iden have the same arrow, is 9 at 1.
+use mathlib.Core.Bool.{Bool, true, false, not}
 use mathlib.Core.List.{List, [], _∷_}
 use Prim.Native.Nat.{ℕ, _+_, _*_, _-_, _/_}
 use lib.Dec.{ltb, eqb}
 use lib.ListN.{length, getD}
 use Rattle.limits.specs.Limits.{arrowBytes}
-use Rattle.refusal.specs.declared.Refusal.the-variants.{OneChildDisconnect, Arrow as BadArrow}
+use Rattle.refusal.specs.declared.Refusal.{Refusal}
+use Rattle.refusal.specs.declared.Refusal.the-variants.{NodeRepeated, OneChildDisconnect, Arrow as BadArrow}
 use Rattle.report.specs.Nodes.{Node, comp, case, pair, disconnect, injl, injr, take, drop, disconnect1, iden, unit, witness, fail, hidden, word}
 use Rattle.scope.specs.Check.{Check, passed, refused, _>>=_, require, each}
-use Rattle.scope.specs.Numbers.{be16, tabulate, every}
+use Rattle.scope.specs.Numbers.{be16, tabulate, every, anyBelow}
 use Rattle.scope.specs.Types.{TypeRecord, isUnit, isSum, isProduct, leftAt, rightAt, aSum, sumWithLeft, sumWithRight, aProduct, productWithLeft, productWithRight, isWord}
 use Rattle.scope.specs.Nodes.{nodeAt, onOneChild}
 use Rattle.scope.specs.Walk.{hiddenAt}
+use Rattle.scope.specs.Equal.{keyOf, sameKey}
 
 -- source and target as indices of the type table
 pub record Arrow : Type 0 where
@@ -34,6 +37,21 @@ source arrows i = (getD arrows i noArrow) .source
 
 unfoldable pub target : List Arrow → (i : ℕ) → ℕ
 target arrows i = (getD arrows i noArrow) .target
+
+module _ (nodes : List Node) (arrows : List Arrow) where
+  -- nodes j and i are equal: the same key and the same arrow
+  unfoldable pub equalNodes : (j i : ℕ) → Bool
+  unfolding keyOf sameKey nodeAt source target every
+  equalNodes j i = every (
+      sameKey (keyOf (nodeAt nodes j)) (keyOf (nodeAt nodes i))
+      ∷ eqb (source arrows j) (source arrows i)
+      ∷ eqb (target arrows j) (target arrows i)
+      ∷ [])
+
+  -- an earlier node is equal to node i
+  unfoldable pub repeats : (i : ℕ) → Bool
+  unfolding anyBelow equalNodes
+  repeats i = anyBelow i (λ j. equalNodes j i)
 
 -- the arrow of each kind of node
 module _ (types : List TypeRecord) (nodes : List Node) (arrows : List Arrow) where
@@ -90,9 +108,19 @@ module _ (types : List TypeRecord) (nodes : List Node) (arrows : List Arrow) whe
   unfolding nodeAt onOneChild
   noOneChild i = onOneChild (nodeAt nodes i) (λ child. false) true
 
+  -- node i repeats no earlier one, and its arrow is right
+  unfoldable pub nodeRule : (i : ℕ) → Bool
+  unfolding repeats arrowRule every
+  nodeRule i = every (not (repeats nodes arrows i) ∷ arrowRule i ∷ [])
+
+  -- why a node is refused that does not keep this rule
+  unfoldable pub nodeRefusal : (i : ℕ) → Refusal
+  unfolding repeats
+  nodeRefusal i = elim (repeats nodes arrows i) [ true ↦ NodeRepeated i | false ↦ BadArrow i ]
+
   unfoldable pub checkArrows : Check (Unit {0})
-  unfolding _>>=_ require each noOneChild arrowRule
+  unfolding _>>=_ require each noOneChild nodeRule nodeRefusal
   checkArrows = do
     paired ← each (length nodes) noOneChild OneChildDisconnect
     count ← require (eqb (length arrows) (length nodes)) (BadArrow (length nodes))
-    each (length nodes) arrowRule BadArrow
+    each (length nodes) nodeRule nodeRefusal

@@ -6,9 +6,9 @@ use Prim.Native.Nat.{ℕ, _+_, _*_, _-_, _%_}
 use lib.Dec.{eqb}
 use lib.ListN.{replicate}
 use Rattle.refusal.specs.declared.Answer.the-variants.{Value, Refused}
-use Rattle.refusal.specs.declared.Refusal.the-variants.{Header, StreamEnded, Natural as BadNatural, Overlong, CanonicalOrder, BothHidden, Arrow as BadArrow, Hash, OverLimit, Witness, Input, StoreShort, FailReached, PrunedReached}
+use Rattle.refusal.specs.declared.Refusal.the-variants.{Header, StreamEnded, Natural as BadNatural, Overlong, CanonicalOrder, BothHidden, NodeRepeated, Arrow as BadArrow, Hash, OverLimit, Witness, Input, StoreShort, FailReached, PrunedReached}
 use Rattle.report.specs.Lines.{_is_, Hold}
-use Rattle.report.specs.Nodes.{Node, comp, case, pair, disconnect, injl, injr, take, drop, iden, unit, witness, fail, hidden}
+use Rattle.report.specs.Nodes.{Node, comp, case, pair, disconnect, injl, injr, take, drop, iden, unit, witness, fail, hidden, word}
 use Rattle.scope.specs.Numbers.{zeros, tabulateFrom, tabulate}
 use Rattle.scope.specs.Types.{TypeRecord}
 use Rattle.scope.specs.Nodes.{nodeNumbersOf}
@@ -45,6 +45,11 @@ wiped-ends : Hold (
     is wiped (BothHidden 2)
     -- a comp of a node with itself whose source is not its target
     ∷ job spacious (dossier two (code (witness ∷ comp 0 0 ∷ [])) (to 0 1 ∷ to 0 1 ∷ []) [] [] []) is wiped (BadArrow 1)
+    -- two equal words, at two positions of the program, and two equal fail nodes; two witnesses alike run below
+    ∷ job spacious (dossier words (code (word 2 (1 ∷ 0 ∷ []) ∷ word 2 (1 ∷ 0 ∷ []) ∷ pair 0 1 ∷ [])) (to 0 2 ∷ to 0 2 ∷ to 0 3 ∷ []) [] [] [])
+    is wiped (NodeRepeated 1)
+    ∷ job (lent 9 128 4 4 3 255) (dossier words (code (fail (replicate 64 7) ∷ fail (replicate 64 7) ∷ pair 0 1 ∷ [])) (to 0 2 ∷ to 0 2 ∷ to 0 3 ∷ []) [] [] [])
+    is leaves (Refused (NodeRepeated 1)) (zeros 36) (zeros 128) (ones 4) (frameOnes 4) (ones 3)
     -- three disconnects, the third over the right child of the first, with another hash
     ∷ job spacious (dossier (words ++ ty 2 9 0 ∷ ty 2 9 1 ∷ ty 2 10 11 ∷ ty 2 12 10 ∷ [])
     (code (iden ∷ unit ∷ disconnect 0 1 ∷ injl 1 ∷ disconnect 0 3 ∷ pair 2 4 ∷ disconnect 0 1 ∷ pair 5 6 ∷ []))
@@ -146,7 +151,12 @@ disconnecting =
 
 -- outputs: their bits, the last byte filled with zeros, later bytes kept; else as above
 output-ends : Hold (
-    job spacious (sharing (0 ∷ 1 ∷ 1 ∷ 0 ∷ []))
+    -- words unlike in their last bit; two witnesses alike, one bit each
+    job spacious (dossier words (code (word 2 (1 ∷ 0 ∷ []) ∷ word 2 (1 ∷ 1 ∷ []) ∷ pair 0 1 ∷ [])) (to 0 2 ∷ to 0 2 ∷ to 0 3 ∷ []) [] [] [])
+    is leaves (Value 4) (nodesKept (row 14 2 8 ∷ row 14 2 15 ∷ row 2 0 1 ∷ [])) (zeros 97) (191 ∷ ones 3) (zeros 6 ++ frameOnes 2) (176 ∷ ones 2)
+    ∷ job spacious (dossier words (code (witness ∷ witness ∷ pair 0 1 ∷ [])) (to 0 1 ∷ to 0 1 ∷ to 0 2 ∷ []) (1 ∷ 1 ∷ []) [] [])
+    is leaves (Value 2) (nodesKept (row 12 0 0 ∷ row 12 0 0 ∷ row 2 0 1 ∷ [])) (zeros 97) (255 ∷ ones 3) (zeros 6 ++ frameOnes 2) (192 ∷ ones 2)
+    ∷ job spacious (sharing (0 ∷ 1 ∷ 1 ∷ 0 ∷ []))
     is leaves (Value 2) shared (hashesKept (replicate 32 90)) (24 ∷ 191 ∷ ones 2) (zeros 6 ++ frameOnes 2) (128 ∷ ones 2)
     ∷ job (lent 22 97 4 4 3 255) cases
     is leaves (Value 0) (nodeNumbersOf (row 9 0 0 ∷ tabulate 20 (λ k. row 1 k k)) ++ zeros 4) (zeros 97) (85 ∷ 85 ∷ 95 ∷ ones 1)

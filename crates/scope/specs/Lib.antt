@@ -7,6 +7,7 @@ pub mod Nodes
 pub mod Reading
 pub mod Walk
 pub mod Closing
+pub mod Equal
 pub mod Arrows
 pub mod Hashes
 pub mod Program
@@ -30,6 +31,7 @@ pub mod NodeRows
 pub mod ReadingRows
 pub mod WalkRows
 pub mod ArrowRows
+pub mod EqualRows
 pub mod HashRows
 pub mod ProgramRows
 pub mod ReadyRows

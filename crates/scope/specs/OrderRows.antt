@@ -6,7 +6,7 @@ use Prim.Native.Nat.{ℕ}
 use lib.ListN.{replicate}
 use Rattle.refusal.specs.declared.Answer.{Answer}
 use Rattle.refusal.specs.declared.Answer.the-variants.{Refused}
-use Rattle.refusal.specs.declared.Refusal.the-variants.{Header, TypeRecord as BadTypeRecord, Jet, HiddenRepeated, BothHidden, CanonicalOrder, Closing, OneChildDisconnect, Arrow as BadArrow, Hash, OverLimit, Witness, Input, StoreShort, FailReached, PrunedReached}
+use Rattle.refusal.specs.declared.Refusal.the-variants.{Header, TypeRecord as BadTypeRecord, Jet, NodeRepeated, BothHidden, CanonicalOrder, Closing, OneChildDisconnect, Arrow as BadArrow, Hash, OverLimit, Witness, Input, StoreShort, FailReached, PrunedReached}
 use Rattle.report.specs.Lines.{_is_, Hold}
 use Rattle.report.specs.Naturals.{codeNatural, codeBy, log2By, lowBits}
 use Rattle.report.specs.Nodes.{Node, comp, case, pair, disconnect1, injl, iden, unit, fail, hidden, codeNodes}
@@ -54,11 +54,18 @@ orders : Hold (
     ∷ said (dossier one (code (h ∷ h ∷ case 1 0 ∷ [])) [] [] [] []) is Refused (CanonicalOrder 0)
     -- 8 and 10, 9 and 10: both hidden, or two equal ones, and a byte more
     ∷ said (dossier one (code (h ∷ case 0 0 ∷ []) ++ 0 ∷ []) [] [] [] []) is Refused (BothHidden 1)
-    ∷ said (dossier one (code (h ∷ h ∷ case 0 1 ∷ []) ++ 0 ∷ []) [] [] [] []) is Refused (HiddenRepeated 1)
+    ∷ said (dossier one (code (h ∷ h ∷ case 0 1 ∷ []) ++ 0 ∷ []) [] [] [] []) is Refused (NodeRepeated 1)
     -- 10 and 11: a one-child disconnect, and a byte more
     ∷ said (dossier one (code (unit ∷ disconnect1 0 ∷ []) ++ 0 ∷ []) [] [] [] []) is Refused (Closing 2)
     -- 11 and 12: a one-child disconnect, and no arrow
     ∷ said (dossier one (code (unit ∷ disconnect1 0 ∷ [])) [] [] [] []) is Refused (OneChildDisconnect 1)
+    -- 11 and 9 of equal nodes, 12 of the count and 9, 9 and 12 of a later node, 12 of an earlier node and 9
+    ∷ said (dossier two (code (unit ∷ unit ∷ pair 0 1 ∷ disconnect1 2 ∷ [])) (replicate 4 (to 0 0)) [] [] []) is Refused (OneChildDisconnect 3)
+    ∷ said (dossier two (code (iden ∷ iden ∷ pair 0 1 ∷ [])) (replicate 2 (to 1 1)) [] [] []) is Refused (BadArrow 3)
+    ∷ said (dossier two (code (iden ∷ iden ∷ pair 0 1 ∷ [])) (replicate 3 (to 1 1)) [] [] []) is Refused (NodeRepeated 1)
+    ∷ said (dossier two (code (iden ∷ iden ∷ pair 0 1 ∷ [])) (replicate 3 (to 0 1)) [] [] []) is Refused (BadArrow 0)
+    -- 9 of equal nodes and 13: a hash too many
+    ∷ said (dossier two (code (iden ∷ iden ∷ pair 0 1 ∷ [])) (replicate 3 (to 1 1)) [] [] (zeros 32)) is Refused (NodeRepeated 1)
     -- 12 and 13: no arrow, or a wrong one, and a hash too many
     ∷ said (dossier one (code (unit ∷ [])) [] [] [] (zeros 32)) is Refused (BadArrow 1)
     ∷ said (dossier two (code (unit ∷ [])) (to 0 1 ∷ []) [] [] (zeros 32)) is Refused (BadArrow 0)

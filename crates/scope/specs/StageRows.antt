@@ -7,7 +7,7 @@ use lib.ListN.{replicate}
 use Rattle.limits.specs.Limits.{nodeCount, typeCount, dossierBytes, wordMost, nodeNumbers, typeBytes}
 use Rattle.refusal.specs.declared.Answer.{Answer}
 use Rattle.refusal.specs.declared.Answer.the-variants.{Value, Refused}
-use Rattle.refusal.specs.declared.Refusal.the-variants.{Header, TypeRecord as BadTypeRecord, Natural as BadNatural, CanonicalOrder, HiddenElsewhere, OneChildDisconnect, Arrow as BadArrow, Hash, OverLimit, Witness, Input, StoreShort, NodeRecord as BadNodeRecord}
+use Rattle.refusal.specs.declared.Refusal.the-variants.{Header, TypeRecord as BadTypeRecord, Natural as BadNatural, CanonicalOrder, HiddenElsewhere, NodeRepeated, OneChildDisconnect, Arrow as BadArrow, Hash, OverLimit, Witness, Input, StoreShort, NodeRecord as BadNodeRecord}
 use Rattle.report.specs.Lines.{_is_, Hold}
 use Rattle.scope.specs.Check.{passed, refused}
 use Rattle.scope.specs.Numbers.{zeros}
@@ -82,6 +82,17 @@ hiddenComp = 13 ∷ 0 ∷ 0 ∷ 0 ∷ 9 ∷ 0 ∷ 0 ∷ 0 ∷ 0 ∷ 0 ∷ 1 ∷ 
 abbrev unitType : List ℕ
 unitType = 0 ∷ 0 ∷ 0 ∷ 0 ∷ 0 ∷ []
 
+-- two words of one bit of the program, and their pair
+abbrev wordPair : (first second : ℕ) → List ℕ
+wordPair p q = 14 ∷ 1 ∷ p ∷ 0 ∷ 14 ∷ 1 ∷ q ∷ 0 ∷ 2 ∷ 0 ∷ 1 ∷ 0 ∷ []
+
+-- unit, a bit and two bits, and the arrows of these words
+abbrev bitTypes : List ℕ
+bitTypes = unitType ++ 1 ∷ 0 ∷ 0 ∷ 0 ∷ 0 ∷ 2 ∷ 0 ∷ 1 ∷ 0 ∷ 1 ∷ []
+
+abbrev wordArrows : List ℕ
+wordArrows = 0 ∷ 0 ∷ 0 ∷ 1 ∷ 0 ∷ 0 ∷ 0 ∷ 1 ∷ 0 ∷ 0 ∷ 0 ∷ 2 ∷ []
+
 abbrev tooLong : List ℕ
 tooLong = zeros (dossierBytes + 1)
 
@@ -136,15 +147,23 @@ stages : Hold (
     ∷ arrowStage unitType (14 ∷ 19 ∷ 0 ∷ 0 ∷ []) (zeros 4) (zeros dossierBytes) [] is refused (BadArrow 0)
     -- a word's bits are the program's
     ∷ arrowStage (unitType ++ 1 ∷ 0 ∷ 0 ∷ 0 ∷ 0 ∷ []) (14 ∷ 1 ∷ 7 ∷ 0 ∷ []) (0 ∷ 0 ∷ 0 ∷ 1 ∷ []) (1 ∷ []) [] is passed tt
+    -- two words are compared by their bits, wherever they stand, two fail nodes by their bytes
+    ∷ arrowStage bitTypes (wordPair 0 3) wordArrows (0b10010000 ∷ []) [] is refused (NodeRepeated 1)
+    ∷ arrowStage bitTypes (wordPair 0 0) wordArrows (0b10010000 ∷ []) [] is refused (NodeRepeated 1)
+    ∷ arrowStage bitTypes (wordPair 0 1) wordArrows (0b10010000 ∷ []) [] is passed tt
+    ∷ arrowStage bitTypes (10 ∷ 0 ∷ 0 ∷ 0 ∷ 10 ∷ 64 ∷ 0 ∷ 0 ∷ 2 ∷ 0 ∷ 1 ∷ 0 ∷ []) wordArrows [] (zeros 128) is refused (NodeRepeated 1)
+    ∷ arrowStage bitTypes (10 ∷ 0 ∷ 0 ∷ 0 ∷ 10 ∷ 64 ∷ 0 ∷ 0 ∷ 2 ∷ 0 ∷ 1 ∷ 0 ∷ []) wordArrows [] (zeros 127 ++ 1 ∷ []) is passed tt
     -- the hashes' stage
     ∷ hashStage unitType unitNode (zeros 4) [] [] [] is passed tt
     ∷ hashStage unitType unitNode (zeros 4) [] [] (zeros 31) is passed tt
     ∷ hashStage unitType unitNode (zeros 4) [] [] (zeros 32) is refused (Hash 1)
     ∷ hashStage unitType unitNode [] [] [] (zeros 32) is refused (BadArrow 1)
+    ∷ hashStage bitTypes (wordPair 0 3) wordArrows (0b10010000 ∷ []) [] (zeros 32) is refused (NodeRepeated 1)
     ∷ hashStage unitType badNode [] [] [] (zeros 32) is refused (BadNodeRecord 0)
     -- the bounds' stage
     ∷ boundsStage unitType unitNode (zeros 4) [] [] is passed tt
     ∷ boundsStage unitType unitNode [] [] [] is refused (BadArrow 1)
+    ∷ boundsStage bitTypes (wordPair 0 3) wordArrows (0b10010000 ∷ []) [] is refused (NodeRepeated 1)
     ∷ boundsStage unitType (8 ∷ 0 ∷ 0 ∷ 0 ∷ doubled 18 0) (zeros (4 * 19)) [] [] is refused (OverLimit 2)
     ∷ [])
 unfolding Hold counted checkRecords walkStage arrowStage hashStage boundsStage doubled
@@ -168,6 +187,9 @@ runs : Hold (
     ∷ runStage unitType badNode (zeros 4) (36 ∷ []) [] (zeros 32) [] 1 [] 1 (9 ∷ []) [] [] is left (Refused (BadNodeRecord 0)) (9 ∷ []) [] []
     ∷ runStage unitType unitNode (zeros 4) (36 ∷ []) [] (zeros 32) [] 1 [] 1 (9 ∷ []) [] [] is left (Refused (Hash 1)) (9 ∷ []) [] []
     ∷ runStage unitType unitNode (zeros 4) (36 ∷ []) [] [] [] 0 [] 0 (9 ∷ []) (8 ∷ []) [] is left (Refused (StoreShort 1)) (9 ∷ []) (8 ∷ []) []
+    -- 9 of equal nodes, before 13 and 17
+    ∷ runStage bitTypes (wordPair 0 3) wordArrows (0b10010000 ∷ []) [] (zeros 32) [] 0 [] 0 (9 ∷ []) (8 ∷ []) []
+    is left (Refused (NodeRepeated 1)) (9 ∷ []) (8 ∷ []) []
     -- a word is of the program's bits
     ∷ runStage (unitType ++ 1 ∷ 0 ∷ 0 ∷ 0 ∷ 0 ∷ []) (14 ∷ 1 ∷ 7 ∷ 0 ∷ []) (0 ∷ 0 ∷ 0 ∷ 1 ∷ []) (1 ∷ []) [] [] [] 0 [] 0 (0 ∷ []) (replicate 6 8) (7 ∷ [])
     is left (Value 1) (128 ∷ []) (zeros 6) (128 ∷ [])

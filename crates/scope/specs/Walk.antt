@@ -7,7 +7,7 @@ use mathlib.Core.List.{List, [], _∷_, _++_}
 use Prim.Native.Nat.{ℕ, zero, suc, _-_}
 use lib.Dec.{eqb}
 use lib.ListN.{length, getD}
-use Rattle.refusal.specs.declared.Refusal.the-variants.{CanonicalOrder, HiddenElsewhere, BothHidden, HiddenRepeated}
+use Rattle.refusal.specs.declared.Refusal.the-variants.{CanonicalOrder, HiddenElsewhere, BothHidden, NodeRepeated}
 use Rattle.report.specs.Table.{entries}
 use Rattle.report.specs.Nodes.{Node, comp, case, pair, disconnect, injl, injr, take, drop, disconnect1, iden, unit, witness, fail, hidden, word}
 use Rattle.report.specs.Canonical.{children, isDone}
@@ -50,7 +50,7 @@ module _ (nodes : List Node) where
   allowed i unit = passed tt
   allowed i witness = passed tt
   allowed i (fail bytes) = passed tt
-  allowed i (hidden hash) = require (not (anyBelow i (hides hash))) (HiddenRepeated i)
+  allowed i (hidden hash) = require (not (anyBelow i (hides hash))) (NodeRepeated i)
   allowed i (word n bits) = passed tt
 
   -- a walk takes the list of the nodes done before it to the list of those done after it, or refuses

@@ -5,7 +5,7 @@ use mathlib.Core.Bool.{true, false}
 use mathlib.Core.List.{[], _∷_}
 use Prim.Native.Nat.{_+_, _-_}
 use Rattle.limits.specs.Limits.{dossierBytes}
-use Rattle.refusal.specs.declared.Refusal.the-variants.{Header, StreamEnded, Natural as BadNatural, Overlong, Jet, CanonicalOrder, HiddenElsewhere, BothHidden, HiddenRepeated, Closing, StoreShort}
+use Rattle.refusal.specs.declared.Refusal.the-variants.{Header, StreamEnded, Natural as BadNatural, Overlong, Jet, CanonicalOrder, HiddenElsewhere, BothHidden, NodeRepeated, Closing, StoreShort}
 use Rattle.report.specs.Lines.{_is_, Hold}
 use Rattle.report.specs.Nodes.{Node, comp, case, pair, disconnect, injl, injr, take, drop, disconnect1, iden, unit, witness, fail, hidden, word}
 use Rattle.scope.specs.Check.{Check, passed, refused}
@@ -65,8 +65,8 @@ hidden-nodes : Hold (
     ∷ judged witness is passed tt
     ∷ judged (fail (1 ∷ 2 ∷ [])) is passed tt
     ∷ judged (word 1 (0 ∷ [])) is passed tt
-    ∷ judged h is refused (HiddenRepeated 5)
-    ∷ judged g is refused (HiddenRepeated 5)
+    ∷ judged h is refused (NodeRepeated 5)
+    ∷ judged g is refused (NodeRepeated 5)
     ∷ judged (hidden (1 ∷ 4 ∷ [])) is passed tt
     -- only earlier nodes count
     ∷ allowed (h ∷ g ∷ g ∷ []) 1 g is passed tt
@@ -89,7 +89,7 @@ walks : Hold (
     ∷ checkWalk (h ∷ unit ∷ case 0 1 ∷ []) is passed tt
     ∷ checkWalk (unit ∷ h ∷ case 0 1 ∷ case 1 0 ∷ pair 2 3 ∷ []) is passed tt
     ∷ checkWalk (unit ∷ h ∷ case 0 1 ∷ g ∷ case 2 3 ∷ []) is passed tt
-    ∷ checkWalk (unit ∷ h ∷ case 0 1 ∷ h ∷ case 2 3 ∷ []) is refused (HiddenRepeated 3)
+    ∷ checkWalk (unit ∷ h ∷ case 0 1 ∷ h ∷ case 2 3 ∷ []) is refused (NodeRepeated 3)
     ∷ checkWalk (h ∷ take 0 ∷ []) is refused (HiddenElsewhere 1)
     ∷ checkWalk (h ∷ case 0 0 ∷ []) is refused (BothHidden 1)
     -- a hidden last node
@@ -102,7 +102,7 @@ walks : Hold (
     -- along the walk the first fault is told, whatever its number
     ∷ checkWalk (h ∷ take 0 ∷ unit ∷ iden ∷ comp 3 2 ∷ comp 1 4 ∷ []) is refused (HiddenElsewhere 1)
     ∷ checkWalk (h ∷ case 0 0 ∷ h ∷ take 2 ∷ pair 1 3 ∷ []) is refused (BothHidden 1)
-    ∷ checkWalk (h ∷ h ∷ case 0 1 ∷ []) is refused (HiddenRepeated 1)
+    ∷ checkWalk (h ∷ h ∷ case 0 1 ∷ []) is refused (NodeRepeated 1)
     ∷ [])
 unfolding Hold checkWalk
 walks = refl

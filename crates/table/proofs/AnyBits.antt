@@ -8,7 +8,7 @@ use native.Mathlib.Omega.{arith}
 use native.Mathlib.Decide.{decLt}
 use lib.Dec.{eqb, ltb}
 use lib.ListN.{length, getD}
-use Rattle.refusal.specs.declared.Refusal.the-variants.{CanonicalOrder, HiddenElsewhere, BothHidden, HiddenRepeated}
+use Rattle.refusal.specs.declared.Refusal.the-variants.{CanonicalOrder, HiddenElsewhere, BothHidden, NodeRepeated}
 use Rattle.report.specs.Nodes.{Node}
 use Rattle.report.specs.Canonical.{upFrom}
 use Rattle.scope.specs.Check.{Check, passed, _>>=_, require}
@@ -63,7 +63,7 @@ module _ (bits hashes : List ℕ) (rs : List NodeRecord) where
   allowed-same i kDisconnect1 a b = none-same i (a ∷ [])
   allowed-same i kWitness a b = refl
   allowed-same i kHidden a b =
-      ap (λ (x : Bool). require (not x) (HiddenRepeated i)) (any-same i _ _ (λ j. hides-kind bits hashes rs _ j ∙ sym (hides-kind [] hashes rs _ j)))
+      ap (λ (x : Bool). require (not x) (NodeRepeated i)) (any-same i _ _ (λ j. hides-kind bits hashes rs _ j ∙ sym (hides-kind [] hashes rs _ j)))
   allowed-same i kWord a b = refl
   allowed-same i kUnknown a b = refl
 

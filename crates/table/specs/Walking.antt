@@ -6,7 +6,7 @@ use Prim.Native.Nat.{ℕ, _<_, _≤_}
 use lib.Dec.{ltb}
 use lib.ListN.{length}
 use Rattle.limits.specs.Limits.{nodeCount}
-use Rattle.refusal.specs.declared.Refusal.the-variants.{HiddenElsewhere, BothHidden, HiddenRepeated}
+use Rattle.refusal.specs.declared.Refusal.the-variants.{HiddenElsewhere, BothHidden, NodeRepeated}
 use Rattle.report.specs.Nodes.{Node}
 use Rattle.scope.specs.Check.{Check, passed, _>>=_, require}
 use Rattle.scope.specs.Numbers.{every, anyBelow}
@@ -26,7 +26,7 @@ childrenRule false left right i = do
 -- the hash of node i is that of no hidden node before it
 unfoldable pub repeatRule : (nodes : List Node) → Node → (i : ℕ) → Check (Unit {0})
 unfolding require anyBelow hides
-repeatRule nodes n i = require (not (anyBelow i (hides nodes (hashIs n)))) (HiddenRepeated i)
+repeatRule nodes n i = require (not (anyBelow i (hides nodes (hashIs n)))) (NodeRepeated i)
 
 -- the walk from child j of node i
 unfoldable pub childWalk : (nodes : List Node) → (i j k : ℕ) → Check ℕ

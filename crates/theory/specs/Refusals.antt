@@ -12,7 +12,7 @@ use lib.ListN.{length, getD, take as takeL, List·getD-eq-default}
 use lib.Seq.{getD-take, length-take-le}
 use Rattle.limits.specs.Limits.{dossierBytes, headerBytes, nodeNumbers, nodeCount, cellCount, frameCount, costLimit, frameNumbers, hashBytes}
 use Rattle.refusal.specs.declared.Refusal.{Refusal}
-use Rattle.refusal.specs.declared.Refusal.the-variants.{Header, TypeRecord as BadTypeRecord, StreamEnded, Natural, Overlong, Jet, CanonicalOrder, HiddenElsewhere, BothHidden, HiddenRepeated, Closing, OneChildDisconnect, Arrow as BadArrow, Hash, OverLimit, Witness, Input, StoreShort}
+use Rattle.refusal.specs.declared.Refusal.the-variants.{Header, TypeRecord as BadTypeRecord, StreamEnded, Natural, Overlong, Jet, CanonicalOrder, HiddenElsewhere, BothHidden, NodeRepeated, Closing, OneChildDisconnect, Arrow as BadArrow, Hash, OverLimit, Witness, Input, StoreShort}
 use Rattle.report.specs.Bits.{Bit}
 use Rattle.report.specs.Types.{Ty, width}
 use Rattle.report.specs.Table.{entries}
@@ -52,7 +52,7 @@ pub record OfDecoding (Fine : Refusal → Type 0) : Type 0 where
   pub order : (at : ℕ) → Fine (CanonicalOrder at)
   pub elsewhere : (at : ℕ) → Fine (HiddenElsewhere at)
   pub both : (at : ℕ) → Fine (BothHidden at)
-  pub repeated : (at : ℕ) → Fine (HiddenRepeated at)
+  pub repeated : (at : ℕ) → Fine (NodeRepeated at)
   pub closing : (at : ℕ) → Fine (Closing at)
   pub nodes-short : Fine (StoreShort 3)
   pub hashes-short : Fine (StoreShort 4)
@@ -181,7 +181,7 @@ module _ (Fine : Refusal → Type 0) (may : OfDecoding Fine) where
     allowed-refuses i unit = passed-refuses Fine tt
     allowed-refuses i witness = passed-refuses Fine tt
     allowed-refuses i (fail bytes) = passed-refuses Fine tt
-    allowed-refuses i (hidden hash) = require-refuses Fine (not (anyBelow i (hides nodes hash))) (HiddenRepeated i) (may .repeated i)
+    allowed-refuses i (hidden hash) = require-refuses Fine (not (anyBelow i (hides nodes hash))) (NodeRepeated i) (may .repeated i)
     allowed-refuses i (word n bits) = passed-refuses Fine tt
 
     -- a walk that refuses so, from whatever nodes done
