@@ -24,7 +24,7 @@ abbrev pub Late : Refusal → Type 0
 Late r = keepsTable r ≡ true
 
 tables-early : OfTables Early
-tables-early = record { one-child = λ at. refl; arrow = λ at. refl; hash = λ at. refl }
+tables-early = record { equal = λ at. refl; one-child = λ at. refl; arrow = λ at. refl; hash = λ at. refl }
 
 ready-late : OfReady Late
 ready-late = record { over = λ at. refl; witness = λ at. refl; input = refl; cells-short = refl; frames-short = refl; answer-short = refl }

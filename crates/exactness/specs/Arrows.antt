@@ -1,13 +1,14 @@
--- The arrow rule holds of a node exactly if the report types the node at that arrow, and the check of all arrows passes exactly if it types every node.
+-- The arrow rule holds of a node exactly if the report types the node at that arrow, and the check of all arrows passes exactly if it types
+-- every node and no two nodes are equal.
 -- First from the test to the typing, kind by kind, then back; the tests are of indices, the typing is of types.
 use mathlib.Core.Path.{_≡_, refl, sym, ap, _∙_, subst, subst₂}
-use mathlib.Core.Bool.{Bool, true, false}
+use mathlib.Core.Bool.{Bool, true, false, not}
 use mathlib.Core.List.{List, [], _∷_}
 use Prim.Native.Nat.{ℕ, _-_, _<_}
 use native.Mathlib.Omega.{arith}
 use lib.Dec.{eqb, ltb}
 use lib.ListN.{length}
-use borrow.Author.Tests.{eqb-true, eq-eqb, ltb-true, lt-ltb}
+use borrow.Author.Tests.{eqb-true, eq-eqb, ltb-true, lt-ltb, not-true, not-false}
 use Rattle.refusal.specs.declared.Refusal.the-variants.{OneChildDisconnect, Arrow as BadArrow}
 use Rattle.report.specs.Types.{Ty, sum, prod, wordTy}
 use Rattle.report.specs.Nodes.{Node, comp, case, pair, disconnect, injl, injr, take, drop, disconnect1, iden, unit, witness, fail, hidden, word}
@@ -18,12 +19,13 @@ use Rattle.scope.specs.Types.{TypeRecord, typeFrom, tyAt, isUnit, isSum, isProd
 use Rattle.scope.specs.Nodes.{nodeAt, onOneChild}
 use Rattle.scope.specs.Walk.{hiddenAt}
 use Rattle.scope.specs.Arrows.{Arrow, source, target}
-use Rattle.scope.specs.Arrows.{goes, branchRule, kindRule, arrowRule, noOneChild, checkArrows}
+use Rattle.scope.specs.Arrows.{goes, branchRule, kindRule, arrowRule, noOneChild, repeats, nodeRule, nodeRefusal, checkArrows}
 use Rattle.common.specs.Types.{first-unit}
-use Rattle.common.specs.Checks.{clash, every-all, all-every, require-holds, holds-require, both-passed, then-passes, each-holds, holds-each}
+use Rattle.common.specs.Checks.{clash, AllTrue, every-all, all-every, require-holds, holds-require, both-passed, then-passes, each-holds, holds-each}
 use Rattle.common.specs.Bits.{AllBelow}
 use Rattle.exactness.specs.Types.{TypesPass, parts-kept}
 use Rattle.exactness.specs.TypeTests.{Joined, same-test, unit-type, type-unit, joins-type, type-joins, joined-test, word-type, type-word}
+use Rattle.exactness.specs.Equal.{NoneEqual, none-equal, equal-none}
 use Rattle.exactness.specs.NodeTyping.{Goes, Branch, Shown, Pruned, fromTy, toTy, InRange, ArrowsTyped}
 use Rattle.exactness.specs.NodeTyping.{NodeTyped, Iden, Comp, Unit·, Injl, Injr, Case, Pair, Take, Drop, Fail, Witness, Word, Disconnect, Hidden}
 
@@ -317,38 +319,57 @@ module _ (types : List TypeRecord) (nodes : List Node) (arrows : List Arrow) whe
   abbrev one-each : Check (Unit {0})
   one-each = require (eqb (length arrows) (length nodes)) (BadArrow (length nodes))
 
-  abbrev each-rule : Check (Unit {0})
-  each-rule = each (length nodes) (arrowRule types nodes arrows) BadArrow
+  abbrev each-node : Check (Unit {0})
+  each-node = each (length nodes) (nodeRule types nodes arrows) (nodeRefusal types nodes arrows)
 
-  -- where it passes there is one arrow for each node, and each keeps its rule
-  pub arrows-pass : checkArrows types nodes arrows ≡ passed tt
-      → (length arrows ≡ length nodes) × ((i : ℕ) → i < length nodes → arrowRule types nodes arrows i ≡ true)
-  unfolding checkArrows
+  -- one arrow for each node, and each keeps its rule
+  abbrev pub RulesHold : Type 0
+  RulesHold = (length arrows ≡ length nodes) × ((i : ℕ) → i < length nodes → arrowRule types nodes arrows i ≡ true)
+
+  -- where it passes the rules hold, and no two nodes are equal
+  pub arrows-pass : checkArrows types nodes arrows ≡ passed tt → RulesHold × NoneEqual nodes arrows
+  unfolding checkArrows nodeRule
   arrows-pass e =
-      let a = both-passed two-children (λ whole. one-each >>= λ count. each-rule) tt e in
-      let b = both-passed one-each (λ count. each-rule) tt (a .2) in (
-        eqb-true (length arrows) (length nodes) (require-holds (eqb (length arrows) (length nodes)) (BadArrow (length nodes)) (b .0) (b .1)),
-        each-holds (length nodes) (arrowRule types nodes arrows) BadArrow tt (b .2),
+      let a = both-passed two-children (λ whole. one-each >>= λ count. each-node) tt e in
+      let b = both-passed one-each (λ count. each-node) tt (a .2) in
+      let kept : (i : ℕ) → i < length nodes → AllTrue (not (repeats nodes arrows i) ∷ arrowRule types nodes arrows i ∷ []) =
+      λ i l. every-all (not (repeats nodes arrows i) ∷ arrowRule types nodes arrows i ∷ [])
+      (each-holds (length nodes) (nodeRule types nodes arrows) (nodeRefusal types nodes arrows) tt (b .2) i l) in (
+        (
+          eqb-true (length arrows) (length nodes) (require-holds (eqb (length arrows) (length nodes)) (BadArrow (length nodes)) (b .0) (b .1)),
+          (λ i l. kept i l .1 .0),
+        ),
+        none-equal nodes arrows (λ i l. not-true (repeats nodes arrows i) (kept i l .0)),
       )
 
--- the whole check of the arrows passes exactly if every node is typed
-module _ (types : List TypeRecord) (pass : TypesPass types) (nodes : List Node) (arrows : List Arrow)
-    (below : (i : ℕ) → i < length nodes → AllBelow i (children (nodeAt nodes i))) where
-  pub arrows-typed : checkArrows types nodes arrows ≡ passed tt → ArrowsTyped types nodes arrows
-  arrows-typed e =
-      let p = arrows-pass types nodes arrows e in
+-- what the check asks of arrows is the report's typing, whether nodes are equal or not
+module _ (types : List TypeRecord) (pass : TypesPass types) (nodes : List Node) (arrows : List Arrow) where
+  pub rules-typed : RulesHold types nodes arrows → ArrowsTyped types nodes arrows
+  rules-typed p =
       record {
         one-each = p .0;
         in-range = λ i l. arrow-range types pass nodes arrows i (p .1 i l);
         typed = λ i l. arrow-typed types pass nodes arrows i (p .1 i l);
       }
 
-  pub typed-arrows : ArrowsTyped types nodes arrows → checkArrows types nodes arrows ≡ passed tt
-  unfolding checkArrows noOneChild
-  typed-arrows h =
-      then-passes (two-children types nodes arrows) (λ whole. one-each types nodes arrows >>= λ count. each-rule types nodes arrows) tt
-      (holds-each (length nodes) (noOneChild types nodes arrows) OneChildDisconnect (λ i l. typed-two nodes _ _ (nodeAt nodes i) _ _ (h .typed i l)))
-      ∙ then-passes (one-each types nodes arrows) (λ count. each-rule types nodes arrows) tt
-      (holds-require _ _ (eq-eqb (length arrows) (length nodes) (h .one-each)))
-      ∙ holds-each (length nodes) (arrowRule types nodes arrows) BadArrow
-      (λ i l. typed-arrow types pass nodes arrows i (below i l) (λ j m. h .in-range j (omega arith)) (h .in-range i l) (h .typed i l))
+  module _ (below : (i : ℕ) → i < length nodes → AllBelow i (children (nodeAt nodes i))) where
+    pub typed-rules : ArrowsTyped types nodes arrows → RulesHold types nodes arrows
+    typed-rules h = (
+      h .one-each,
+      (λ i l. typed-arrow types pass nodes arrows i (below i l) (λ j m. h .in-range j (omega arith)) (h .in-range i l) (h .typed i l)),
+    )
+
+    -- THE WHOLE CHECK OF THE ARROWS PASSES EXACTLY IF EVERY NODE IS TYPED AND NO TWO ARE EQUAL
+    pub arrows-typed : checkArrows types nodes arrows ≡ passed tt → ArrowsTyped types nodes arrows × NoneEqual nodes arrows
+    arrows-typed e = let p = arrows-pass types nodes arrows e in (rules-typed (p .0), p .1)
+
+    pub typed-arrows : ArrowsTyped types nodes arrows → NoneEqual nodes arrows → checkArrows types nodes arrows ≡ passed tt
+    unfolding checkArrows noOneChild nodeRule
+    typed-arrows h apart =
+        then-passes (two-children types nodes arrows) (λ whole. one-each types nodes arrows >>= λ count. each-node types nodes arrows) tt
+        (holds-each (length nodes) (noOneChild types nodes arrows) OneChildDisconnect (λ i l. typed-two nodes _ _ (nodeAt nodes i) _ _ (h .typed i l)))
+        ∙ then-passes (one-each types nodes arrows) (λ count. each-node types nodes arrows) tt
+        (holds-require _ _ (eq-eqb (length arrows) (length nodes) (h .one-each)))
+        ∙ holds-each (length nodes) (nodeRule types nodes arrows) (nodeRefusal types nodes arrows)
+        (λ i l. all-every (not (repeats nodes arrows i) ∷ arrowRule types nodes arrows i ∷ [])
+        (ap not (equal-none nodes arrows apart i l), (typed-rules h .1 i l, tt)))

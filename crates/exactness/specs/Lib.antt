@@ -6,6 +6,7 @@ pub mod Canonical
 pub mod Types
 pub mod TypeTests
 pub mod NodeTyping
+pub mod Equal
 pub mod Arrows
 pub mod Nodes
 pub mod Stream

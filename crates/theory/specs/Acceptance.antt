@@ -34,6 +34,7 @@ use Rattle.common.specs.Checks.{both-passed, then-passes}
 use Rattle.exactness.specs.Types.{TypesPass, types-pass, pass-types}
 use Rattle.exactness.specs.Nodes.{layout, fit-at}
 use Rattle.exactness.specs.NodeTyping.{ArrowsTyped}
+use Rattle.exactness.specs.Equal.{NoneEqual}
 use Rattle.exactness.specs.Arrows.{arrows-typed, typed-arrows}
 use Rattle.exactness.specs.Programs.{IsProgram}
 use Rattle.exactness.specs.Decoding.{decoded-is-program, program-is-decoded, decoded-nodes}
@@ -75,8 +76,9 @@ pub record RulesKept (d nodes hashes cells frames answer : List ℕ) (ns : List 
   pub types : TypesPass (typeRecords (section d sTypes))
   -- its program section is the report's code of the table, which is canonical and fits the node and hash stores
   pub program : IsProgram (section d sProgram) (length nodes / nodeNumbers) (length hashes) ns
-  -- its arrows are the report's typing, and its hashes are as many as they have to be and do not clash
+  -- its arrows are the report's typing, no two of its nodes are equal, and its hashes are as many as they have to be and do not clash
   pub arrows : ArrowsTyped (typeRecords (section d sTypes)) ns (arrowRecords (section d sArrows))
+  pub apart : NoneEqual ns (arrowRecords (section d sArrows))
   pub supplied : HashesFit ns (section d sHashes)
   -- the program is within the limits
   pub limits : LimitsFit (programWith d ns values)
@@ -138,7 +140,7 @@ module _ (d nodes hashes cells frames answer : List ℕ) where
         let fit = h .program .formed .fit in
         let tables : checkTables (T ns) ≡ passed tt =
         then-passes (checkArrows types ns arrows) (λ fine. checkHashes ns (section d sHashes)) tt
-        (typed-arrows types (h .types) ns arrows (λ i l. fit-at ns i fit l .below) (h .arrows))
+        (typed-arrows types (h .types) ns arrows (λ i l. fit-at ns i fit l .below) (h .arrows) (h .apart))
         ∙ fit-hashes ns (section d sHashes) (h .supplied) in
         then-passes (checkHeader d) (λ header. checkTypes types >>= λ fine. read >>= after) tt (fits-header d (h .header))
         ∙ then-passes (checkTypes types) (λ fine. read >>= after) tt (pass-types types (h .types))
@@ -179,7 +181,7 @@ module _ (d nodes hashes cells frames answer : List ℕ) where
     -- what 1 to 13 have told: the header, the types, the code of a table, its arrows and hashes
     abbrev Checked : List Node → Type 0
     Checked ns = HeaderFits d × TypesPass types × IsProgram (section d sProgram) (length nodes / nodeNumbers) (length hashes) ns × (t ≡ layout ns)
-        × ArrowsTyped types ns arrows × HashesFit ns (section d sHashes)
+        × (ArrowsTyped types ns arrows × NoneEqual ns arrows) × HashesFit ns (section d sHashes)
 
     -- from the passed checks
     checked : (ns : List Node) × Checked ns
@@ -234,7 +236,8 @@ module _ (d nodes hashes cells frames answer : List ℕ) where
             header = told .0;
             types = told .1;
             program = told .2;
-            arrows = told .4;
+            arrows = told .4 .0;
+            apart = told .4 .1;
             supplied = told .5;
             limits = limits-alike d ns [] (b .0) (limits-fit Q (a .1));
             witness = witness-fits types arrows ns (section d sWitness) (count d sWitness) (b .0) (b .1);
@@ -276,7 +279,7 @@ decoding-checks = record {
 }
 
 tables-check : OfTables OfCheck
-tables-check = record { one-child = λ at h. omega arith; arrow = λ at h. omega arith; hash = λ at h. omega arith }
+tables-check = record { equal = λ at h. omega arith; one-child = λ at h. omega arith; arrow = λ at h. omega arith; hash = λ at h. omega arith }
 
 ready-checks : OfReady OfCheck
 ready-checks = record {

@@ -70,7 +70,7 @@ module _ (T : Tables) (ok : Checked T) where
       let p = both-passed (checkArrows (T .types) (T .nodes) (T .arrows)) (λ arrows. checkHashes (T .nodes) (T .given)) tt (ok .tables) in
       record {
         typeRules = types-pass (T .types) (ok .types);
-        arrowRules = arrows-pass (T .types) (T .nodes) (T .arrows) (p .1) .1;
+        arrowRules = arrows-pass (T .types) (T .nodes) (T .arrows) (p .1) .0 .1;
         childrenBelow = ok .below;
         hiddenRules = λ i h shown. places-allowed (T .nodes) places i h;
         someNode = ok .some;

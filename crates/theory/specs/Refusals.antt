@@ -27,7 +27,7 @@ use Rattle.scope.specs.Nodes.{NodeRecord, noNode, nodesOf, onWitness}
 use Rattle.scope.specs.Reading.{Fault, streamEnded, lengthTooLong, overBound, aJet, hashesShort, refusalAt, Got, got, fault, Item, naturalUpTo, nodeIn, NodeTable, nodesFrom, readNodes}
 use Rattle.scope.specs.Walk.{hiddenAt, hides, noneHidden, allowed, Walk, walkEach, walkMake, walkFrom, checkWalk}
 use Rattle.scope.specs.Closing.{closes, usedUp, decode}
-use Rattle.scope.specs.Arrows.{Arrow, target, noOneChild, arrowRule, checkArrows}
+use Rattle.scope.specs.Arrows.{Arrow, target, noOneChild, repeats, nodeRule, nodeRefusal, checkArrows}
 use Rattle.scope.specs.Hashes.{countPlace, rights, clash, checkHashes}
 use Rattle.scope.specs.Program.{Program, wholeSource, wholeTarget}
 use Rattle.scope.specs.Bounds.{wholeCells, wholeFrames, wholeCost, checkLimits, checkBounds}
@@ -57,8 +57,9 @@ pub record OfDecoding (Fine : Refusal → Type 0) : Type 0 where
   pub nodes-short : Fine (StoreShort 3)
   pub hashes-short : Fine (StoreShort 4)
 
--- of all that the checked tables refuse with: 11, 12 and 13
+-- of all that the checked tables refuse with: 9, 11, 12 and 13
 pub record OfTables (Fine : Refusal → Type 0) : Type 0 where
+  pub equal : (at : ℕ) → Fine (NodeRepeated at)
   pub one-child : (at : ℕ) → Fine (OneChildDisconnect at)
   pub arrow : (at : ℕ) → Fine (BadArrow at)
   pub hash : (at : ℕ) → Fine (Hash at)
@@ -258,7 +259,16 @@ module _ (Fine : Refusal → Type 0) (may : OfDecoding Fine) where
       (λ closed. passed-refuses Fine t))))
 
 module _ (Fine : Refusal → Type 0) (may : OfTables Fine) where
-  -- 11, 12 and 13
+  -- node i of the arrows: 9 or 12
+  node-refuses : (types : List TypeRecord) (nodes : List Node) (arrows : List Arrow) (i : ℕ) → Fine (nodeRefusal types nodes arrows i)
+  unfolding nodeRefusal
+  node-refuses types nodes arrows i = go (repeats nodes arrows i)
+    where
+      go : (b : Bool) → Fine (elim b [ true ↦ NodeRepeated i | false ↦ BadArrow i ])
+      go true = may .equal i
+      go false = may .arrow i
+
+  -- 11, 12, 9 of equal nodes, and 13
   pub tables-refuse : (T : Tables) → Refuses Fine (checkTables T)
   unfolding checkTables checkArrows checkHashes
   tables-refuse T =
@@ -267,7 +277,8 @@ module _ (Fine : Refusal → Type 0) (may : OfTables Fine) where
       (each-refuses Fine (length (T .nodes)) (noOneChild (T .types) (T .nodes) (T .arrows)) OneChildDisconnect (may .one-child))
       (λ whole. then-refuses Fine (require (eqb (length (T .arrows)) (length (T .nodes))) (BadArrow (length (T .nodes)))) _
       (require-refuses Fine (eqb (length (T .arrows)) (length (T .nodes))) (BadArrow (length (T .nodes))) (may .arrow (length (T .nodes))))
-      (λ count. each-refuses Fine (length (T .nodes)) (arrowRule (T .types) (T .nodes) (T .arrows)) BadArrow (may .arrow))))
+      (λ count. each-refuses Fine (length (T .nodes)) (nodeRule (T .types) (T .nodes) (T .arrows)) (nodeRefusal (T .types) (T .nodes) (T .arrows))
+      (node-refuses (T .types) (T .nodes) (T .arrows)))))
       (λ arrows. then-refuses Fine
       (require (eqb (length (T .given) / hashBytes) (length (rights (T .nodes)))) (Hash (countPlace (length (T .given) / hashBytes)))) _
       (require-refuses Fine (eqb (length (T .given) / hashBytes) (length (rights (T .nodes))))

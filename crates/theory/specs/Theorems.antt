@@ -32,7 +32,7 @@ use Rattle.scope.specs.Nodes.{nodeAt, nodesOf}
 use Rattle.scope.specs.Reading.{NodeTable}
 use Rattle.scope.specs.Walk.{hiddenAt, walkFrom, checkWalk}
 use Rattle.scope.specs.Closing.{decode}
-use Rattle.scope.specs.Arrows.{Arrow, arrowRule, checkArrows}
+use Rattle.scope.specs.Arrows.{Arrow, arrowRule, equalNodes, checkArrows}
 use Rattle.scope.specs.Program.{Program, sourceTy, targetTy, termOf, termAt, whole, wholeSource, wholeTarget}
 use Rattle.scope.specs.Bounds.{Bound, bounds, wholeCells, wholeFrames, wholeCost, checkBounds}
 use Rattle.scope.specs.Header.{checkHeader}
@@ -50,7 +50,8 @@ use Rattle.exactness.specs.Values.{reads-compact, read-is-compact, Hold, value-
 use Rattle.exactness.specs.Types.{TypesPass, types-pass, pass-types, tagAt, type-step, type-fits, same-index}
 use Rattle.exactness.specs.TypeTests.{word-type, type-word}
 use Rattle.exactness.specs.NodeTyping.{NodeTyped, fromTy, toTy, InRange, ArrowsTyped}
-use Rattle.exactness.specs.Arrows.{arrow-range, arrow-typed, typed-arrow, arrows-typed, typed-arrows}
+use Rattle.exactness.specs.Equal.{EqualNodes, NoneEqual, test-equal, equal-test}
+use Rattle.exactness.specs.Arrows.{arrow-range, arrow-typed, typed-arrow, RulesHold, rules-typed, typed-rules, arrows-typed, typed-arrows}
 use Rattle.exactness.specs.Walk.{Counted, walk-counted, done-below, walkCount, walkStep, count-step}
 use Rattle.exactness.specs.Hidden.{HiddenPlaces}
 use Rattle.exactness.specs.Canonical.{walk-canonical, canonical-walk}
@@ -425,13 +426,24 @@ module _ (types : List TypeRecord) (check : checkTypes types ≡ passed tt) wher
     (λ t. typed-arrow types (types-pass types check) nodes arrows i b r (t .0) (t .1)),
   )
 
-  -- The whole check passes exactly if there is one arrow for each node, in range, and the report types each node at its arrow.
+  -- There is one arrow for each node and every arrow's rule holds exactly if each is in range and the report types each node at its arrow.
+  pub rules-exact : (nodes : List Node) (arrows : List Arrow) → Nodes.NodesFit 0 nodes → RulesHold types nodes arrows ↔ ArrowsTyped types nodes arrows
+  rules-exact nodes arrows f = (
+    rules-typed types (types-pass types check) nodes arrows,
+    typed-rules types (types-pass types check) nodes arrows (λ i l. Nodes.fit-at nodes i f l .below),
+  )
+
+  -- The whole check passes exactly if so they are, and no two nodes are equal.
   pub arrows-exact : (nodes : List Node) (arrows : List Arrow) → Nodes.NodesFit 0 nodes
-      → (checkArrows types nodes arrows ≡ passed tt) ↔ ArrowsTyped types nodes arrows
+      → (checkArrows types nodes arrows ≡ passed tt) ↔ (ArrowsTyped types nodes arrows × NoneEqual nodes arrows)
   arrows-exact nodes arrows f = (
     arrows-typed types (types-pass types check) nodes arrows (λ i l. Nodes.fit-at nodes i f l .below),
-    typed-arrows types (types-pass types check) nodes arrows (λ i l. Nodes.fit-at nodes i f l .below),
+    (λ h. typed-arrows types (types-pass types check) nodes arrows (λ i l. Nodes.fit-at nodes i f l .below) (h .0) (h .1)),
   )
+
+-- Equal nodes. The test of two nodes holds exactly if they are the same node of the report, of no exempt kind, at the same arrow.
+pub equal-exact : (nodes : List Node) (arrows : List Arrow) (j i : ℕ) → (equalNodes nodes arrows j i ≡ true) ↔ EqualNodes nodes arrows j i
+equal-exact nodes arrows j i = (test-equal nodes arrows j i, equal-test nodes arrows j i)
 
 -- The walk. With the nodes below k done it refuses or has done all nodes below a count that is no smaller.
 pub walk-count : (nodes : List Node) (i k : ℕ) → Counted k (walkFrom nodes i (upFrom 0 k))
