@@ -142,7 +142,7 @@ small-from s p zero i = lit< tt
 small-from s p (suc n) zero = bit-small s p
 small-from s p (suc n) (suc i) = small-from s (suc p) n i
 
-eight-from : (s : List ℕ) (p : ℕ) → byteBits (numberFrom 0 (bitsFrom (bitsOf s) p 8)) ≡ bitsFrom (bitsOf s) p 8
+pub eight-from : (s : List ℕ) (p : ℕ) → byteBits (numberFrom 0 (bitsFrom (bitsOf s) p 8)) ≡ bitsFrom (bitsOf s) p 8
 unfolding bitsOf bytesOf
 eight-from s p =
     let l = bitsFrom (bitsOf s) p 8 in

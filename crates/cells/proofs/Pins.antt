@@ -10,6 +10,8 @@ use Rattle.cells.proofs.put_bits.Kinds as put-bits-kinds
 use Rattle.cells.proofs.put_bits.Reads as put-bits-reads
 use Rattle.cells.proofs.read_cell.Kinds as read-cell-kinds
 use Rattle.cells.proofs.read_cell.Reads as read-cell-reads
+use Rattle.cells.proofs.read_eight.Kinds as read-eight-kinds
+use Rattle.cells.proofs.read_eight.Reads as read-eight-reads
 use Rattle.cells.proofs.write_cell.Kinds as write-cell-kinds
 use Rattle.cells.proofs.write_cell.Reads as write-cell-reads
 use Rattle.cells.proofs.zero_cells.Kinds as zero-cells-kinds
@@ -17,6 +19,9 @@ use Rattle.cells.proofs.zero_cells.Reads as zero-cells-reads
 
 pub read-cell : OneResult 1 read-cell-kinds.ps read-cell-kinds.r read-cell-reads.Post
 read-cell κs a s t x y p q = p ∙ sym q
+
+pub read-eight : OneResult 1 read-eight-kinds.ps read-eight-kinds.r read-eight-reads.Post
+read-eight κs a s t x y p q = p ∙ sym q
 
 pub write-cell : OneOutcome 1 write-cell-kinds.ps write-cell-kinds.r (λ κs a r x. Bytes (now (x .0)) × write-cell-reads.Post κs a r x)
 write-cell κs a s t v w p q = let e = bits-tell (v .0) (w .0) (p .0) (q .0) (p .1 ∙ sym (q .1)) in (λ i. tt, λ i. e i & tt & tt & tt)

@@ -6,7 +6,7 @@ ghost use mathlib.Core.Path.{_≡_};
 ghost use Prim.Native.Nat.{_+_, _-_, _*_, _%_, _^_, _<_, _≤_};
 ghost use lib.ListN.{length, getD, set};
 ghost use lib.Seq.{sets};
-ghost use Rattle.report.specs.Bits.{byteBits, bitsOf};
+ghost use Rattle.report.specs.Bits.{byteBits, bitsOf, numberFrom};
 ghost use Rattle.scope.specs.Numbers.{zeros};
 ghost use Rattle.common.specs.Cells.{copyBits, bitsFrom};
 
@@ -230,6 +230,13 @@ pub fn read_cell(cells: &[u8], p: u32) -> u8
     ensures { λ r. ⌜ r ≡ getD (bitsOf (now (cells .entry))) p 0 ⌝ }
 {
     cell(cells, p as usize)
+}
+
+// The eight cells from p on, as a byte whose top bit is the first of them; 0 past the end.
+pub fn read_eight(cells: &[u8], p: usize) -> u8
+    ensures { λ r. ⌜ r ≡ numberFrom 0 (bitsFrom (bitsOf (now (cells .entry))) p 8) ⌝ }
+{
+    eight_at(cells, p)
 }
 
 // The cell at p set to b % 2; nothing past the end.

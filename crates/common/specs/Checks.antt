@@ -1,4 +1,4 @@
--- What a test that holds or a check that passed tells, and when one holds or passes: of `every`, `anyBelow`, `same`, `require`, `counted`,
+-- What a test that holds or a check that passed tells, and when one holds or passes: of `every`, `anyBelow`, `same`, `sameKey`, `require`, `counted`,
 -- `each` and of checks in a row. `clash` takes two unlike constructors that are equal to any statement, `not-both` a test that holds and
 -- fails.
 use mathlib.Core.Path.{_≡_, refl, sym, ap, ap₂, _∙_, subst}
@@ -14,6 +14,7 @@ use Rattle.refusal.specs.declared.Refusal.{Refusal}
 use Rattle.refusal.specs.declared.Refusal.the-variants.{Natural}
 use Rattle.scope.specs.Check.{Check, passed, refused, _>>=_, require, firstFailing, each}
 use Rattle.scope.specs.Numbers.{every, anyBelow, same}
+use Rattle.scope.specs.Equal.{sameKey}
 use Rattle.scope.specs.Stages.{counted}
 
 pub clash : {X : Type 0} → _≡_ {A = ℕ} 0 1 → X
@@ -85,6 +86,14 @@ unfolding anyBelow
 below-none zero test h = refl
 below-none (suc n) test h = rw (h n (omega arith), anyBelow) (below-none n test (λ j l. h j (omega arith)))
 
+-- a number below n that passes the test is one
+pub some-below : (n : ℕ) (test : ℕ → Bool) (j : ℕ) → j < n → test j ≡ true → anyBelow n test ≡ true
+some-below n test j l e = go (anyBelow n test) refl
+  where
+    go : (b : Bool) → anyBelow n test ≡ b → anyBelow n test ≡ true
+    go true p = p
+    go false p = not-both e (none-below n test p j l)
+
 -- two lists of numbers pass the test exactly if they are equal
 pub same-equal : (xs ys : List ℕ) → same xs ys ≡ true → xs ≡ ys
 unfolding same
@@ -101,6 +110,18 @@ pub equal-same : (xs : List ℕ) → same xs xs ≡ true
 unfolding same
 equal-same [] = refl
 equal-same (x ∷ xs) = rw (eq-eqb x x refl, same) (equal-same xs)
+
+-- two keys pass the test exactly if they are equal and not none
+pub keys-same : (xs ys : List ℕ) → sameKey xs ys ≡ true → (xs ≡ ys) × (ys ≡ [] → ⊥)
+unfolding sameKey
+keys-same [] ys e = clash (cc)
+keys-same (x ∷ xs) [] e = clash (let z = same-equal (x ∷ xs) [] e in cc)
+keys-same (x ∷ xs) (y ∷ ys) e = (same-equal (x ∷ xs) (y ∷ ys) e, (λ z. clash (cc)))
+
+pub same-keys : (xs : List ℕ) → (xs ≡ [] → ⊥) → sameKey xs xs ≡ true
+unfolding sameKey
+same-keys [] h = absurd (h refl)
+same-keys (x ∷ xs) h = equal-same (x ∷ xs)
 
 -- a test that holds exactly where they are equal is that test
 pub same-told : (b : Bool) (xs ys : List ℕ) → (b ≡ true → xs ≡ ys) → (xs ≡ ys → b ≡ true) → b ≡ same xs ys

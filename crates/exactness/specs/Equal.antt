@@ -8,11 +8,11 @@ use lib.Dec.{eqb}
 use lib.ListN.{length, getD}
 use borrow.Author.Tests.{eqb-true, eq-eqb}
 use Rattle.report.specs.Nodes.{Node, comp, case, pair, disconnect, injl, injr, take, drop, disconnect1, iden, unit, witness, fail, hidden, word}
-use Rattle.scope.specs.Numbers.{every, same, anyBelow}
+use Rattle.scope.specs.Numbers.{every, anyBelow}
 use Rattle.scope.specs.Nodes.{Kind, kComp, kCase, kPair, kDisconnect, kInjl, kInjr, kTake, kDrop, kIden, kUnit, kFail, kDisconnect1, kWitness, kHidden, kWord, kUnknown, kindOf, nodeAt, noNode}
 use Rattle.scope.specs.Equal.{keyOf, sameKey}
 use Rattle.scope.specs.Arrows.{Arrow, source, target, equalNodes, repeats}
-use Rattle.common.specs.Checks.{clash, not-both, every-all, all-every, same-equal, equal-same, none-below, below-none}
+use Rattle.common.specs.Checks.{clash, not-both, every-all, all-every, keys-same, same-keys, none-below, below-none}
 
 -- the kinds that are never held equal
 pub data Exempt : Node → Type 0 where
@@ -97,18 +97,6 @@ same-told m n e h = go (key-told m) (key-told n)
     go (exempt x) t = absurd (h (sym e ∙ exempt-none m x))
     go (told g p) (exempt y) = absurd (h (exempt-none n y))
     go (told g p) (told f q) = sym p ∙ ap ofKey e ∙ q
-
--- the test of two keys
-keys-same : (xs ys : List ℕ) → sameKey xs ys ≡ true → (xs ≡ ys) × (ys ≡ [] → ⊥)
-unfolding sameKey
-keys-same [] ys e = clash (cc)
-keys-same (x ∷ xs) [] e = clash (let z = same-equal (x ∷ xs) [] e in cc)
-keys-same (x ∷ xs) (y ∷ ys) e = (same-equal (x ∷ xs) (y ∷ ys) e, (λ z. clash (cc)))
-
-same-keys : (xs : List ℕ) → (xs ≡ [] → ⊥) → sameKey xs xs ≡ true
-unfolding sameKey
-same-keys [] h = absurd (h refl)
-same-keys (x ∷ xs) h = equal-same (x ∷ xs)
 
 module _ (nodes : List Node) (arrows : List Arrow) where
   -- the tests that two equal nodes pass

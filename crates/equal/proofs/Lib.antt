@@ -1,0 +1,4 @@
+pub mod Digits
+pub mod KindKeys
+pub mod Chains
+pub mod Pins
