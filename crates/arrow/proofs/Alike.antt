@@ -1,22 +1,28 @@
--- Arrows are judged without a look at the bits of words or at the bytes of the hash store.
--- So the pass leaves both out, and its answer is that for the nodes with all their bits and bytes.
-use mathlib.Core.Path.{_≡_, refl, sym, ap, _∙_}
-use mathlib.Core.Bool.{true, false}
+-- The rules of arrows take no look at the bits of words or at the bytes of the hash store, so the pass leaves both out where it judges an
+-- arrow. Where the records keep their rules its answer is that for the nodes with all their bits and bytes.
+use mathlib.Core.Path.{_≡_, refl, sym, ap, ap₂, _∙_}
+use mathlib.Core.Bool.{Bool, true, false, not}
 use mathlib.Core.List.{List, [], _∷_}
-use Prim.Native.Nat.{ℕ}
+use Prim.Native.Nat.{ℕ, _*_, _≤_, _<_}
 use lib.Dec.{eqb}
 use lib.ListN.{length, getD}
-use Rattle.refusal.specs.declared.Refusal.the-variants.{OneChildDisconnect, Arrow as BadArrow}
+use Rattle.limits.specs.Limits.{dossierBytes}
+use Rattle.refusal.specs.declared.Refusal.{Refusal}
+use Rattle.refusal.specs.declared.Refusal.the-variants.{NodeRepeated, OneChildDisconnect, Arrow as BadArrow}
 use Rattle.report.specs.Nodes.{Node}
-use Rattle.scope.specs.Check.{_>>=_, require, each}
-use Rattle.scope.specs.Numbers.{every}
-use Rattle.scope.specs.Types.{TypeRecord, isSum, isProduct, leftAt, rightAt}
-use Rattle.scope.specs.Nodes.{Kind, kComp, kCase, kPair, kDisconnect, kInjl, kInjr, kTake, kDrop, kIden, kUnit, kFail, kDisconnect1, kWitness, kHidden, kWord, kUnknown, kindOf, nodeOf, NodeRecord, nodesOf, nodeAt, onOneChild}
+use Rattle.scope.specs.Check.{Check, _>>=_, require, each}
+use Rattle.scope.specs.Numbers.{every, streamOf}
+use Rattle.scope.specs.Types.{TypeRecord, typeRecords, isSum, isProduct, leftAt, rightAt}
+use Rattle.scope.specs.Nodes.{Kind, kComp, kCase, kPair, kDisconnect, kInjl, kInjr, kTake, kDrop, kIden, kUnit, kFail, kDisconnect1, kWitness, kHidden, kWord, kUnknown, kindOf, nodeOf, NodeRecord, nodeRecords, nodesOf, nodeAt, onOneChild}
 use Rattle.scope.specs.Walk.{hiddenAt}
-use Rattle.scope.specs.Arrows.{Arrow, source, target, goes, branchRule, kindRule, arrowRule, noOneChild, checkArrows}
-use Rattle.scope.specs.Stages.{noRecord}
+use Rattle.scope.specs.Arrows.{Arrow, arrowRecords, source, target, goes, branchRule, kindRule, arrowRule, noOneChild, repeats, nodeRule, nodeRefusal, checkArrows}
+use Rattle.scope.specs.Stages.{noRecord, recordRule}
+use Rattle.common.specs.Checks.{each-alike}
 use Rattle.common.specs.Nodes.{length-nodes, node-at}
 use Rattle.table.proofs.Hashes.{hidden-alike}
+use Rattle.equal.proofs.Lent.{fresh-is}
+use Rattle.arrow.specs.Stage.{lentRule, lentRefusal}
+use Rattle.arrow.proofs.Stages.{whole, oneEach, judged}
 
 module _ (types : List TypeRecord) (arrows : List Arrow) (nodes nodes′ : List Node) (same : (j : ℕ) → hiddenAt nodes j ≡ hiddenAt nodes′ j) where
   branch-alike : (j part rest to : ℕ) → branchRule types nodes arrows j part rest to ≡ branchRule types nodes′ arrows j part rest to
@@ -91,10 +97,48 @@ module _ (bits hashes : List ℕ) (rs : List NodeRecord) where
         ∙ one-child-alike bits hashes (kindOf (r .kind)) (r .first) (r .second)
         ∙ ap (λ n. onOneChild n (λ child. false) true) (sym (node-at [] [] rs i))
 
-    pub arrows-alike : checkArrows types (nodesOf bits hashes rs) arrows ≡ checkArrows types (nodesOf [] [] rs) arrows
-    unfolding checkArrows
-    arrows-alike =
-        let l : length (nodesOf bits hashes rs) ≡ length (nodesOf [] [] rs) = length-nodes bits hashes rs ∙ sym (length-nodes [] [] rs) in
-        λ k. each (l k) (λ i. whole-alike i k) OneChildDisconnect >>= λ one.
-        require (eqb (length arrows) (l k)) (BadArrow (l k)) >>= λ count.
-        each (l k) (λ i. arrow-alike i k) BadArrow
+module _ (types nodes arrows program hashes : List ℕ) (fits : length program ≤ dossierBytes)
+    (kept : (i : ℕ) → i < length (nodeRecords nodes) → recordRule (8 * length program) (length hashes) (nodeRecords nodes) i ≡ true) where
+  -- the tables as records, nodes and arrows
+  abbrev ts : List TypeRecord
+  ts = typeRecords types
+
+  abbrev rs : List NodeRecord
+  rs = nodeRecords nodes
+
+  abbrev ns : List Node
+  ns = nodesOf (streamOf program) hashes rs
+
+  abbrev as′ : List Arrow
+  as′ = arrowRecords arrows
+
+  -- the rule of a node, and why it is refused
+  rule-is : (i : ℕ) → i < length rs → lentRule types nodes arrows program hashes i ≡ nodeRule ts ns as′ i
+  unfolding lentRule nodeRule
+  rule-is i l =
+      ap₂ (λ (a b : Bool). every (a ∷ b ∷ [])) (fresh-is nodes arrows program hashes fits kept i l)
+      (sym (arrow-alike (streamOf program) hashes rs ts as′ i))
+
+  refusal-is : (i : ℕ) → i < length rs → lentRefusal types nodes arrows program hashes i ≡ nodeRefusal ts ns as′ i
+  unfolding lentRefusal nodeRefusal
+  refusal-is i l =
+      ap (λ (b : Bool). elim b [ true ↦ BadArrow i | false ↦ NodeRepeated i ]) (fresh-is nodes arrows program hashes fits kept i l)
+      ∙ go (repeats ns as′ i)
+    where
+      go : (b : Bool) → _≡_ {A = Refusal} (elim (not b) [ true ↦ BadArrow i | false ↦ NodeRepeated i ]) (elim b [ true ↦ NodeRepeated i | false ↦ BadArrow i ])
+      go true = refl
+      go false = refl
+
+  -- THE PASS ANSWERS FOR THE NODES
+  pub arrows-alike : (whole types nodes arrows program hashes >>= λ one. oneEach types nodes arrows program hashes >>= λ count.
+      judged types nodes arrows program hashes)
+      ≡ checkArrows ts ns as′
+  unfolding checkArrows
+  arrows-alike =
+      let l : length rs ≡ length ns = sym (length-nodes (streamOf program) hashes rs) in
+      ap (λ (c : Check (Unit {0})). whole types nodes arrows program hashes >>= λ one. oneEach types nodes arrows program hashes >>= λ count. c)
+      (each-alike (lentRule types nodes arrows program hashes) (nodeRule ts ns as′) (length rs) (lentRefusal types nodes arrows program hashes)
+      (nodeRefusal ts ns as′) rule-is refusal-is)
+      ∙ (λ k. each (l k) (λ i. (sym (whole-alike (streamOf program) hashes rs ts as′ i)) k) OneChildDisconnect >>= λ one.
+      require (eqb (length as′) (l k)) (BadArrow (l k)) >>= λ count.
+      each (l k) (nodeRule ts ns as′) (nodeRefusal ts ns as′))

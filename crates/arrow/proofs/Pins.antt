@@ -22,5 +22,5 @@ arrow-at κs a s t x y p q = arrow-tells s t (p ∙ sym q)
 pub arrow-fits : OneResult 3 arrow-fits-kinds.ps arrow-fits-kinds.r arrow-fits-reads.Post
 arrow-fits κs a s t x y p q = p ∙ sym q
 
-pub check-arrows : OneResult 3 check-arrows-kinds.ps check-arrows-kinds.r check-arrows-reads.Post
+pub check-arrows : OneResult 5 check-arrows-kinds.ps check-arrows-kinds.r check-arrows-reads.Post
 check-arrows κs a s t x y p q = check-tells s t (p ∙ sym q)

@@ -1,5 +1,6 @@
 // Arrows, after types/arrow.rs, but checked and not inferred: a disconnect with one child is refused (11), then a count of arrows other than
-// that of the nodes, then the first node whose arrow is not the report's (12). Types are compared by their indices in a checked table.
+// that of the nodes, then the first node that an earlier one is equal to (9) or whose arrow is not the report's (12). Types are compared by
+// their indices in a checked table.
 use common::Checked;
 use refusal::Refusal;
 use table::NodeRecord;
@@ -21,7 +22,7 @@ ghost use Rattle.common.specs.Answers.{checkOf};
 ghost use Rattle.table.specs.Answers.{recordOf};
 ghost use Rattle.table.specs.Lent.{lentNodes, nodeIs};
 ghost use Rattle.arrow.specs.Answers.{arrowOf};
-ghost use Rattle.arrow.specs.Stage.{countedArrows};
+ghost use Rattle.arrow.specs.Stage.{lentRule, lentRefusal, countedArrows};
 
 // Source and target of a node, as indices of the type table.
 pub struct Arrow {
@@ -350,15 +351,20 @@ fn one_each(nodes: &[u32], arrows: &[u8]) -> Checked
     Checked::Passed
 }
 
-// Each node's arrow is the report's (12).
-fn every_arrow(types: &[u8], nodes: &[u32], arrows: &[u8]) -> Checked
+// Node by node: no earlier node is equal to it (9), and its arrow is the report's (12).
+fn every_node(types: &[u8], nodes: &[u32], arrows: &[u8], program: &[u8], hashes: &[u8]) -> Checked
     requires { ⌜ length (nodeRecords (now nodes)) ≤ nodeCount ⌝ }
     ensures { λ r. ⌜ checkOf r ≡ each (length (nodeRecords (now (nodes .entry))))
-        (arrowRule (typeRecords (now (types .entry))) (lentNodes [] (now (nodes .entry))) (arrowRecords (now (arrows .entry)))) BadArrow ⌝ }
+        (lentRule (now (types .entry)) (now (nodes .entry)) (now (arrows .entry)) (now (program .entry)) (now (hashes .entry)))
+        (lentRefusal (now (types .entry)) (now (nodes .entry)) (now (arrows .entry)) (now (program .entry)) (now (hashes .entry))) ⌝ }
 {
     let n = (nodes.len() / limits::NODE_NUMBERS) as u32;
+    let again = equal::first_repeat(nodes, arrows, program, hashes);
     let mut i: u32 = 0;
     while i < n {
+        if i == again {
+            return Checked::Refused(Refusal::NodeRepeated(i));
+        }
         if !arrow_fits(types, nodes, arrows, i) {
             return Checked::Refused(Refusal::Arrow(i));
         }
@@ -367,9 +373,15 @@ fn every_arrow(types: &[u8], nodes: &[u32], arrows: &[u8]) -> Checked
     Checked::Passed
 }
 
-// The arrows of a lent node table, after its count (4): 11, then 12.
-pub fn check_arrows(types: &[u8], nodes: &[u32], arrows: &[u8]) -> Checked
-    ensures { λ r. ⌜ checkOf r ≡ countedArrows (now (types .entry)) (now (nodes .entry)) (now (arrows .entry)) ⌝ }
+// The arrows of a lent node table, after its count (4): 11, the count of the arrows, then node by node 9 and 12.
+pub fn check_arrows(
+    types: &[u8],
+    nodes: &[u32],
+    arrows: &[u8],
+    program: &[u8],
+    hashes: &[u8],
+) -> Checked
+    ensures { λ r. ⌜ checkOf r ≡ countedArrows (now (types .entry)) (now (nodes .entry)) (now (arrows .entry)) (now (program .entry)) (now (hashes .entry)) ⌝ }
 {
     let some = table::check_count(nodes);
     let Checked::Passed = some else {
@@ -381,5 +393,5 @@ pub fn check_arrows(types: &[u8], nodes: &[u32], arrows: &[u8]) -> Checked
     let Checked::Passed = both else {
         return both;
     };
-    every_arrow(types, nodes, arrows)
+    every_node(types, nodes, arrows, program, hashes)
 }

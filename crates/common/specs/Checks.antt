@@ -1,5 +1,5 @@
--- What a test that holds or a check that passed tells, and when one holds or passes: of `every`, `anyBelow`, `same`, `sameKey`, `require`, `counted`,
--- `each` and of checks in a row. `clash` takes two unlike constructors that are equal to any statement, `not-both` a test that holds and
+-- What a test that holds or a check that passed tells, and when one holds or passes: of `every`, `anyBelow`, `same`, `sameKey`, `require`,
+-- `counted`, `each` and of checks in a row. `clash` takes two unlike constructors that are equal to any statement, `not-both` a test that holds and
 -- fails.
 use mathlib.Core.Path.{_≡_, refl, sym, ap, ap₂, _∙_, subst}
 use mathlib.Core.Bool.{Bool, true, false}
@@ -253,3 +253,52 @@ unfolding each
 holds-each n test refusal h =
     let p = holds-first test n 0 (λ j l m. h j (omega arith)) in
     holds-require _ _ (eq-eqb (firstFailing test n 0) n (omega arith))
+
+-- the test holds before the first number at which it fails, and fails there
+pub first-passed : (test : ℕ → Bool) (k i j : ℕ) → i ≤ j → j < firstFailing test k i → test j ≡ true
+unfolding firstFailing
+first-passed test zero i j l m = absurd (omega arith)
+first-passed test (suc k) i j l m = go (test i) refl m (first-passed test k (suc i) j)
+  where
+    go : (b : Bool) → test i ≡ b → j < elim b [ true ↦ firstFailing test k (suc i) | false ↦ i ]
+        → (suc i ≤ j → j < firstFailing test k (suc i) → test j ≡ true) → test j ≡ true
+    go true p m h = elim (decLt i j) [ yes n ↦ h n m | no n ↦ (let q : j ≡ i = omega arith in ap test q ∙ p) ]
+    go false p m h = absurd (omega arith)
+
+pub first-refused : (test : ℕ → Bool) (k i : ℕ) → firstFailing test k i < i + k → test (firstFailing test k i) ≡ false
+unfolding firstFailing
+first-refused test zero i m = absurd (omega arith)
+first-refused test (suc k) i m = go (test i) refl m (first-refused test k (suc i))
+  where
+    go : (b : Bool) → test i ≡ b → elim b [ true ↦ firstFailing test k (suc i) | false ↦ i ] < i + suc k
+        → (firstFailing test k (suc i) < suc i + k → test (firstFailing test k (suc i)) ≡ false)
+        → test (elim b [ true ↦ firstFailing test k (suc i) | false ↦ i ]) ≡ false
+    go true p m h = h (omega arith)
+    go false p m h = p
+
+-- tests that are alike below n, with refusals that are
+module _ (test test′ : ℕ → Bool) where
+  first-alike : (k i : ℕ) → ((j : ℕ) → i ≤ j → j < i + k → test j ≡ test′ j) → firstFailing test k i ≡ firstFailing test′ k i
+  unfolding firstFailing
+  first-alike zero i h = refl
+  first-alike (suc k) i h = go (test i) (test′ i) (h i (omega arith) (omega arith)) (first-alike k (suc i) (λ j l m. h j (omega arith) (omega arith)))
+    where
+      go : (b c : Bool) → b ≡ c → firstFailing test k (suc i) ≡ firstFailing test′ k (suc i)
+          → _≡_ {A = ℕ} (elim b [ true ↦ firstFailing test k (suc i) | false ↦ i ]) (elim c [ true ↦ firstFailing test′ k (suc i) | false ↦ i ])
+      go true true e f = f
+      go true false e f = not-both refl e
+      go false true e f = not-both e refl
+      go false false e f = refl
+
+  pub each-alike : (n : ℕ) (refusal refusal′ : ℕ → Refusal) → ((i : ℕ) → i < n → test i ≡ test′ i) → ((i : ℕ) → i < n → refusal i ≡ refusal′ i)
+      → each n test refusal ≡ each n test′ refusal′
+  unfolding each require
+  each-alike n refusal refusal′ h k =
+      let e = first-alike n 0 (λ j l m. h j (omega arith)) in
+      ap (λ (i : ℕ). require (eqb i n) (refusal i)) e ∙ go (firstFailing test′ n 0) (first-before test′ n 0)
+    where
+      go : (i : ℕ) → i ≤ 0 + n → require (eqb i n) (refusal i) ≡ require (eqb i n) (refusal′ i)
+      go i l = elim (decLt i n) [
+        | yes m ↦ ap (require (eqb i n)) (k i m)
+        | no m ↦ (let p : eqb i n ≡ true = eq-eqb i n (omega arith) in rw p)
+      ]

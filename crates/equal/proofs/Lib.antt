@@ -1,4 +1,5 @@
 pub mod Digits
 pub mod KindKeys
 pub mod Chains
+pub mod Lent
 pub mod Pins

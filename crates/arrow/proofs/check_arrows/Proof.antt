@@ -28,13 +28,13 @@ returns c = c .before .before .check-count .ensures ∙ stops (sym (c .before .b
 
 none-one-child-requires : tie.Need-none-one-child-requires
 none-one-child-requires c κs =
-    let args = c .before .before .before .before .before .before .args in
+    let args = c .before .before .before .before .before .before .before .before .args in
     let check-count-call = c .before .before .check-count in
     counted-passed (length (nodeRecords (args .nodes .now))) nodeCount (sym (check-count-call .ensures) ∙ ap checkOf (c .enum-told .given .1)) .1
 
 one-each-requires : tie.Need-one-each-requires
 one-each-requires c κs =
-    let args = c .before .before .before .before .before .before .before .args in
+    let args = c .before .before .before .before .before .before .before .before .before .args in
     let check-count-call = c .before .before .before .check-count in
     counted-passed (length (nodeRecords (args .nodes .now))) nodeCount
     (sym (check-count-call .ensures) ∙ ap checkOf (c .before .enum-told .given .1)) .1
@@ -50,34 +50,34 @@ enum-told-4 c = search needs
 
 returns-2 : tie.Need-returns-2
 returns-2 c =
-    let args = c .before .before .before .before .before .before .before .before .before .before .before .args in
+    let args = c .before .before .before .before .before .before .before .before .before .before .before .before .before .args in
     let check-count-call = c .before .before .before .before .before .before .before .check-count in
     let enum-told-found = c .before .before .before .before .before .enum-told in
     let none-one-child-call = c .before .before .before .before .none-one-child in
     let one-each-call = c .before .before .before .one-each in
     let first-refusal-call = c .before .before .first-refusal in
     (first-refusal-call .ensures ∙ ap₂ inTurn (none-one-child-call .ensures (typeRecords (args .types .now)) (arrowRecords (args .arrows .now)))
-    (one-each-call .ensures)) ∙ arrows-stop (args .types .now) (args .nodes .now) (args .arrows .now)
+    (one-each-call .ensures)) ∙ arrows-stop (args .types .now) (args .nodes .now) (args .arrows .now) (args .program .now) (args .hashes .now)
     (sym (check-count-call .ensures) ∙ ap checkOf (enum-told-found .given .1))
     (sym (first-refusal-call .ensures ∙ ap₂ inTurn (none-one-child-call .ensures (typeRecords (args .types .now)) (arrowRecords (args .arrows .now)))
     (one-each-call .ensures)) ∙ ap checkOf (c .enum-told4 .given .1))
 
-every-arrow-requires : tie.Need-every-arrow-requires
-every-arrow-requires c κs =
-    let args = c .before .before .before .before .before .before .before .before .before .before .before .args in
+every-node-requires : tie.Need-every-node-requires
+every-node-requires c κs =
+    let args = c .before .before .before .before .before .before .before .before .before .before .before .before .before .args in
     let check-count-call = c .before .before .before .before .before .before .before .check-count in
     let enum-told-found = c .before .before .before .before .before .enum-told in
     counted-passed (length (nodeRecords (args .nodes .now))) nodeCount (sym (check-count-call .ensures) ∙ ap checkOf (enum-told-found .given .1)) .1
 
 returns-3 : tie.Need-returns-3
 returns-3 c =
-    let args = c .before .before .before .before .before .before .before .before .before .before .before .before .args in
+    let args = c .before .before .before .before .before .before .before .before .before .before .before .before .before .before .args in
     let check-count-call = c .before .before .before .before .before .before .before .before .check-count in
     let enum-told-found = c .before .before .before .before .before .before .enum-told in
     let none-one-child-call = c .before .before .before .before .before .none-one-child in
     let one-each-call = c .before .before .before .before .one-each in
     let first-refusal-call = c .before .before .before .first-refusal in
-    c .every-arrow .ensures ∙ arrows-judged (args .types .now) (args .nodes .now) (args .arrows .now)
+    c .every-node .ensures ∙ arrows-judged (args .types .now) (args .nodes .now) (args .arrows .now) (args .program .now) (args .hashes .now)
     (sym (check-count-call .ensures) ∙ ap checkOf (enum-told-found .given .1))
     (sym (first-refusal-call .ensures ∙ ap₂ inTurn (none-one-child-call .ensures (typeRecords (args .types .now)) (arrowRecords (args .arrows .now)))
     (one-each-call .ensures)) ∙ ap checkOf (c .before .enum-told3 .given .1))
@@ -96,5 +96,5 @@ check-arrows-spec =
     enum-told-3
     enum-told-4
     returns-2
-    every-arrow-requires
+    every-node-requires
     returns-3)
