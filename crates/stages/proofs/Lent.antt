@@ -1,14 +1,16 @@
 -- The stages over lent tables, in the pieces in which the code goes through them: each check in its turn, and the first refusal is the answer.
--- A pass tests the node count again, which by then is known to be fine, and leaves out the bits of words, which it does not look at.
+-- A pass tests the node count again, which by then is known to be fine. That of the walk leaves out the bits of words, which it does not look
+-- at, and that of the arrows answers for the nodes, since the records are known to keep their rules.
 use mathlib.Core.Path.{_≡_, refl, sym, ap, _∙_}
+use mathlib.Core.Bool.{true}
 use mathlib.Core.List.{List, []}
-use Prim.Native.Nat.{ℕ, _<_, _≤_}
+use Prim.Native.Nat.{ℕ, _*_, _<_, _≤_}
 use lib.Dec.{leb}
 use lib.ListN.{length}
-use borrow.Author.Tests.{le-leb, lt-leb}
+use borrow.Author.Tests.{leb-true, le-leb, lt-leb}
 use Rattle.limits.specs.Limits.{typeCount, nodeCount, dossierBytes}
 use Rattle.refusal.specs.declared.Refusal.{Refusal}
-use Rattle.refusal.specs.declared.Refusal.the-variants.{Header}
+use Rattle.refusal.specs.declared.Refusal.the-variants.{Header, NodeRecord as BadNodeRecord}
 use Rattle.scope.specs.Check.{Check, passed, refused, _>>=_, require}
 use Rattle.scope.specs.Numbers.{streamOf}
 use Rattle.scope.specs.Types.{typeRecords, checkTypes}
@@ -17,13 +19,14 @@ use Rattle.scope.specs.Walk.{checkWalk}
 use Rattle.scope.specs.Arrows.{arrowRecords, checkArrows}
 use Rattle.scope.specs.Hashes.{checkHashes}
 use Rattle.scope.specs.Run.{checkTables}
-use Rattle.scope.specs.Stages.{counted, checkRecords, lentTables, tablesLent, arrowStage, hashStage}
-use Rattle.common.specs.Checks.{both-passed, then-then, stops, passes}
+use Rattle.scope.specs.Stages.{counted, recordRule, checkRecords, lentTables, tablesLent, arrowStage, hashStage}
+use Rattle.common.specs.Checks.{both-passed, require-holds, each-holds, then-then, stops, passes}
 use Rattle.types.specs.Table.{countedTypes}
 use Rattle.table.specs.Lent.{lentNodes}
 use Rattle.table.specs.Stage.{countedRecords, countedWalk}
 use Rattle.table.proofs.AnyBits.{walk-any-bits}
 use Rattle.arrow.specs.Stage.{countedArrows}
+use Rattle.arrow.proofs.Stages.{arrows-counted}
 use Rattle.arrow.proofs.Alike.{arrows-alike}
 use Rattle.hashes.specs.Hashes.{countedHashes}
 use Rattle.hashes.proofs.Entries.{hashes-alike}
@@ -107,23 +110,36 @@ module _ (said : Check (Unit {0})) (types nodes program hashes : List ℕ) where
   pub tables-counted : tables ≡ passed tt → counted (length (nodeRecords nodes)) nodeCount ≡ passed tt
   tables-counted e = both-passed (counted (length (nodeRecords nodes)) nodeCount) (λ x. fromCount) tt (tables-by ∙ e) .1
 
+  -- a program within the limit, and records that keep their rules
+  pub tables-kept : tables ≡ passed tt → (length program ≤ dossierBytes)
+      × ((i : ℕ) → i < length (nodeRecords nodes) → recordRule (8 * length program) (length hashes) (nodeRecords nodes) i ≡ true)
+  unfolding checkRecords
+  tables-kept e =
+      let a = both-passed (counted (length (nodeRecords nodes)) nodeCount) (λ x. fromCount) tt (tables-by ∙ e) in
+      let b = both-passed (counted (length (typeRecords types)) typeCount) (λ x. fromRecords) tt (a .2) in
+      let c = both-passed (checkRecords program hashes (nodeRecords nodes)) (λ x. fromLength) tt (b .2) in
+      let d = both-passed (require (leb (length program) dossierBytes) (Header 0)) (λ x. fromTypes) tt (c .2) in (
+        leb-true (length program) dossierBytes (require-holds (leb (length program) dossierBytes) (Header 0) _ (d .1)),
+        each-holds (length (nodeRecords nodes)) (recordRule (8 * length program) (length hashes) (nodeRecords nodes)) BadNodeRecord _ (c .1),
+      )
+
   -- their arrows, and their hashes
   module _ (arrows : List ℕ) where
     pub told-arrows-stop : {why : Refusal} → tables ≡ refused why → tables ≡ toldArrows said types nodes arrows program hashes
     unfolding toldArrows
     told-arrows-stop e = stops e _
 
-    pub told-arrows-last : tables ≡ passed tt → countedArrows types nodes arrows ≡ toldArrows said types nodes arrows program hashes
-    unfolding countedArrows toldArrows
+    pub told-arrows-last : tables ≡ passed tt → countedArrows types nodes arrows program hashes ≡ toldArrows said types nodes arrows program hashes
+    unfolding toldArrows
     told-arrows-last e =
-        sym (passes (tables-counted e) (λ x. checkArrows (typeRecords types) (lentNodes [] nodes) (arrowRecords arrows)))
-        ∙ sym (arrows-alike (streamOf program) hashes (nodeRecords nodes) (typeRecords types) (arrowRecords arrows))
+        sym (arrows-counted types nodes arrows program hashes (tables-counted e))
+        ∙ arrows-alike types nodes arrows program hashes (tables-kept e .0) (tables-kept e .1)
         ∙ passes e (λ x. checkArrows (typeRecords types) (nodesOf (streamOf program) hashes (nodeRecords nodes)) (arrowRecords arrows))
 
     -- arrows that passed have a fine count of nodes
-    arrows-counted : toldArrows said types nodes arrows program hashes ≡ passed tt → counted (length (nodeRecords nodes)) nodeCount ≡ passed tt
+    arrows-some : toldArrows said types nodes arrows program hashes ≡ passed tt → counted (length (nodeRecords nodes)) nodeCount ≡ passed tt
     unfolding toldArrows
-    arrows-counted e =
+    arrows-some e =
         tables-counted
         (both-passed tables (λ x. checkArrows (typeRecords types) (nodesOf (streamOf program) hashes (nodeRecords nodes)) (arrowRecords arrows)) tt
         e .1)
@@ -138,7 +154,7 @@ module _ (said : Check (Unit {0})) (types nodes program hashes : List ℕ) where
           → countedHashes nodes given ≡ toldHashes said types nodes arrows program hashes given
       unfolding countedHashes toldHashes
       told-hashes-last e =
-          sym (passes (arrows-counted e) (λ x. checkHashes (lentNodes [] nodes) given))
+          sym (passes (arrows-some e) (λ x. checkHashes (lentNodes [] nodes) given))
           ∙ sym (hashes-alike (streamOf program) hashes (nodeRecords nodes) given)
           ∙ passes e (λ arrowed. checkHashes (nodesOf (streamOf program) hashes (nodeRecords nodes)) given)
 

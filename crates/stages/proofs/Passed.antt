@@ -96,7 +96,7 @@ module _ (types nodes program hashes : List ℕ) where
     pub stage-arrows : arrowStage types nodes arrows program hashes ≡ passed tt
         → (i : ℕ) → i < length (nodeRecords nodes) → arrowRule (typeRecords types) (nodesIn nodes program hashes) (arrowRecords arrows) i ≡ true
     stage-arrows e i h =
-        arrows-pass (typeRecords types) (nodesIn nodes program hashes) (arrowRecords arrows) (stage-passed e .1) .1 i
+        arrows-pass (typeRecords types) (nodesIn nodes program hashes) (arrowRecords arrows) (stage-passed e .1) .0 .1 i
         (omega (arith, length-nodes (streamOf program) hashes (nodeRecords nodes)))
 
     -- and up to the hashes: the arrows, and the hashes

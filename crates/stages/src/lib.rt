@@ -1,5 +1,5 @@
-// The stages over lent tables, each after the ones before it: all that is tested again (4, 26, 1, 2, 6 to 9), then the arrows (11, 12), then the
-// supplied hashes (13). The check of the types makes arrays of widths and of next records. A stage hands them back with its verdict, so that
+// The stages over lent tables, each after the ones before it: all that is tested again (4, 26, 1, 2, 6 to 9), then the arrows (11, 12, and 9
+// for equal nodes), then the supplied hashes (13). The check of the types makes arrays of widths and of next records. A stage hands them back with its verdict, so that
 // who goes on after it checks no table twice and is told nothing by a caller.
 use common::Checked;
 use refusal::Refusal;
@@ -41,7 +41,7 @@ fn told_tables(held: Checked, types: &[u8], nodes: &[u32], program: &[u8], hashe
     table::walk(nodes, hashes)
 }
 
-// The same, then 11 and 12.
+// The same, then 11, 12 and 9 for equal nodes.
 fn told_arrows(
     held: Checked,
     types: &[u8],
@@ -57,7 +57,7 @@ fn told_arrows(
     let Checked::Passed = tables else {
         return tables;
     };
-    arrow::check_arrows(types, nodes, arrows)
+    arrow::check_arrows(types, nodes, arrows, program, hashes)
 }
 
 // The same, then 13.
