@@ -48,7 +48,7 @@ uint32_t drevaloci_decode(const uint8_t *program, size_t program_len, uint32_t *
 uint32_t drevaloci_walk(const uint8_t *program, size_t program_len, const uint8_t *hashes, size_t hashes_len,
                         const uint32_t *nodes, size_t nodes_len, uint32_t *place);
 
-/* Judges types and arrows: all that drevaloci_walk does, the type records (2), one-child disconnects (11), arrows (12).
+/* Judges types and arrows: all that drevaloci_walk does, the type records (2), one-child disconnects (11), equal nodes (9) and arrows (12).
  * 0 where they pass, else the refusal at *place. types has 5 bytes a record, arrows 4 bytes a node, as in a dossier. */
 uint32_t drevaloci_arrows(const uint8_t *types, size_t types_len, const uint32_t *nodes, size_t nodes_len,
                           const uint8_t *arrows, size_t arrows_len, const uint8_t *program, size_t program_len,

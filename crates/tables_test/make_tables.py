@@ -389,9 +389,11 @@ def cases(folder):
             continue
         size, start = (int.from_bytes(dossier[k:k + 4], "big") for k in (12, 16))
         made, found, table, data = program_record(dossier[start:start + size], node_numbers, hash_bytes)
-        if answer[0] <= 10 and answer[0] or answer[0] == 21 or answer in ((17, 3), (17, 4)):
+        # 9 of equal nodes is found with the arrows, as 11 to 13 are after decoding
+        equal = answer[0] == 9 and found == (0, 0)
+        if not equal and (answer[0] <= 10 and answer[0] or answer[0] == 21 or answer in ((17, 3), (17, 4))):
             same(answer, found, name)
-        if answer[0] not in (11, 12, 13):
+        if not equal and answer[0] not in (11, 12, 13):
             same(number_list(nodes), sum(table, []) + [0] * (node_numbers - 4 * len(table)), name)
             same(hashes, data + bytes(hash_bytes - len(data)), name)
         yield made

@@ -92,6 +92,23 @@ impl Row {
         matches!(self, Row::Hidden(_))
     }
 
+    /// What tells the node from others, but for its arrow: its kind, then its children, its word's n and bits or its fail
+    /// bytes. None of a node that may stand twice.
+    pub fn key(&self) -> Option<Vec<usize>> {
+        if matches!(self, Row::Disconnect(..) | Row::Disconnect1(_) | Row::Witness | Row::Hidden(_)) {
+            return None;
+        }
+        let (l, r) = self.children();
+        let mut key = vec![self.kind()];
+        key.extend([l, r].into_iter().flatten());
+        if let Row::Word(word) = self {
+            key.push(word.n() as usize);
+            key.extend(word.iter().map(usize::from));
+        }
+        key.extend(self.hash_bytes().iter().map(|byte| usize::from(*byte)));
+        Some(key)
+    }
+
     /// The bytes that the node has in the hash store.
     pub fn hash_bytes(&self) -> &[u8] {
         match self {

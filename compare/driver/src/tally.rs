@@ -50,6 +50,8 @@ pub struct Tally {
     pub kinds: [Kind; 15],
     /// Visits of assertions, left and right, which are kind 1 too.
     pub assertions: [u64; 2],
+    /// Programs that were made with equal nodes and had to be shared.
+    pub shared: u64,
     results: BTreeMap<(&'static str, Rests), [u64; 2]>,
     answers: BTreeMap<u32, u64>,
     skipped: BTreeMap<&'static str, u64>,
@@ -116,6 +118,7 @@ impl Tally {
         }
         let c = self.total();
         println!("| all | {} | {} | {} |", c.programs, c.run, c.outputs);
+        println!("\n{} programs were made with equal nodes, and shared before they were judged.", self.shared);
     }
 
     /// Prints the counts of nodes.

@@ -134,8 +134,9 @@ pub struct Job {
     pub output: usize,
 }
 
-/// The job of a program on an input, with any witness.
+/// The job of a program on an input, with any witness; equal nodes are made one.
 pub fn job(made: &Made, input: Value) -> Job {
+    let (made, _) = made.shared();
     let dossier = made.dossier_on(&mut Rng::new(5), &input);
     let bytes = dossier.to_bytes();
     let sections = header::open(&bytes).expect("within the limits");

@@ -276,6 +276,9 @@ fn replay_random() {
     t = replay_file(b"random1", false, t);
     t = replay_file(b"random2", false, t);
     t = replay_file(b"random3", false, t);
+    t = replay_file(b"random4", false, t);
+    t = replay_file(b"random5", false, t);
+    t = replay_file(b"random6", false, t);
     packed::print_tally(b"random", t);
 }
 

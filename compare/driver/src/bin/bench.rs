@@ -1,6 +1,6 @@
 //! Times of the proved library and of the original on the same inputs, in one run.
 //!
-//!   bench [--quick] [--only naturals|decode|machine]
+//!   bench [--quick] [--only naturals|decode|arrows|machine]
 //!   bench --lines
 //!   bench --calls COUNT RIVAL LINE
 //!
@@ -16,13 +16,14 @@
 //! in "whole" and left out of "exec" and "input to output bits", where the machine is made beforehand.
 
 use compare::clock::{clocked, race, task, Effort, Task, Time};
-use compare::document::{DOSSIER_BYTES, NODE_COUNT};
+use compare::document::{header, DOSSIER_BYTES, NODE_COUNT};
+use compare::facts::decoding::{Decoding, Table};
 use compare::making::{any_value, families, types, Made};
 use compare::original::{decode, nodes, write};
 use compare::rng::Rng;
 use compare::row::Row;
 use compare::timed::{self, Largest};
-use drevaloci::{Answer, Decoded};
+use drevaloci::{Answer, Checked, Decoded, Tables};
 use simplicity::types::Final;
 use simplicity::Value;
 use std::cell::RefCell;
@@ -55,6 +56,8 @@ const DECODE: [&str; 6] = [
     "library, reading alone",
 ];
 const DECODE_PAIRS: [(usize, usize); 3] = [(3, 1), (3, 2), (5, 2)];
+const ARROWS: [&str; 2] = ["library, stage of the walk", "library, stage of the arrows"];
+const ARROW_PAIRS: [(usize, usize); 1] = [(1, 0)];
 const RUN: [&str; 8] = [
     "original, exec",
     "original, input to output bits",
@@ -163,6 +166,31 @@ fn decoding_of(aim: &Aim, name: &str, size: usize, family: fn(usize, u64) -> Vec
     }
 }
 
+/// One program, its arrows and equal nodes judged.
+fn arrows_of(aim: &Aim, name: &str, made: &Made) {
+    if !aim.wants(name) {
+        return;
+    }
+    let bytes = made.dossier(&mut Rng::new(5)).to_bytes();
+    let sections = header::open(&bytes).expect("within the limits");
+    let table = Table::of(&Decoding::of(sections[1].1, false).read);
+    let tables = Tables {
+        types: sections[0].1,
+        nodes: &table.nodes,
+        arrows: sections[2].1,
+        program: sections[1].1,
+        hashes: &table.hashes,
+    };
+    assert_eq!(drevaloci::arrows(tables), Checked::Passed);
+    let tasks = vec![
+        task(|| clocked(|| drevaloci::walk(black_box(tables.program), tables.hashes, tables.nodes))),
+        task(|| clocked(|| drevaloci::arrows(black_box(tables)))),
+    ];
+    if let Some(times) = contest(aim, &ARROWS, tasks) {
+        print(&format!("{name}, {} nodes, {} bytes", made.rows.len(), bytes.len()), &times, &ARROW_PAIRS);
+    }
+}
+
 /// One program, run.
 fn running(aim: &Aim, name: &str, made: &Made, input: Value) {
     if let Aim::Lines = aim {
@@ -263,6 +291,17 @@ fn all_naturals(aim: &Aim) {
     });
 }
 
+/// Every line of the stage of the arrows.
+fn arrows(aim: &Aim) {
+    let one = Final::unit();
+    arrows_of(aim, "comps of one arrow", &families::fixed(families::comp_chains(NODE_COUNT), &one, &one));
+    arrows_of(
+        aim,
+        "words of 64 bits, unlike in the last ones, each thrown away",
+        &families::thrown_words(NODE_COUNT),
+    );
+}
+
 /// Every line of decoding.
 fn decoding(aim: &Aim) {
     for n in [1_000, 1_500, 2_048, NODE_COUNT - 1] {
@@ -283,6 +322,7 @@ fn measure() {
             let aim = Aim::Calls { count, rival: rival.into(), line: line.into() };
             all_naturals(&aim);
             decoding(&aim);
+            arrows(&aim);
             return machine(&aim);
         }
         _ => {}
@@ -302,6 +342,10 @@ fn measure() {
     if wanted("decode") {
         heading("Decoding", &DECODE, &DECODE_PAIRS);
         decoding(&aim);
+    }
+    if wanted("arrows") {
+        heading("The stage of the arrows", &ARROWS, &ARROW_PAIRS);
+        arrows(&aim);
     }
     if wanted("machine") {
         heading("The machine and the whole job", &RUN, &RUN_PAIRS);

@@ -113,7 +113,7 @@ fn compare_all() -> bool {
     at_limits(&mut judge, &mut rng);
     naturals(&mut judge, &mut rng, (settings.programs / 4) as usize);
     while judge.tally.total().programs < settings.programs {
-        let (class, dossier) = classes::any(&mut rng);
+        let (class, dossier) = classes::any(&mut rng, &mut judge.tally.shared);
         judge.dossier(class, &dossier);
     }
     println!("Seed {}, {} programs.", settings.seed, judge.tally.total().programs);

@@ -1,5 +1,5 @@
 //! The left-first walk with the places that the requirements give (refusals 6 to 9), one-child
-//! disconnects (11), and supplied hashes (13).
+//! disconnects (11), equal nodes (9), and supplied hashes (13).
 
 use crate::document::Refused;
 use crate::row::Row;
@@ -58,6 +58,13 @@ pub fn refused(rows: &[Row]) -> Option<Refused> {
 pub fn one_child(rows: &[Row]) -> Option<Refused> {
     let at = rows.iter().position(|row| matches!(row, Row::Disconnect1(_)))?;
     Some((11, at as u32))
+}
+
+/// The first row that an earlier one is equal to, its arrow included.
+pub fn equal_row(rows: &[Row], arrows: &[u8]) -> Option<usize> {
+    let mut known = HashSet::new();
+    let repeats = |(row, arrow): (&Row, &[u8])| row.key().is_some_and(|key| !known.insert((key, arrow.to_vec())));
+    rows.iter().zip(arrows.chunks_exact(4)).position(repeats)
 }
 
 /// What is wrong with the supplied hashes.

@@ -31,7 +31,7 @@ pub struct Facts<'a> {
     answer_bytes: usize,
     /// 1 or 2.
     early: Option<Verdict>,
-    /// 11 to 16.
+    /// 11 to 16, and 9 of equal nodes.
     later: Option<Verdict>,
     pub ended: Option<Ended>,
     pub not_run: Option<NotRun>,
@@ -45,7 +45,16 @@ pub struct Wanted {
     pub left: Contents,
 }
 
-/// Refusals 11 and 12; the arrows if they pass.
+/// Refusal 12 of a node's arrow.
+fn unfit(rows: &[Row], arrows: &[FinalArrow]) -> Option<Verdict> {
+    if let Some(at) = typing::first_unfit(rows, arrows) {
+        let rests = if rows[at].is_hidden() { Rests::Document } else { Rests::Original };
+        return Some(Verdict { number: 12, place: at as u32, number_rests: rests, place_rests: rests });
+    }
+    (arrows.len() < rows.len()).then(|| Verdict::document((12, arrows.len() as u32)))
+}
+
+/// Refusals 11 and 12, and 9 of equal nodes; the arrows if they pass.
 fn arrows_of(rows: &[Row], sections: &header::Sections) -> Result<Vec<FinalArrow>, Verdict> {
     if let Some(refused) = walk::one_child(rows) {
         return Err(Verdict::document(refused));
@@ -55,14 +64,13 @@ fn arrows_of(rows: &[Row], sections: &header::Sections) -> Result<Vec<FinalArrow
     }
     let finals = dossier::finals(sections[0].1);
     let arrows = dossier::final_arrows(&finals, sections[2].1);
-    if let Some(at) = typing::first_unfit(rows, &arrows) {
-        let rests = if rows[at].is_hidden() { Rests::Document } else { Rests::Original };
-        return Err(Verdict { number: 12, place: at as u32, number_rests: rests, place_rests: rests });
+    let unfit = unfit(rows, &arrows);
+    if let Some(at) = walk::equal_row(rows, sections[2].1) {
+        if unfit.is_none_or(|verdict| at as u32 <= verdict.place) {
+            return Err(Verdict::document((9, at as u32)));
+        }
     }
-    if arrows.len() < rows.len() {
-        return Err(Verdict::document((12, arrows.len() as u32)));
-    }
-    Ok(arrows)
+    unfit.map_or(Ok(arrows), Err)
 }
 
 /// Refusal 14.
@@ -109,7 +117,7 @@ impl<'a> Facts<'a> {
         facts
     }
 
-    /// Checks 11 to 16, then the run.
+    /// Checks 11 to 16 with 9 of equal nodes, then the run.
     fn after_decoding(&mut self, rows: &[Row], old: &[u8], most_cost: u64) -> Result<(), Verdict> {
         let arrows = arrows_of(rows, &self.sections)?;
         let given = self.sections[5].1;
@@ -136,7 +144,7 @@ impl<'a> Facts<'a> {
         Ok(())
     }
 
-    /// The refusal of 11 to 16, which stages that are lent the table must give too.
+    /// The refusal of 11 to 16, or 9 of equal nodes, which stages that are lent the table must give too.
     pub fn later(&self) -> Option<Verdict> {
         self.later
     }

@@ -51,6 +51,13 @@ fn inferred(rng: &mut Rng, made: &Made) -> Made {
     Made { rows: made.rows.clone(), arrows }
 }
 
+/// A program with equal nodes made one, counted if there were any.
+fn sharing(made: Made, shared: &mut u64) -> Made {
+    let (made, fewer) = made.shared();
+    *shared += u64::from(fewer);
+    made
+}
+
 /// One program of known shape, of any size.
 fn shaped(rng: &mut Rng) -> Vec<Row> {
     let n = 1 + rng.below(400);
@@ -63,14 +70,23 @@ fn shaped(rng: &mut Rng) -> Vec<Row> {
     }
 }
 
-/// One more dossier, and the name of its class.
-pub fn any(rng: &mut Rng) -> (&'static str, Vec<u8>) {
+/// One more dossier, and the name of its class. Programs made along their types have no equal nodes, but for one in 16; how
+/// many had to be shared for that is counted.
+pub fn any(rng: &mut Rng, shared: &mut u64) -> (&'static str, Vec<u8>) {
     let made = generated(rng);
     match rng.below(20) {
-        0..=6 => ("typed, arrows inferred by the original", inferred(rng, &made).dossier(rng).to_bytes()),
-        7..=12 => ("typed, other arrows", made.dossier(rng).to_bytes()),
+        0..=6 => {
+            let made = inferred(rng, &made);
+            let made = if rng.once_in(16) { made } else { sharing(made, shared) };
+            ("typed, arrows inferred by the original", made.dossier(rng).to_bytes())
+        }
+        7..=12 => {
+            let made = if rng.once_in(16) { made } else { sharing(made, shared) };
+            ("typed, other arrows", made.dossier(rng).to_bytes())
+        }
         13..=15 => {
             let made = if rng.once_in(2) { inferred(rng, &made) } else { made };
+            let made = sharing(made, shared);
             let dossier = made.dossier(rng);
             ("damaged", damage::any(rng, &made, &dossier))
         }
@@ -81,7 +97,10 @@ pub fn any(rng: &mut Rng) -> (&'static str, Vec<u8>) {
         }
         18 => {
             let rows = shaped(rng);
-            ("known shapes", dossier_of(rng, write::program(&rows)))
+            let typed =
+                typing::infer(&rows, None).ok().map(|arrows| sharing(Made { rows: rows.clone(), arrows }, shared));
+            let program = typed.map_or(rows, |made| made.rows);
+            ("known shapes", dossier_of(rng, write::program(&program)))
         }
         _ => {
             let len = rng.below(40);

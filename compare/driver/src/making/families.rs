@@ -51,6 +51,50 @@ pub fn nested_comp(k: usize) -> Vec<Row> {
     rows
 }
 
+/// n nodes: comps over one iden, no two equal and none deep. Chains, each with a right child of its own, are joined one
+/// after the other.
+pub fn comp_chains(n: usize) -> Vec<Row> {
+    let (chain, mut rows) = (800, vec![Row::Iden]);
+    let mut last = 0;
+    let mut joined = None;
+    while rows.len() < n - 1 {
+        let right = rows.len() / chain;
+        let mut at = 0;
+        for _ in 0..chain.min(n - 1 - rows.len()) {
+            rows.push(Row::Comp(at, right));
+            at = rows.len() - 1;
+        }
+        last = joined.map_or(at, |before| {
+            rows.push(Row::Comp(before, at));
+            rows.len() - 1
+        });
+        joined = Some(last);
+    }
+    while rows.len() < n {
+        rows.push(Row::Comp(last, last));
+        last = rows.len() - 1;
+    }
+    rows
+}
+
+/// At most n nodes: words of 64 bits, unlike in their last bits alone, each thrown away, one after the other.
+pub fn thrown_words(n: usize) -> Made {
+    let (one, ty) = (Final::unit(), types::word(6));
+    let arrow = |source: &Arc<Final>, target: &Arc<Final>| FinalArrow {
+        source: Arc::clone(source),
+        target: Arc::clone(target),
+    };
+    let mut made = Made { rows: vec![], arrows: vec![] };
+    let (mut unit, mut last) = (None, None);
+    for k in 0..(n - 1) / 3 {
+        let word = made.add(Row::Word(Word::u64(k as u64)), arrow(&one, &ty));
+        let unit = *unit.get_or_insert_with(|| made.add(Row::Unit, arrow(&ty, &one)));
+        let thrown = made.add(Row::Comp(word, unit), arrow(&one, &one));
+        last = Some(last.map_or(thrown, |before| made.add(Row::Comp(before, thrown), arrow(&one, &one))));
+    }
+    made
+}
+
 /// A witness thrown away, 2^k times: comp(witness, unit), then comp of the last node with itself.
 pub fn thrown_witness(k: usize, ty: &Arc<Final>) -> Made {
     let one = Final::unit();

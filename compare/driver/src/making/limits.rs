@@ -26,32 +26,10 @@ fn bare(program: Vec<u8>) -> Dossier {
     Dossier { types: vec![(0, 0, 0)], program, ..Dossier::default() }
 }
 
-/// A tree of comps over iden, of n nodes and not deep: its top.
-fn comp_tree(rows: &mut Vec<Row>, n: usize) -> usize {
-    let row = match n {
-        1 => Row::Iden,
-        2 => {
-            let leaf = comp_tree(rows, 1);
-            Row::Comp(leaf, leaf)
-        }
-        _ => {
-            let left = comp_tree(rows, (n - 1) / 2);
-            Row::Comp(left, comp_tree(rows, n - 1 - (n - 1) / 2))
-        }
-    };
-    rows.push(row);
-    rows.len() - 1
-}
-
 /// Node counts.
 fn nodes(rng: &mut Rng) -> Vec<Dossier> {
     let one = Final::unit();
-    let tree = |n: usize| {
-        let mut rows = vec![];
-        comp_tree(&mut rows, n);
-        families::fixed(rows, &one, &one)
-    };
-    around(NODE_COUNT).map(|n| tree(n).dossier(rng)).into()
+    around(NODE_COUNT).map(|n| families::fixed(families::comp_chains(n), &one, &one).dossier(rng)).into()
 }
 
 /// Type counts: unit doubled, iden on the last; no type at all.
@@ -147,7 +125,7 @@ fn sizes(rng: &mut Rng) -> Vec<Dossier> {
     let with = |rng: &mut Rng, width: usize| {
         let mut all = vec![TYPE_WIDTH; DOSSIER_BYTES / (TYPE_WIDTH / 8) - 1];
         all.push(width);
-        thrown(&all).dossier(rng)
+        thrown(&all).shared().0.dossier(rng)
     };
     let start = 8 * 3_000;
     let have = with(rng, start).to_bytes().len();

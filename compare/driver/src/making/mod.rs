@@ -14,6 +14,7 @@ use crate::rng::Rng;
 use crate::row::Row;
 use simplicity::types::{arrow::FinalArrow, Final};
 use simplicity::{BitIter, Value};
+use std::collections::HashMap;
 use std::sync::Arc;
 
 /// A program with an arrow for each node.
@@ -30,6 +31,26 @@ pub fn any_value(rng: &mut Rng, ty: &Arc<Final>) -> Value {
 }
 
 impl Made {
+    /// The same program with equal nodes made one, and whether there were any.
+    pub fn shared(&self) -> (Made, bool) {
+        let mut made = Made { rows: vec![], arrows: vec![] };
+        let (mut known, mut place) = (HashMap::new(), vec![]);
+        for (row, arrow) in self.rows.iter().zip(&self.arrows) {
+            let row = row.moved(|child| place[child]);
+            let key = row.key().map(|key| (key, arrow.source.tmr(), arrow.target.tmr()));
+            let there = key.as_ref().and_then(|key| known.get(key).copied());
+            let at = there.unwrap_or_else(|| made.add(row, arrow.shallow_clone()));
+            if let Some(key) = key {
+                known.insert(key, at);
+            }
+            place.push(at);
+        }
+        let (rows, from) = graph::canonical(&made.rows, place[place.len() - 1]);
+        let arrows = from.iter().map(|at| made.arrows[*at].shallow_clone()).collect();
+        let fewer = rows.len() < self.rows.len();
+        (Made { rows, arrows }, fewer)
+    }
+
     /// Adds a node with its arrow; its number.
     pub fn add(&mut self, row: Row, arrow: FinalArrow) -> usize {
         self.rows.push(row);
