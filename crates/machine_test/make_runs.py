@@ -20,7 +20,7 @@ class Stopped(Exception):
 class Program:
     def __init__(self, with_bit=True):
         self.records, self.widths = [(0, 0, 0)], [0]
-        self.nodes, self.arrows = [], []
+        self.nodes, self.arrows, self.made = [], [], {}
         self.word_bits, self.hashes, self.given, self.witness = "", b"", b"", ""
         self.bit = self.sum(0, 0) if with_bit else None
 
@@ -41,9 +41,14 @@ class Program:
         half = self.power(n - 1) if n else None
         return self.product(half, half) if n else self.bit
 
+    # A node of its own, or the one that is equal to it; words and fail nodes are given bits of their own here.
     def node(self, kind, source, target, a=0, b=0):
-        self.nodes.append((kind, a, b, 0))
-        self.arrows.append((source, target))
+        made = (kind, a, b, 0), (source, target)
+        if kind not in (DISCONNECT, WITNESS) and made in self.made:
+            return self.made[made]
+        self.made[made] = len(self.nodes)
+        self.nodes.append(made[0])
+        self.arrows.append(made[1])
         return len(self.nodes) - 1
 
     def source(self, i):

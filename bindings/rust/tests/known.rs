@@ -76,6 +76,18 @@ fn checks_of_lent_tables() {
 }
 
 #[test]
+fn equal_nodes() {
+    let types = [0, 0, 0, 0, 0, 1, 0, 0, 0, 0, 2, 0, 1, 0, 1];
+    let words = |first: u32, second: u32, program: &[u8]| {
+        let nodes = [14, 1, first, 0, 14, 1, second, 0, 2, 0, 1, 0];
+        let arrows_of = [0, 0, 0, 1, 0, 0, 0, 1, 0, 0, 0, 2];
+        arrows(Tables { types: &types, nodes: &nodes, arrows: &arrows_of, program, hashes: &[] })
+    };
+    assert_eq!(words(0, 3, &[0b1001_0000]), Checked::Refused(Refusal::NodeRepeated(1)));
+    assert_eq!(words(0, 1, &[0b1001_0000]), Checked::Passed);
+}
+
+#[test]
 fn bounds_of_a_program() {
     assert_eq!(bounds(tables()), Bounds::Within { cells: 2, frames: 2, cost: 200 });
     let equal = Tables { types: &[0; 10], ..tables() };

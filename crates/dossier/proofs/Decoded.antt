@@ -111,7 +111,7 @@ module _ (program : List ℕ) (records bytes : ℕ) (t : NodeTable) (read : deco
   walk-holds : checkWalk (nodesOf (streamOf program) (t .hashes) (t .records)) ≡ passed tt
   walk-holds = decoded program records bytes t read .3
 
--- how the run stage ends on tables that pass the tests of lent tables: 11 to 13, or as their run does
+-- how the run stage ends on tables that pass the tests of lent tables: with a refusal of their arrows or hashes, or as their run does
 abbrev pub stage : Check (Unit {0}) → Tables → (cells frames answer : List ℕ) → Left
 stage c T cells frames answer = elim c [ passed x ↦ runTables T cells frames answer | refused r ↦ leftWith (Refused r) cells frames answer ]
 
@@ -155,7 +155,7 @@ module _ (d : List ℕ) (records bytes : ℕ) (t : NodeTable) (header : checkHea
   unfolding tablesLent
   lent-own given witness witnessBits input inputBits = rw (records-back (t .records))
 
-  -- 11 to 13 are those of the dossier's tables
+  -- arrows and hashes are those of the dossier's tables
   pub stage-hashes : hashStage (section d sTypes) (nodeNumbersOf (t .records)) (section d sArrows) (section d sProgram) (t .hashes) (section d sHashes)
       ≡ checkTables (tablesOf d t)
   unfolding hashStage tablesOf checkTables

@@ -104,7 +104,7 @@ module _ (d nodes hashes cells frames answer : List ℕ) where
           in-steps ∙ then-passes (front d) (λ typed. later) tt typed ∙ then-passes read (λ t. (checkTables (tablesOf d t) >>= λ tables. passed t)) t decodes
           ∙ ap (λ (c : Check (Unit {0})). c >>= λ tables. passed t) e
 
-      -- 11 to 13 leave no table
+      -- what is refused with its tables leaves none
       job-tables : (r : Refusal) → checkTables (tablesOf d t) ≡ refused r
           → jobEnd (leftWith (Refused r) cells frames answer) ≡ run d nodes hashes cells frames answer
       unfolding settled leftWith _>>=_

@@ -29,7 +29,7 @@ tables-early = record { equal = λ at. refl; one-child = λ at. refl; arrow = λ
 ready-late : OfReady Late
 ready-late = record { over = λ at. refl; witness = λ at. refl; input = refl; cells-short = refl; frames-short = refl; answer-short = refl }
 
--- 11, 12 and 13
+-- 9 of equal nodes, 11, 12 and 13
 pub tables-refuse : (T : Tables) (r : Refusal) → checkTables T ≡ refused r → Early r
 tables-refuse = Refusals.tables-refuse Early tables-early
 

@@ -3,17 +3,16 @@
 use mathlib.Core.Path.{_≡_, refl, sym, ap, ap₂, _∙_, subst}
 use mathlib.Core.Bool.{Bool, true, false, not}
 use mathlib.Core.List.{List, [], _∷_}
-use Prim.Native.Nat.{ℕ, zero, suc, _+_, _*_, _-_, _%_, _≤_, _<_}
+use Prim.Native.Nat.{ℕ, _+_, _*_, _-_, _≤_, _<_}
 use native.Mathlib.Omega.{arith}
 use native.Mathlib.Decide.{ℕ-discrete, decLt}
 use lib.Dec.{eqb}
 use lib.ListN.{length, getD, set}
 use lib.Seq.{getD-set-same, getD-set-other}
 use borrow.Author.Tests.{eqb-true}
-use Rattle.scope.specs.Numbers.{every, anyBelow}
 use Rattle.scope.specs.Equal.{sameKey}
 use Rattle.scope.specs.Arrows.{arrowRecords, source, target}
-use Rattle.common.specs.Checks.{not-both, every-all, keys-same, none-below, below-none, some-below}
+use Rattle.common.specs.Checks.{every-all, keys-same, below-none, some-below}
 use Rattle.equal.specs.Keys.{keyAt, equalAt, fresh}
 use Rattle.equal.specs.Buckets.{buckets, arrowNumber, bucketOf, bucketAt, Last, Chained, Latest}
 

@@ -6,7 +6,6 @@ use mathlib.Core.List.{List, [], _∷_, _++_}
 use Prim.Native.Nat.{ℕ, zero, suc, _+_, _*_, _-_, _/_, _%_, _≤_, _<_}
 use native.Mathlib.Nat.{add-mul-mod-self-left}
 use native.Mathlib.Omega.{arith}
-use lib.Dec.{eqb}
 use lib.ListN.{length, getD, take, drop}
 use borrow.Author.Tests.{eq-eqb, ne-eqb}
 use Rattle.report.specs.Bits.{byteBits, bitsOf, numberFrom}
@@ -44,7 +43,8 @@ unfolding numberFrom
 by-remainder y [] = omega arith
 by-remainder y (x ∷ xs) =
     sym (by-remainder (y % buckets * 2 + x) xs)
-    ∙ ap (λ (z : ℕ). numberFrom z xs % buckets) (sym (add-mul-mod-self-left (y % buckets * 2 + x) buckets (y / buckets * 2)) ∙ ap (λ (z : ℕ). z % buckets) whole)
+    ∙ ap (λ (z : ℕ). numberFrom z xs % buckets)
+    (sym (add-mul-mod-self-left (y % buckets * 2 + x) buckets (y / buckets * 2)) ∙ ap (λ (z : ℕ). z % buckets) whole)
     ∙ by-remainder (y * 2 + x) xs
   where
     whole : y % buckets * 2 + x + buckets * (y / buckets * 2) ≡ y * 2 + x

@@ -3,7 +3,7 @@
 use mathlib.Core.Path.{_≡_}
 use mathlib.Core.List.{List, [], _∷_}
 use Prim.Native.Nat.{ℕ, _+_, _*_, _-_, _%_, _≤_, _<_}
-use lib.ListN.{length, getD}
+use lib.ListN.{getD}
 use Rattle.report.specs.Bits.{numberFrom}
 use Rattle.scope.specs.Arrows.{Arrow, arrowRecords, source, target}
 use Rattle.equal.specs.Keys.{keyAt}

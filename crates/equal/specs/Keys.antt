@@ -1,6 +1,6 @@
 -- Equal nodes of lent tables. A record has a key, as its node has in the definitions, with one thing more: past the end of the program a
 -- word's bits are 0, so that every record has a key, and not only those that keep the rules of 26.
-use mathlib.Core.Bool.{Bool, true, false, not}
+use mathlib.Core.Bool.{Bool, not}
 use mathlib.Core.List.{List, [], _∷_}
 use Prim.Native.Nat.{ℕ, min}
 use lib.Dec.{eqb}

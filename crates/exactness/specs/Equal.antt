@@ -8,7 +8,6 @@ use lib.Dec.{eqb}
 use lib.ListN.{length, getD}
 use borrow.Author.Tests.{eqb-true, eq-eqb}
 use Rattle.report.specs.Nodes.{Node, comp, case, pair, disconnect, injl, injr, take, drop, disconnect1, iden, unit, witness, fail, hidden, word}
-use Rattle.scope.specs.Numbers.{every, anyBelow}
 use Rattle.scope.specs.Nodes.{Kind, kComp, kCase, kPair, kDisconnect, kInjl, kInjr, kTake, kDrop, kIden, kUnit, kFail, kDisconnect1, kWitness, kHidden, kWord, kUnknown, kindOf, nodeAt, noNode}
 use Rattle.scope.specs.Equal.{keyOf, sameKey}
 use Rattle.scope.specs.Arrows.{Arrow, source, target, equalNodes, repeats}

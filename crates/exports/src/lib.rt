@@ -108,7 +108,7 @@ pub extern "C" fn drevaloci_walk(
     answer_code(walked)
 }
 
-// Lent tables up to their arrows: 11 and 12.
+// Lent tables up to their arrows: 11, 12, and 9 for equal nodes.
 #[no_mangle]
 pub extern "C" fn drevaloci_arrows(
     types: &[u8],

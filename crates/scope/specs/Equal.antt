@@ -1,7 +1,7 @@
 -- What makes two nodes equal, but for their arrows: the same kind, the same children, the same word or fail bits.
 -- Children are compared by index, bits and bytes by content, wherever they stand. Witness nodes and disconnects are exempt, and hidden
 -- nodes have a check of their own in the walk.
-use mathlib.Core.Bool.{Bool, true, false}
+use mathlib.Core.Bool.{Bool, false}
 use mathlib.Core.List.{List, [], _∷_}
 use Prim.Native.Nat.{ℕ}
 use Rattle.report.specs.Nodes.{Node, comp, case, pair, disconnect, injl, injr, take, drop, disconnect1, iden, unit, witness, fail, hidden, word}

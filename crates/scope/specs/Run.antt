@@ -1,6 +1,6 @@
 -- The whole job: from what is lent (a dossier and five stores, of any contents and any size) to the answer and what is left in each store.
--- Checks go in number order, 21 beside 4. Refusals 1 to 17 and 21 leave cells, frames and answer untouched; 1 to 13 and 21, and 17 at 3 or
--- 4, zero the node and hash stores; every other end leaves the decoded table in them, the rest zero.
+-- Checks go in number order, 21 beside 4 and 9 of equal nodes beside 12. Refusals 1 to 17 and 21 leave cells, frames and answer untouched;
+-- 1 to 13 and 21, and 17 at 3 or 4, zero the node and hash stores; every other end leaves the decoded table in them, the rest zero.
 --
 -- In the order of a job:
 --   NodeTable  what decoding gives: node records, the bytes of the hash store, the position after the last node (Reading)
@@ -67,7 +67,7 @@ pub record Ready : Type 0 where
   pub program : Program
   pub input : Val
 
--- 11, 12 and 13
+-- 11, 12 with 9 of equal nodes, and 13
 unfoldable pub checkTables : Tables → Check (Unit {0})
 unfolding _>>=_ checkArrows checkHashes
 checkTables T = do

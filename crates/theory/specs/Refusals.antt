@@ -1,5 +1,5 @@
--- Which refusals come where: 1 to 10, or 17, while the sections are opened and the program is decoded, 11 to 13 while its tables are
--- checked, 14 to 17 once they stand; 18 and 19 come from a run alone. What holds of each refusal that a check may give holds of what it gives.
+-- Which refusals come where: 1 to 10, or 17, while the sections are opened and the program is decoded, 9 of equal nodes and 11 to 13 while
+-- its tables are checked, 14 to 17 once they stand; 18 and 19 come from a run alone. What holds of each refusal that a check may give holds of what it gives.
 use mathlib.Core.Path.{_≡_, sym, subst}
 use mathlib.Core.Bool.{Bool, true, false, not}
 use mathlib.Core.List.{List, [], _∷_, _++_}

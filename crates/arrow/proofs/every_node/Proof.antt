@@ -30,8 +30,11 @@ first-repeat-requires c κs = search needs
 
 loop-holds : tie.Need-loop-holds Inv-loop μ-loop
 loop-holds c =
-    let a = c .before .before .before .before .before .before .args in
-    (pass-start (lentRule (a .types .now) (a .nodes .now) (a .arrows .now) (a .program .now) (a .hashes .now)) (length (nodeRecords (a .nodes .now))), omega arith)
+    let a = c .before .before .before .before .before .before .args in (
+      pass-start (lentRule (a .types .now) (a .nodes .now) (a .arrows .now) (a .program .now) (a .hashes .now))
+          (length (nodeRecords (a .nodes .now))),
+      omega arith,
+    )
 
 returns : tie.Need-returns Inv-loop μ-loop
 returns c =
@@ -39,9 +42,13 @@ returns c =
     let l = c .before .before .loop in
     let within : l .i < length (nodeRecords (a .nodes .now)) = omega (arith, length-records (a .nodes .now), c .before .loop-test .taken) in
     let again = repeat-refused (a .types .now) (a .nodes .now) (a .arrows .now) (a .program .now) (a .hashes .now) (l .i)
-    (repeats-there (a .types .now) (a .nodes .now) (a .arrows .now) (a .program .now) (a .hashes .now) (c .before .before .before .before .before .before .before .before .before .pre) (c .before .before .before .first-repeat .result) (c .before .before .before .first-repeat .ensures) (l .i) within (c .if1 .taken)) in
+    (repeats-there (a .types .now) (a .nodes .now) (a .arrows .now) (a .program .now) (a .hashes .now)
+    (c .before .before .before .before .before .before .before .before .before .pre) (c .before .before .before .first-repeat .result)
+    (c .before .before .before .first-repeat .ensures) (l .i) within (c .if1 .taken)) in
     ap (λ (why : Refusal). refused why) (again .1)
-    ∙ pass-fails (lentRule (a .types .now) (a .nodes .now) (a .arrows .now) (a .program .now) (a .hashes .now)) (length (nodeRecords (a .nodes .now))) (lentRefusal (a .types .now) (a .nodes .now) (a .arrows .now) (a .program .now) (a .hashes .now)) (l .i) within (again .0) (l .inv .0)
+    ∙ pass-fails (lentRule (a .types .now) (a .nodes .now) (a .arrows .now) (a .program .now) (a .hashes .now))
+    (length (nodeRecords (a .nodes .now)))
+    (lentRefusal (a .types .now) (a .nodes .now) (a .arrows .now) (a .program .now) (a .hashes .now)) (l .i) within (again .0) (l .inv .0)
 
 arrow-fits-requires : tie.Need-arrow-fits-requires Inv-loop μ-loop
 arrow-fits-requires c κs = search needs
@@ -53,16 +60,32 @@ returns-2 c =
     let within : l .i < length (nodeRecords (a .nodes .now)) = omega (arith, length-records (a .nodes .now), c .before .before .before .loop-test .taken) in
     let other = c .before .before .if1 .left in
     let wrong = arrow-refused (a .types .now) (a .nodes .now) (a .arrows .now) (a .program .now) (a .hashes .now) (l .i)
-    (fresh-before (a .types .now) (a .nodes .now) (a .arrows .now) (a .program .now) (a .hashes .now) (c .before .before .before .before .before .before .before .before .before .before .before .pre) (c .before .before .before .before .before .first-repeat .result) (c .before .before .before .before .before .first-repeat .ensures) (l .i) (omega (arith, other, l .inv .1)))
+    (fresh-before (a .types .now) (a .nodes .now) (a .arrows .now) (a .program .now) (a .hashes .now)
+    (c .before .before .before .before .before .before .before .before .before .before .before .pre)
+    (c .before .before .before .before .before .first-repeat .result) (c .before .before .before .before .before .first-repeat .ensures)
+    (l .i) (omega (arith, other, l .inv .1)))
     (sym (c .before .arrow-fits .ensures) ∙ not-true _ (c .if2 .taken)) in
     ap (λ (why : Refusal). refused why) (wrong .1)
-    ∙ pass-fails (lentRule (a .types .now) (a .nodes .now) (a .arrows .now) (a .program .now) (a .hashes .now)) (length (nodeRecords (a .nodes .now))) (lentRefusal (a .types .now) (a .nodes .now) (a .arrows .now) (a .program .now) (a .hashes .now)) (l .i) within (wrong .0) (l .inv .0)
+    ∙ pass-fails (lentRule (a .types .now) (a .nodes .now) (a .arrows .now) (a .program .now) (a .hashes .now))
+    (length (nodeRecords (a .nodes .now)))
+    (lentRefusal (a .types .now) (a .nodes .now) (a .arrows .now) (a .program .now) (a .hashes .now)) (l .i) within (wrong .0) (l .inv .0)
 
 add-i : tie.Need-add-i Inv-loop μ-loop
-add-i c = omega (arith, length-records (c .before .before .before .before .before .before .before .before .before .before .before .args .nodes .now), c .before .before .before .loop-test .taken, c .before .before .before .before .before .before .before .before .before .before .before .pre)
+add-i c =
+    omega (
+      arith,
+      length-records (c .before .before .before .before .before .before .before .before .before .before .before .args .nodes .now),
+      c .before .before .before .loop-test .taken,
+      c .before .before .before .before .before .before .before .before .before .before .before .pre,
+    )
 
 loop-less : tie.Need-loop-less Inv-loop μ-loop
-loop-less c = omega (arith, length-records (c .before .before .before .before .before .before .before .before .before .before .before .args .nodes .now), c .before .before .before .loop-test .taken)
+loop-less c =
+    omega (
+      arith,
+      length-records (c .before .before .before .before .before .before .before .before .before .before .before .args .nodes .now),
+      c .before .before .before .loop-test .taken,
+    )
 
 loop-again : tie.Need-loop-again Inv-loop μ-loop
 loop-again c =
@@ -70,15 +93,25 @@ loop-again c =
     let l = c .before .before .before .before .loop in
     let other = c .before .before .if1 .left in
     let before : l .i < c .before .before .before .before .before .first-repeat .result = omega (arith, other, l .inv .1) in
-    let kept = node-kept (a .types .now) (a .nodes .now) (a .arrows .now) (a .program .now) (a .hashes .now) (l .i) (fresh-before (a .types .now) (a .nodes .now) (a .arrows .now) (a .program .now) (a .hashes .now) (c .before .before .before .before .before .before .before .before .before .before .before .pre) (c .before .before .before .before .before .first-repeat .result) (c .before .before .before .before .before .first-repeat .ensures) (l .i) before)
-    (sym (c .before .arrow-fits .ensures) ∙ not-false _ (c .if2 .left)) in
-    (pass-more (lentRule (a .types .now) (a .nodes .now) (a .arrows .now) (a .program .now) (a .hashes .now)) (length (nodeRecords (a .nodes .now))) (l .i) (omega (arith, length-records (a .nodes .now), c .before .before .before .loop-test .taken)) kept (l .inv .0), omega (arith, before))
+    let kept = node-kept (a .types .now) (a .nodes .now) (a .arrows .now) (a .program .now) (a .hashes .now) (l .i)
+    (fresh-before (a .types .now) (a .nodes .now) (a .arrows .now) (a .program .now) (a .hashes .now)
+    (c .before .before .before .before .before .before .before .before .before .before .before .pre)
+    (c .before .before .before .before .before .first-repeat .result) (c .before .before .before .before .before .first-repeat .ensures)
+    (l .i) before)
+    (sym (c .before .arrow-fits .ensures) ∙ not-false _ (c .if2 .left)) in (
+      pass-more (lentRule (a .types .now) (a .nodes .now) (a .arrows .now) (a .program .now) (a .hashes .now))
+          (length (nodeRecords (a .nodes .now))) (l .i)
+          (omega (arith, length-records (a .nodes .now), c .before .before .before .loop-test .taken)) kept (l .inv .0),
+      omega (arith, before),
+    )
 
 returns-3 : tie.Need-returns-3 Inv-loop μ-loop
 returns-3 c =
     let a = c .before .before .before .before .before .before .before .before .args in
     let l = c .before .loop in
-    pass-ends (lentRule (a .types .now) (a .nodes .now) (a .arrows .now) (a .program .now) (a .hashes .now)) (length (nodeRecords (a .nodes .now))) (lentRefusal (a .types .now) (a .nodes .now) (a .arrows .now) (a .program .now) (a .hashes .now)) (l .i) (omega (arith, length-records (a .nodes .now), c .loop-test .left)) (l .inv .0)
+    pass-ends (lentRule (a .types .now) (a .nodes .now) (a .arrows .now) (a .program .now) (a .hashes .now))
+    (length (nodeRecords (a .nodes .now))) (lentRefusal (a .types .now) (a .nodes .now) (a .arrows .now) (a .program .now) (a .hashes .now))
+    (l .i) (omega (arith, length-records (a .nodes .now), c .loop-test .left)) (l .inv .0)
 
 pub every-node-spec : {M : Type 1} → statement M
 every-node-spec =

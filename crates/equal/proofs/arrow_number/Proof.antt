@@ -1,5 +1,5 @@
 -- `equal::arrow_number` meets its contract.
-use mathlib.Core.Path.{_≡_, refl, sym, ap, ap₂, _∙_}
+use mathlib.Core.Path.{_∙_}
 use native.Mathlib.Omega.{arith}
 use Rattle.equal.proofs.KindKeys.{arrow-in, arrow-past}
 use borrow.Author.Needs.{needs}
@@ -32,7 +32,9 @@ add-result c = search needs
 
 returns : tie.Need-returns
 returns c =
-    let own = arrow-in (c .before .before .before .before .before .before .args .arrows .now) (c .before .before .before .before .before .before .args .i) (c .before .before .index .result) (c .index2 .result) (c .before .before .before .before .if1 .taken)
+    let own = arrow-in (c .before .before .before .before .before .before .args .arrows .now)
+    (c .before .before .before .before .before .before .args .i) (c .before .before .index .result) (c .index2 .result)
+    (c .before .before .before .before .if1 .taken)
     (c .before .before .index .ensures .0 ∙ c .before .before .before .half-at .ensures) (c .index2 .ensures .0 ∙ c .before .half-at2 .ensures) in
     (own .0, omega (arith, own .1, c .index2 .ensures .1), omega (arith, c .before .before .index .ensures .1, c .index2 .ensures .1))
 

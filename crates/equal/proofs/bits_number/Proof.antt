@@ -1,6 +1,6 @@
 -- `equal::bits_number` meets its contract: what the first bits and those that are left add up to stays the same.
-use mathlib.Core.Path.{_≡_, refl, sym, ap, ap₂, _∙_}
-use Prim.Native.Nat.{ℕ, _+_, _%_, _^_, _<_}
+use mathlib.Core.Path.{_≡_, refl, sym, _∙_}
+use Prim.Native.Nat.{_+_, _%_, _^_, _<_}
 use native.Mathlib.Omega.{arith}
 use Rattle.report.specs.Bits.{bitsOf, numberFrom}
 use Rattle.common.specs.Cells.{bitsFrom}
@@ -44,7 +44,9 @@ loop-less c = search needs
 loop-again : tie.Need-loop-again Inv-loop μ-loop
 loop-again c =
     let l = c .before .before .before .loop in (
-      l .inv .0 ∙ number-by-eight (c .before .before .before .before .before .args .s .now) (l .at) (l .left) (l .number) (c .before .read-eight .result) (c .if1 .taken) (c .before .read-eight .ensures),
+      l .inv .0
+          ∙ number-by-eight (c .before .before .before .before .before .args .s .now) (l .at) (l .left) (l .number)
+          (c .before .read-eight .result) (c .if1 .taken) (c .before .read-eight .ensures),
       omega (arith, l .inv .1, c .if1 .taken),
       l .inv .2,
       omega arith,
@@ -68,7 +70,9 @@ loop-less-2 c = search needs
 loop-again-2 : tie.Need-loop-again-2 Inv-loop μ-loop
 loop-again-2 c =
     let l = c .before .before .before .loop in (
-      l .inv .0 ∙ number-by-one (c .before .before .before .before .before .args .s .now) (l .at) (l .left) (l .number) (c .before .read-eight .result) (c .before .before .loop-test .taken)
+      l .inv .0
+          ∙ number-by-one (c .before .before .before .before .before .args .s .now) (l .at) (l .left) (l .number)
+          (c .before .read-eight .result) (c .before .before .loop-test .taken)
           (c .before .read-eight .ensures) (omega arith),
       omega (arith, l .inv .1, c .before .before .loop-test .taken),
       l .inv .2,

@@ -1,5 +1,5 @@
 -- `equal::bucket` meets its contract.
-use mathlib.Core.Path.{_≡_, refl, sym, ap, ap₂, _∙_}
+use mathlib.Core.Path.{ap, _∙_}
 use Prim.Native.Nat.{ℕ, _+_, _*_, _%_}
 use native.Mathlib.Omega.{arith}
 use lib.ListN.{getD}
@@ -26,7 +26,8 @@ returns c =
     let a = c .before .before .before .before .before .before .before .args in
     let key = recordKey (a .program .now) (a .hashes .now) (getD (nodeRecords (a .nodes .now)) (a .i) noRecord) in
     no-bucket key (c .before .key-number .result)
-    (c .before .key-number .ensures ∙ ap (λ (r : NodeRecord). keyNumber (recordKey (a .program .now) (a .hashes .now) r)) (c .before .before .record-in .ensures))
+    (c .before .key-number .ensures
+    ∙ ap (λ (r : NodeRecord). keyNumber (recordKey (a .program .now) (a .hashes .now) r)) (c .before .before .record-in .ensures))
     (arrowNumber (arrowRecords (a .arrows .now)) (a .i)) (c .if1 .taken)
 
 arrow-number-requires : tie.Need-arrow-number-requires
@@ -52,7 +53,8 @@ returns-2 c =
     let key = recordKey (a .program .now) (a .hashes .now) (getD (nodeRecords (a .nodes .now)) (a .i) noRecord) in
     ap (λ (x : ℕ). (c .before .before .key-number .result + 97 * x) % buckets) (c .arrow-number .ensures .0)
     ∙ a-bucket key (c .before .before .key-number .result)
-    (c .before .before .key-number .ensures ∙ ap (λ (r : NodeRecord). keyNumber (recordKey (a .program .now) (a .hashes .now) r)) (c .before .before .before .record-in .ensures))
+    (c .before .before .key-number .ensures
+    ∙ ap (λ (r : NodeRecord). keyNumber (recordKey (a .program .now) (a .hashes .now) r)) (c .before .before .before .record-in .ensures))
     (arrowNumber (arrowRecords (a .arrows .now)) (a .i)) (c .before .if1 .left)
 
 pub bucket-spec : {M : Type 1} → statement M

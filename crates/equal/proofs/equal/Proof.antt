@@ -1,5 +1,5 @@
 -- `equal::equal` meets its contract.
-use mathlib.Core.Path.{_≡_, refl, sym, ap, ap₂, _∙_}
+use mathlib.Core.Path.{sym, ap₂, _∙_}
 use Rattle.scope.specs.Nodes.{NodeRecord}
 use Rattle.scope.specs.Equal.{sameKey}
 use Rattle.equal.specs.Keys.{recordKey, keyAt}
@@ -17,7 +17,8 @@ arrow-number-requires-2 c κs = search needs
 returns : tie.Need-returns
 returns c =
     let a = c .before .before .before .before .before .before .before .args in
-    arrows-unlike (a .nodes .now) (a .arrows .now) (a .program .now) (a .hashes .now) (a .j) (a .i) (c .before .before .arrow-number .ensures .1) (c .before .arrow-number2 .ensures .1)
+    arrows-unlike (a .nodes .now) (a .arrows .now) (a .program .now) (a .hashes .now) (a .j) (a .i)
+    (c .before .before .arrow-number .ensures .1) (c .before .arrow-number2 .ensures .1)
     (λ e. c .if1 .taken (c .before .before .arrow-number .ensures .0 ∙ e ∙ sym (c .before .arrow-number2 .ensures .0)))
 
 record-in-requires : tie.Need-record-in-requires
@@ -36,8 +37,11 @@ returns-2 c =
     c .same-key .ensures
     ∙ ap₂ (λ (r s : NodeRecord). sameKey (recordKey (a .program .now) (a .hashes .now) r) (recordKey (a .program .now) (a .hashes .now) s))
     (c .before .before .record-in .ensures) (c .before .record-in2 .ensures)
-    ∙ arrows-same (a .nodes .now) (a .arrows .now) (a .program .now) (a .hashes .now) (a .j) (a .i) (c .before .before .before .before .before .arrow-number .ensures .1)
-    (c .before .before .before .before .arrow-number2 .ensures .1) (sym (c .before .before .before .before .before .arrow-number .ensures .0) ∙ c .before .before .before .if1 .left ∙ c .before .before .before .before .arrow-number2 .ensures .0)
+    ∙ arrows-same (a .nodes .now) (a .arrows .now) (a .program .now) (a .hashes .now) (a .j) (a .i)
+    (c .before .before .before .before .before .arrow-number .ensures .1)
+    (c .before .before .before .before .arrow-number2 .ensures .1)
+    (sym (c .before .before .before .before .before .arrow-number .ensures .0) ∙ c .before .before .before .if1 .left
+    ∙ c .before .before .before .before .arrow-number2 .ensures .0)
 
 pub equal-spec : {M : Type 1} → statement M
 equal-spec =

@@ -1,5 +1,5 @@
 -- `equal::first_repeat` meets its contract: no node so far repeats an earlier one, and both arrays lead through the buckets.
-use mathlib.Core.Path.{_≡_, refl, sym, ap, ap₂, _∙_, subst}
+use mathlib.Core.Path.{_≡_, sym, ap, _∙_, subst}
 use mathlib.Core.Bool.{not}
 use Prim.Native.Nat.{ℕ, _-_, _≤_, min}
 use native.Mathlib.Nat.{min-le-right}
@@ -54,8 +54,11 @@ loop-again : tie.Need-loop-again Inv-loop μ-loop
 loop-again c =
     let a = c .before .before .before .before .before .before .before .before .before .args in
     let l = c .before .before .before .loop in
-    let none : buckets ≤ bucketAt (a .nodes .now) (a .arrows .now) (a .program .now) (a .hashes .now) (l .i) = omega (arith, c .before .bucket .ensures, c .if1 .taken) in (
-      pass-more (fresh (a .nodes .now) (a .arrows .now) (a .program .now) (a .hashes .now)) (c .before .before .before .before .judged .result) (l .i) (c .before .before .loop-test .taken) (unbucketed (a .nodes .now) (a .arrows .now) (a .program .now) (a .hashes .now) (l .i) none) (l .inv .0),
+    let none : buckets ≤ bucketAt (a .nodes .now) (a .arrows .now) (a .program .now) (a .hashes .now) (l .i) =
+    omega (arith, c .before .bucket .ensures, c .if1 .taken) in (
+      pass-more (fresh (a .nodes .now) (a .arrows .now) (a .program .now) (a .hashes .now))
+          (c .before .before .before .before .judged .result) (l .i) (c .before .before .loop-test .taken)
+          (unbucketed (a .nodes .now) (a .arrows .now) (a .program .now) (a .hashes .now) (l .i) none) (l .inv .0),
       latest-passed (a .nodes .now) (a .arrows .now) (a .program .now) (a .hashes .now) (l .i) (l .latest) (l .before) (l .inv .1) (l .inv .2) none,
       chained-passed (a .nodes .now) (a .arrows .now) (a .program .now) (a .hashes .now) (l .i) (l .latest) (l .before) (l .inv .1) (l .inv .2) none,
       l .inv .3,
@@ -80,7 +83,8 @@ met-requires c κs =
       omega (arith, l .inv .4, l .inv .6, c .before .before .before .loop-test .taken),
       omega (arith, c .before .before .bucket .ensures, c .before .if1 .left),
       l .inv .2,
-      subst (Last (a .nodes .now) (a .arrows .now) (a .program .now) (a .hashes .now) (getD (l .latest) (c .before .before .bucket .result) 0) (l .i)) (c .before .before .bucket .ensures) (l .inv .1 (c .before .before .bucket .result) (c .before .if1 .left)),
+      subst (Last (a .nodes .now) (a .arrows .now) (a .program .now) (a .hashes .now) (getD (l .latest) (c .before .before .bucket .result) 0) (l .i))
+          (c .before .before .bucket .ensures) (l .inv .1 (c .before .before .bucket .result) (c .before .if1 .left)),
     )
 
 cast-result : tie.Need-cast-result Inv-loop μ-loop
@@ -92,7 +96,9 @@ returns c =
     let a = c .before .before .before .before .before .before .before .before .before .before .before .before .args in
     let l = c .before .before .before .before .before .before .loop in
     sym (ap (λ (k : ℕ). firstFailing (fresh (a .nodes .now) (a .arrows .now) (a .program .now) (a .hashes .now)) k 0) (sym (l .inv .5))
-    ∙ first-failed (fresh (a .nodes .now) (a .arrows .now) (a .program .now) (a .hashes .now)) (c .before .before .before .before .before .before .before .judged .result) (l .i) (c .before .before .before .before .before .loop-test .taken) (sym (c .before .met .ensures) ∙ ap not (c .if2 .taken)) (l .inv .0))
+    ∙ first-failed (fresh (a .nodes .now) (a .arrows .now) (a .program .now) (a .hashes .now))
+    (c .before .before .before .before .before .before .before .judged .result) (l .i)
+    (c .before .before .before .before .before .loop-test .taken) (sym (c .before .met .ensures) ∙ ap not (c .if2 .taken)) (l .inv .0))
 
 mul-before : tie.Need-mul-before Inv-loop μ-loop
 mul-before c = search needs
@@ -120,9 +126,13 @@ loop-again-2 c =
     let a = c .before .before .before .before .before .before .before .before .before .before .before .before .args in
     let l = c .before .before .before .before .before .before .loop in
     let b = c .before .before .before .before .bucket .result in (
-      pass-more (fresh (a .nodes .now) (a .arrows .now) (a .program .now) (a .hashes .now)) (c .before .before .before .before .before .before .before .judged .result) (l .i) (c .before .before .before .before .before .loop-test .taken) (sym (c .before .met .ensures) ∙ ap not (c .if2 .left)) (l .inv .0),
-      latest-entered (a .nodes .now) (a .arrows .now) (a .program .now) (a .hashes .now) (l .i) (l .latest) (l .before) (l .inv .1) (l .inv .2) b (c .before .before .before .before .bucket .ensures) (omega (arith, l .inv .3, c .before .before .before .if1 .left)),
-      chained-entered (a .nodes .now) (a .arrows .now) (a .program .now) (a .hashes .now) (l .i) (l .latest) (l .before) (l .inv .1) (l .inv .2) b (c .before .before .before .before .bucket .ensures)
+      pass-more (fresh (a .nodes .now) (a .arrows .now) (a .program .now) (a .hashes .now))
+          (c .before .before .before .before .before .before .before .judged .result) (l .i)
+          (c .before .before .before .before .before .loop-test .taken) (sym (c .before .met .ensures) ∙ ap not (c .if2 .left)) (l .inv .0),
+      latest-entered (a .nodes .now) (a .arrows .now) (a .program .now) (a .hashes .now) (l .i) (l .latest) (l .before) (l .inv .1)
+          (l .inv .2) b (c .before .before .before .before .bucket .ensures) (omega (arith, l .inv .3, c .before .before .before .if1 .left)),
+      chained-entered (a .nodes .now) (a .arrows .now) (a .program .now) (a .hashes .now) (l .i) (l .latest) (l .before) (l .inv .1)
+          (l .inv .2) b (c .before .before .before .before .bucket .ensures)
           (omega (arith, l .inv .4, l .inv .6, c .before .before .before .before .before .loop-test .taken)) (c .before .before .before .if1 .left),
       length-set (l .latest) b _ ∙ l .inv .3,
       length-set (l .before) (l .i) _ ∙ l .inv .4,
@@ -139,7 +149,8 @@ returns-2 c =
     let a = c .before .before .before .before .before .before .before .args in
     let l = c .before .loop in
     sym (ap (λ (k : ℕ). firstFailing (fresh (a .nodes .now) (a .arrows .now) (a .program .now) (a .hashes .now)) k 0) (sym (l .inv .5))
-    ∙ none-failed (fresh (a .nodes .now) (a .arrows .now) (a .program .now) (a .hashes .now)) (c .before .before .judged .result) (l .i) (omega (arith, c .loop-test .left)) (l .inv .0))
+    ∙ none-failed (fresh (a .nodes .now) (a .arrows .now) (a .program .now) (a .hashes .now)) (c .before .before .judged .result) (l .i)
+    (omega (arith, c .loop-test .left)) (l .inv .0))
 
 pub first-repeat-spec : {M : Type 1} → statement M
 first-repeat-spec =

@@ -1,6 +1,6 @@
 -- `equal::leaf_number` meets its contract.
-use mathlib.Core.Path.{_≡_, refl, sym, ap, ap₂, _∙_}
-use mathlib.Core.List.{List, []}
+use mathlib.Core.Path.{sym, ap, _∙_}
+use mathlib.Core.List.{List}
 use Prim.Native.Nat.{ℕ, _+_, _%_}
 use lib.ListN.{take, drop}
 use Rattle.limits.specs.Limits.{failBytes}
@@ -42,12 +42,18 @@ bits-number-requires c κs = search needs
 returns : tie.Need-returns
 unfolding keyNumber keyFrom kindOf numberFrom
 returns c =
-    ap keyNumber (as-kind (c .before .before .before .args .program .now) (c .before .before .before .args .hashes .now) (c .before .before .before .args .r .first) (c .before .before .before .args .r .second) (c .before .before .before .args .r .kind) 8 (c .match .keys1))
+    ap keyNumber
+    (as-kind (c .before .before .before .args .program .now) (c .before .before .before .args .hashes .now)
+    (c .before .before .before .args .r .first) (c .before .before .before .args .r .second)
+    (c .before .before .before .args .r .kind) 8 (c .match .keys1))
 
 returns-2 : tie.Need-returns-2
 unfolding keyNumber keyFrom kindOf numberFrom
 returns-2 c =
-    ap keyNumber (as-kind (c .before .before .before .args .program .now) (c .before .before .before .args .hashes .now) (c .before .before .before .args .r .first) (c .before .before .before .args .r .second) (c .before .before .before .args .r .kind) 9 (c .match .keys2))
+    ap keyNumber
+    (as-kind (c .before .before .before .args .program .now) (c .before .before .before .args .hashes .now)
+    (c .before .before .before .args .r .first) (c .before .before .before .args .r .second)
+    (c .before .before .before .args .r .kind) 9 (c .match .keys2))
 
 returns-3 : tie.Need-returns-3
 unfolding keyNumber keyFrom kindOf numberFrom
@@ -55,20 +61,33 @@ returns-3 c =
     c .bytes-number .ensures
     ∙ ap (λ (xs : List ℕ). numberFrom 10 xs % buckets) (ap (λ (p : Part). p .bytes) (c .before .part .ensures)
     ∙ ap (λ (n : ℕ). take failBytes (drop n (c .before .before .before .before .before .before .args .hashes .now))) (c .before .before .place .ensures .0))
-    ∙ ap keyNumber (as-kind (c .before .before .before .before .before .before .args .program .now) (c .before .before .before .before .before .before .args .hashes .now) (c .before .before .before .before .before .before .args .r .first) (c .before .before .before .before .before .before .args .r .second) (c .before .before .before .before .before .before .args .r .kind) 10 (c .before .before .before .match .keys3))
+    ∙ ap keyNumber
+    (as-kind (c .before .before .before .before .before .before .args .program .now)
+    (c .before .before .before .before .before .before .args .hashes .now)
+    (c .before .before .before .before .before .before .args .r .first) (c .before .before .before .before .before .before .args .r .second)
+    (c .before .before .before .before .before .before .args .r .kind) 10 (c .before .before .before .match .keys3))
 
 returns-4 : tie.Need-returns-4
 unfolding keyNumber keyFrom kindOf numberFrom
 returns-4 c =
     c .bits-number .ensures
-    ∙ (λ i. numberFrom (28 + (c .before .place3 .ensures .0) i) (bitsFrom (bitsOf (c .before .before .before .before .before .before .before .args .program .now)) ((c .before .before .before .place2 .ensures .0) i) ((c .before .before .word-bits .ensures .0) i)) % buckets)
-    ∙ ap keyNumber (as-kind (c .before .before .before .before .before .before .before .args .program .now) (c .before .before .before .before .before .before .before .args .hashes .now) (c .before .before .before .before .before .before .before .args .r .first) (c .before .before .before .before .before .before .before .args .r .second) (c .before .before .before .before .before .before .before .args .r .kind) 14 (c .before .before .before .before .match .keys4))
+    ∙ (λ i. numberFrom (28 + (c .before .place3 .ensures .0) i)
+    (bitsFrom (bitsOf (c .before .before .before .before .before .before .before .args .program .now))
+    ((c .before .before .before .place2 .ensures .0) i) ((c .before .before .word-bits .ensures .0) i)) % buckets)
+    ∙ ap keyNumber
+    (as-kind (c .before .before .before .before .before .before .before .args .program .now)
+    (c .before .before .before .before .before .before .before .args .hashes .now)
+    (c .before .before .before .before .before .before .before .args .r .first)
+    (c .before .before .before .before .before .before .before .args .r .second)
+    (c .before .before .before .before .before .before .before .args .r .kind) 14 (c .before .before .before .before .match .keys4))
 
 returns-5 : tie.Need-returns-5
 unfolding keyNumber keyFrom kindOf numberFrom
 returns-5 c =
     let rest = c .match .rest in
-    sym (ap keyNumber (no-key (c .before .before .before .args .program .now) (c .before .before .before .args .hashes .now) (c .before .before .before .args .r .first) (c .before .before .before .args .r .second) (c .before .before .before .args .r .kind) (c .before .before .before .pre) (rest .0 .0 .0 .1) (rest .0 .0 .1) (rest .0 .1) (rest .1)))
+    sym (ap keyNumber (no-key (c .before .before .before .args .program .now) (c .before .before .before .args .hashes .now)
+    (c .before .before .before .args .r .first) (c .before .before .before .args .r .second) (c .before .before .before .args .r .kind)
+    (c .before .before .before .pre) (rest .0 .0 .0 .1) (rest .0 .0 .1) (rest .0 .1) (rest .1)))
 
 pub leaf-number-spec : {M : Type 1} → statement M
 leaf-number-spec =

@@ -1,5 +1,5 @@
 -- `equal::met` meets its contract: the search along the bucket.
-use mathlib.Core.Path.{_≡_, refl, sym, ap, ap₂, _∙_}
+use mathlib.Core.Path.{sym, _∙_}
 use Prim.Native.Nat.{_-_}
 use native.Mathlib.Omega.{arith}
 use Rattle.equal.proofs.Chains.{Searched, search-starts, search-finds, search-goes-on, search-ends}
@@ -30,7 +30,8 @@ returns : tie.Need-returns Inv-loop μ-loop
 returns c =
     let a = c .before .before .before .before .before .before .before .before .before .args in
     let l = c .before .before .before .loop in
-    search-finds (a .nodes .now) (a .arrows .now) (a .program .now) (a .hashes .now) (a .i) (l .m) (l .inv) (c .before .before .loop-test .taken) (sym (c .before .equal .ensures) ∙ c .if1 .taken)
+    search-finds (a .nodes .now) (a .arrows .now) (a .program .now) (a .hashes .now) (a .i) (l .m) (l .inv)
+    (c .before .before .loop-test .taken) (sym (c .before .equal .ensures) ∙ c .if1 .taken)
 
 sub-m : tie.Need-sub-m Inv-loop μ-loop
 sub-m c = search needs
@@ -48,14 +49,18 @@ loop-less : tie.Need-loop-less Inv-loop μ-loop
 loop-less c =
     let a = c .before .before .before .before .before .before .before .before .before .before .args in
     let l = c .before .before .before .before .loop in
-    search-goes-on (a .nodes .now) (a .arrows .now) (a .program .now) (a .hashes .now) (a .i) (l .m) (a .before .now) (l .inv) (c .before .before .before .loop-test .taken) (c .before .before .before .before .before .before .before .before .before .before .pre .1) (c .before .before .before .before .before .before .before .before .before .before .pre .2)
+    search-goes-on (a .nodes .now) (a .arrows .now) (a .program .now) (a .hashes .now) (a .i) (l .m) (a .before .now) (l .inv)
+    (c .before .before .before .loop-test .taken) (c .before .before .before .before .before .before .before .before .before .before .pre .1)
+    (c .before .before .before .before .before .before .before .before .before .before .pre .2)
     (sym (c .before .before .equal .ensures) ∙ c .before .if1 .left) .0
 
 loop-again : tie.Need-loop-again Inv-loop μ-loop
 loop-again c =
     let a = c .before .before .before .before .before .before .before .before .before .before .args in
     let l = c .before .before .before .before .loop in
-    search-goes-on (a .nodes .now) (a .arrows .now) (a .program .now) (a .hashes .now) (a .i) (l .m) (a .before .now) (l .inv) (c .before .before .before .loop-test .taken) (c .before .before .before .before .before .before .before .before .before .before .pre .1) (c .before .before .before .before .before .before .before .before .before .before .pre .2)
+    search-goes-on (a .nodes .now) (a .arrows .now) (a .program .now) (a .hashes .now) (a .i) (l .m) (a .before .now) (l .inv)
+    (c .before .before .before .loop-test .taken) (c .before .before .before .before .before .before .before .before .before .before .pre .1)
+    (c .before .before .before .before .before .before .before .before .before .before .pre .2)
     (sym (c .before .before .equal .ensures) ∙ c .before .if1 .left) .1
 
 returns-2 : tie.Need-returns-2 Inv-loop μ-loop

@@ -1,6 +1,6 @@
 -- `equal::same_bits` meets its contract: whether the bits that are left are the same decides.
-use mathlib.Core.Path.{_≡_, refl, sym, ap, ap₂, _∙_}
-use Prim.Native.Nat.{ℕ, _+_, _-_, _^_, _≤_, _<_}
+use mathlib.Core.Path.{_≡_, sym, _∙_}
+use Prim.Native.Nat.{_+_, _-_, _^_, _≤_, _<_}
 use native.Mathlib.Omega.{arith}
 use Rattle.equal.proofs.Digits.{runs, same-starts, same-turn, same-by-eight, unlike-by-eight, same-by-one, unlike-by-one, same-ends}
 use borrow.Author.Needs.{needs}
@@ -38,7 +38,11 @@ sub-if1 c = search needs
 returns : tie.Need-returns Inv-loop μ-loop
 returns c =
     let l = c .before .before .before .before .before .loop in
-    sym (l .inv .0 ∙ unlike-by-eight (c .before .before .before .before .before .before .before .args .s .now) (c .before .before .before .before .before .before .before .args .p + l .k) (c .before .before .before .before .before .before .before .args .q + l .k) (c .before .before .before .before .before .before .before .args .n - l .k) (c .before .before .before .read-eight .result) (c .before .before .read-eight2 .result)
+    sym (l .inv .0 ∙ unlike-by-eight (c .before .before .before .before .before .before .before .args .s .now)
+    (c .before .before .before .before .before .before .before .args .p + l .k)
+    (c .before .before .before .before .before .before .before .args .q + l .k)
+    (c .before .before .before .before .before .before .before .args .n - l .k) (c .before .before .before .read-eight .result)
+    (c .before .before .read-eight2 .result)
     (c .before .before .before .read-eight .ensures) (c .before .before .read-eight2 .ensures)
     (c .before .if1 .taken) (c .if2 .taken))
 
@@ -51,9 +55,18 @@ loop-less c = search needs
 loop-again : tie.Need-loop-again Inv-loop μ-loop
 loop-again c =
     let l = c .before .before .before .before .before .loop in (
-      l .inv .0 ∙ same-by-eight (c .before .before .before .before .before .before .before .args .s .now) (c .before .before .before .before .before .before .before .args .p + l .k) (c .before .before .before .before .before .before .before .args .q + l .k) (c .before .before .before .before .before .before .before .args .n - l .k) (c .before .before .before .read-eight .result) (c .before .before .read-eight2 .result)
+      l .inv .0
+          ∙ same-by-eight (c .before .before .before .before .before .before .before .args .s .now)
+          (c .before .before .before .before .before .before .before .args .p + l .k)
+          (c .before .before .before .before .before .before .before .args .q + l .k)
+          (c .before .before .before .before .before .before .before .args .n - l .k) (c .before .before .before .read-eight .result)
+          (c .before .before .read-eight2 .result)
           (c .before .before .before .read-eight .ensures) (c .before .before .read-eight2 .ensures)
-          (c .before .if1 .taken) (c .if2 .left) ∙ same-turn (c .before .before .before .before .before .before .before .args .s .now) (c .before .before .before .before .before .before .before .args .p) (c .before .before .before .before .before .before .before .args .q) (c .before .before .before .before .before .before .before .args .n) (l .k) 8,
+          (c .before .if1 .taken) (c .if2 .left)
+          ∙ same-turn (c .before .before .before .before .before .before .before .args .s .now)
+          (c .before .before .before .before .before .before .before .args .p)
+          (c .before .before .before .before .before .before .before .args .q)
+          (c .before .before .before .before .before .before .before .args .n) (l .k) 8,
       omega (arith, c .before .if1 .taken, l .inv .1),
       l .inv .2,
       l .inv .3,
@@ -62,7 +75,11 @@ loop-again c =
 returns-2 : tie.Need-returns-2 Inv-loop μ-loop
 returns-2 c =
     let l = c .before .before .before .before .before .loop in
-    sym (l .inv .0 ∙ unlike-by-one (c .before .before .before .before .before .before .before .args .s .now) (c .before .before .before .before .before .before .before .args .p + l .k) (c .before .before .before .before .before .before .before .args .q + l .k) (c .before .before .before .before .before .before .before .args .n - l .k) (c .before .before .before .read-eight .result) (c .before .before .read-eight2 .result)
+    sym (l .inv .0 ∙ unlike-by-one (c .before .before .before .before .before .before .before .args .s .now)
+    (c .before .before .before .before .before .before .before .args .p + l .k)
+    (c .before .before .before .before .before .before .before .args .q + l .k)
+    (c .before .before .before .before .before .before .before .args .n - l .k) (c .before .before .before .read-eight .result)
+    (c .before .before .read-eight2 .result)
     (c .before .before .before .read-eight .ensures) (c .before .before .read-eight2 .ensures)
     (omega (arith, c .before .before .before .before .loop-test .taken)) (omega arith) (omega arith) (c .if3 .taken))
 
@@ -75,10 +92,18 @@ loop-less-2 c = search needs
 loop-again-2 : tie.Need-loop-again-2 Inv-loop μ-loop
 loop-again-2 c =
     let l = c .before .before .before .before .before .loop in (
-      l .inv .0 ∙ same-by-one (c .before .before .before .before .before .before .before .args .s .now) (c .before .before .before .before .before .before .before .args .p + l .k) (c .before .before .before .before .before .before .before .args .q + l .k) (c .before .before .before .before .before .before .before .args .n - l .k) (c .before .before .before .read-eight .result) (c .before .before .read-eight2 .result)
+      l .inv .0
+          ∙ same-by-one (c .before .before .before .before .before .before .before .args .s .now)
+          (c .before .before .before .before .before .before .before .args .p + l .k)
+          (c .before .before .before .before .before .before .before .args .q + l .k)
+          (c .before .before .before .before .before .before .before .args .n - l .k) (c .before .before .before .read-eight .result)
+          (c .before .before .read-eight2 .result)
           (c .before .before .before .read-eight .ensures) (c .before .before .read-eight2 .ensures)
           (omega (arith, c .before .before .before .before .loop-test .taken)) (omega arith) (omega arith) (c .if3 .left)
-          ∙ same-turn (c .before .before .before .before .before .before .before .args .s .now) (c .before .before .before .before .before .before .before .args .p) (c .before .before .before .before .before .before .before .args .q) (c .before .before .before .before .before .before .before .args .n) (l .k) 1,
+          ∙ same-turn (c .before .before .before .before .before .before .before .args .s .now)
+          (c .before .before .before .before .before .before .before .args .p)
+          (c .before .before .before .before .before .before .before .args .q)
+          (c .before .before .before .before .before .before .before .args .n) (l .k) 1,
       omega (arith, c .before .before .before .before .loop-test .taken),
       l .inv .2,
       l .inv .3,
@@ -87,7 +112,8 @@ loop-again-2 c =
 returns-3 : tie.Need-returns-3 Inv-loop μ-loop
 returns-3 c =
     let l = c .before .loop in
-    sym (l .inv .0 ∙ same-ends (c .before .before .before .args .s .now) (c .before .before .before .args .p + l .k) (c .before .before .before .args .q + l .k) (c .before .before .before .args .n - l .k)
+    sym (l .inv .0 ∙ same-ends (c .before .before .before .args .s .now) (c .before .before .before .args .p + l .k)
+    (c .before .before .before .args .q + l .k) (c .before .before .before .args .n - l .k)
     (omega (arith, c .loop-test .left)))
 
 pub same-bits-spec : {M : Type 1} → statement M

@@ -1,6 +1,5 @@
 -- `equal::same_word` meets its contract.
-use mathlib.Core.Path.{_≡_, refl, sym, ap, ap₂, _∙_}
-use Prim.Native.Nat.{ℕ}
+use mathlib.Core.Path.{sym, ap, _∙_}
 use Rattle.report.specs.Bits.{bitsOf}
 use Rattle.scope.specs.Numbers.{same}
 use Rattle.common.specs.Words.{wordBits}
@@ -32,8 +31,10 @@ returns-2 c =
     let own = c .before .word-bits .ensures .0 in
     let other = own ∙ ap wordBits (c .before .before .before .before .if1 .left) in
     c .same-bits .ensures
-    ∙ (λ i. same (bitsFrom bits ((c .before .before .before .place .ensures .0) i) (own i)) (bitsFrom bits ((c .before .before .place2 .ensures .0) i) (other i)))
-    ∙ sym (same-next (c .before .before .before .before .before .before .before .before .args .r .first) (c .before .before .before .before .before .before .before .before .args .s .first) _ _ (c .before .before .before .before .if1 .left))
+    ∙ (λ i. same (bitsFrom bits ((c .before .before .before .place .ensures .0) i) (own i))
+    (bitsFrom bits ((c .before .before .place2 .ensures .0) i) (other i)))
+    ∙ sym (same-next (c .before .before .before .before .before .before .before .before .args .r .first)
+    (c .before .before .before .before .before .before .before .before .args .s .first) _ _ (c .before .before .before .before .if1 .left))
 
 pub same-word-spec : {M : Type 1} → statement M
 same-word-spec =
