@@ -33,6 +33,8 @@ pub struct Facts<'a> {
     early: Option<Verdict>,
     /// 11 to 16, and 9 of equal nodes.
     later: Option<Verdict>,
+    /// 14, whatever 13 says: the bounds' stage is lent no supplied hashes.
+    over: Option<Verdict>,
     pub ended: Option<Ended>,
     pub not_run: Option<NotRun>,
 }
@@ -97,6 +99,7 @@ impl<'a> Facts<'a> {
             answer_bytes: 0,
             early: None,
             later: None,
+            over: None,
             ended: None,
             not_run: None,
         };
@@ -120,15 +123,16 @@ impl<'a> Facts<'a> {
     /// Checks 11 to 16 with 9 of equal nodes, then the run.
     fn after_decoding(&mut self, rows: &[Row], old: &[u8], most_cost: u64) -> Result<(), Verdict> {
         let arrows = arrows_of(rows, &self.sections)?;
-        let given = self.sections[5].1;
-        if let Some(refused) = walk::unlike_hashes(rows, given) {
-            return Err(Verdict::document(refused));
-        }
         let last = arrows.last().unwrap();
         self.answer_bytes = last.target.bit_width().div_ceil(8);
         let needs = nodes::needs_without_witnesses(rows, &arrows);
         self.needs = Some(needs);
-        if let Some(refused) = over_limit(&needs) {
+        self.over = over_limit(&needs);
+        let given = self.sections[5].1;
+        if let Some(refused) = walk::unlike_hashes(rows, given) {
+            return Err(Verdict::document(refused));
+        }
+        if let Some(refused) = self.over {
             return Err(refused);
         }
         let (witness, input) = (self.sections[3], self.sections[4]);
@@ -147,6 +151,11 @@ impl<'a> Facts<'a> {
     /// The refusal of 11 to 16, or 9 of equal nodes, which stages that are lent the table must give too.
     pub fn later(&self) -> Option<Verdict> {
         self.later
+    }
+
+    /// The refusal 14 of the bounds, also where 13 comes first.
+    pub fn over(&self) -> Option<Verdict> {
+        self.over
     }
 
     /// Stores of just the size that is needed, as far as it is known; small ones elsewhere.

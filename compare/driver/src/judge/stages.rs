@@ -68,7 +68,7 @@ impl Judge {
 
     /// The bounds call. It is not lent the supplied hashes, so 13 is not among its refusals.
     fn bounds(&mut self, facts: &Facts, tables: Tables) {
-        let want = among(facts, 14).filter(|v| v.number != 13);
+        let want = among(facts, 12).or(facts.over());
         match drevaloci::bounds(tables) {
             Bounds::Refused(refusal) => self.refusal(&BOUNDS, want, Some(refusal), Rests::Document),
             Bounds::Within { cells, frames, cost } => {
