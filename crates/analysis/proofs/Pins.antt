@@ -4,7 +4,7 @@ use Prim.Native.Nat.{ℕ}
 use Rattle.scope.specs.Bounds as scope
 use Rattle.common.specs.Checks.{clash}
 use Rattle.promise.specs.Outcomes.{OneResult}
-use Rattle.analysis.specs.Limits.{boundedOf}
+use Rattle.analysis.specs.Limits.{bounded_of}
 use Rattle.analysis.specs.declared.BoundsAnswer.{BoundsAnswer}
 use Rattle.analysis.specs.declared.BoundsAnswer.TheVariants.{Bounded, Refused}
 use Rattle.analysis.proofs.Cost.add.Kinds as add-kinds
@@ -17,22 +17,22 @@ use Rattle.analysis.proofs.bounds_stage.Kinds as bounds-stage-kinds
 use Rattle.analysis.proofs.bounds_stage.Reads as bounds-stage-reads
 
 -- an answer's numbers tell it, and its refusal does
-bounds-tell : (r q : BoundsAnswer) → boundedOf r ≡ boundedOf q → r ≡ q
-bounds-tell (Bounded a b c) (Bounded d e f) p =
+bounds_tell : (r q : BoundsAnswer) → bounded_of r ≡ bounded_of q → r ≡ q
+bounds_tell (Bounded a b c) (Bounded d e f) p =
     let own : ◌≡◌ {A = scope.Bound} (record { cells = a; frames = b; cost = c }) (record { cells = d; frames = e; cost = f }) = cc in
     ap (λ (x : scope.Bound). Bounded x.cells x.frames x.cost) own
-bounds-tell (Bounded a b c) (Refused why) p = clash (cc)
-bounds-tell (Refused why) (Bounded a b c) p = clash (cc)
-bounds-tell (Refused why) (Refused other) p = ap Refused (cc)
+bounds_tell (Bounded a b c) (Refused why) p = clash (cc)
+bounds_tell (Refused why) (Bounded a b c) p = clash (cc)
+bounds_tell (Refused why) (Refused other) p = ap Refused (cc)
 
-pub cost-add : OneResult 0 add-kinds.ps add-kinds.r add_reads.Post
-cost-add κs a s t x y p q = ap (λ (n : ℕ). record { units = n }) (p ∙ sym q)
+pub cost_add : OneResult 0 add-kinds.ps add-kinds.r add_reads.Post
+cost_add κs a s t x y p q = ap (λ (n : ℕ). record { units = n }) (p ∙ sym q)
 
-pub node-rows : OneResult 4 node-rows-kinds.ps node-rows-kinds.r node-rows-reads.Post
-node-rows κs a s t x y p q = p ∙ sym q
+pub node_rows : OneResult 4 node-rows-kinds.ps node-rows-kinds.r node-rows-reads.Post
+node_rows κs a s t x y p q = p ∙ sym q
 
 pub bounds : OneResult 4 bounds-kinds.ps bounds-kinds.r bounds-reads.Post
-bounds κs a s t x y p q = bounds-tell s t (p ∙ sym q)
+bounds κs a s t x y p q = bounds_tell s t (p ∙ sym q)
 
-pub bounds-stage : OneResult 5 bounds-stage-kinds.ps bounds-stage-kinds.r bounds-stage-reads.Post
-bounds-stage κs a s t x y p q = bounds-tell s t (p ∙ sym q)
+pub bounds_stage_lem : OneResult 5 bounds-stage-kinds.ps bounds-stage-kinds.r bounds-stage-reads.Post
+bounds_stage_lem κs a s t x y p q = bounds_tell s t (p ∙ sym q)

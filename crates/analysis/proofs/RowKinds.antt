@@ -6,7 +6,7 @@ use native.Mathlib.Omega.{arith}
 use Rattle.scope.specs.Types.{TypeRecord}
 use Rattle.scope.specs.Nodes.{kind_of, NodeRecord}
 use Rattle.scope.specs.Arrows.{Arrow}
-use Rattle.scope.specs.Bounds.{childRow, failRow, no_row}
+use Rattle.scope.specs.Bounds.{child_row, fail_row, no_row}
 use Rattle.scope.specs.Bounds as scope
 use Rattle.table.proofs.Groups.{by_kind, unknown}
 use Rattle.analysis.specs.Held.{held}
@@ -20,10 +20,10 @@ module _ (types : List TypeRecord) (widths : List ℕ) (records : List NodeRecor
   row_as kind k e p = p ∙ ap (λ n. held (row_of types widths records arrows i (kind_of n) a b x y)) (sym e)
 
   -- one child, but for disconnect
-  pub row-child : (kind : ℕ) → 3 < kind → kind < 8 → held (childRow x) ≡ held (row_of types widths records arrows i (kind_of kind) a b x y)
+  pub row_child : (kind : ℕ) → 3 < kind → kind < 8 → held (child_row x) ≡ held (row_of types widths records arrows i (kind_of kind) a b x y)
   unfolding row_of kind_of
-  row-child =
-      by_kind (λ k. 3 < k → k < 8 → held (childRow x) ≡ held (row_of types widths records arrows i (kind_of k) a b x y))
+  row_child =
+      by_kind (λ k. 3 < k → k < 8 → held (child_row x) ≡ held (row_of types widths records arrows i (kind_of k) a b x y))
       (λ g h. absurd (omega arith)) (λ g h. absurd (omega arith)) (λ g h. absurd (omega arith)) (λ g h. absurd (omega arith))
       (λ g h. refl) (λ g h. refl) (λ g h. refl) (λ g h. refl)
       (λ g h. absurd (omega arith)) (λ g h. absurd (omega arith)) (λ g h. absurd (omega arith)) (λ g h. absurd (omega arith))
@@ -31,11 +31,11 @@ module _ (types : List TypeRecord) (widths : List ℕ) (records : List NodeRecor
       (λ k l g h. absurd (omega arith))
 
   -- fail, a disconnect with one child, a hidden node, and what has no kind
-  pub row-none : (kind : ℕ) → 7 < kind → (kind ≡ 8 → ⊥) → (kind ≡ 9 → ⊥) → (kind ≡ 12 → ⊥) → (kind ≡ 14 → ⊥)
-      → held failRow ≡ held (row_of types widths records arrows i (kind_of kind) a b x y)
-  unfolding row_of kind_of failRow no_row
-  row-none =
-      by_kind (λ k. 7 < k → (k ≡ 8 → ⊥) → (k ≡ 9 → ⊥) → (k ≡ 12 → ⊥) → (k ≡ 14 → ⊥) → held failRow
+  pub row_none : (kind : ℕ) → 7 < kind → (kind ≡ 8 → ⊥) → (kind ≡ 9 → ⊥) → (kind ≡ 12 → ⊥) → (kind ≡ 14 → ⊥)
+      → held fail_row ≡ held (row_of types widths records arrows i (kind_of kind) a b x y)
+  unfolding row_of kind_of fail_row no_row
+  row_none =
+      by_kind (λ k. 7 < k → (k ≡ 8 → ⊥) → (k ≡ 9 → ⊥) → (k ≡ 12 → ⊥) → (k ≡ 14 → ⊥) → held fail_row
       ≡ held (row_of types widths records arrows i (kind_of k) a b x y))
       (λ h. absurd (omega arith)) (λ h. absurd (omega arith)) (λ h. absurd (omega arith)) (λ h. absurd (omega arith))
       (λ h. absurd (omega arith)) (λ h. absurd (omega arith)) (λ h. absurd (omega arith)) (λ h. absurd (omega arith))

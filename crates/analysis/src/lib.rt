@@ -1,18 +1,18 @@
 // The bounds of a run (14), after analysis.rs: extra cells, extra frames and cost of every node by the requirements' table, in one pass upwards.
 // A number over its limit is held at the limit plus one: such a program is refused, so no answer shows the number itself.
 ghost use Rattle.std.specs.Prelude.{◌≡◌, List, ℕ, ◌+◌, ◌-◌, ◌^◌, ◌<◌, ◌≤◌, min, max, length};
-ghost use Rattle.limits.specs.Limits.{nodeCount, costLimit, nodeCost};
+ghost use Rattle.limits.specs.Limits.{node_count, cost_limit, node_cost};
 ghost use Rattle.report.specs.Types.{width, word_ty};
 ghost use Rattle.scope.specs.Numbers.{tabulate};
-ghost use Rattle.scope.specs.Types.{TypeRecord, typeRecords};
-ghost use Rattle.scope.specs.Nodes.{kind_of, nodeRecords};
+ghost use Rattle.scope.specs.Types.{TypeRecord, type_records};
+ghost use Rattle.scope.specs.Nodes.{kind_of, node_records};
 ghost use Rattle.scope.specs.Nodes.{NodeRecord as ScopeRecord};
-ghost use Rattle.scope.specs.Arrows.{arrowRecords};
-ghost use Rattle.scope.specs.Bounds.{unitRow, copyRow, childRow, pairRow, case_row, compRow, disconnectRow, witnessRow, failRow};
+ghost use Rattle.scope.specs.Arrows.{arrow_records};
+ghost use Rattle.scope.specs.Bounds.{unit_row, copy_row, child_row, pair_row, case_row, comp_row, disconnect_row, witness_row, fail_row};
 ghost use Rattle.scope.specs.Bounds.{Bound as ScopeBound};
 ghost use Rattle.analysis.specs.Held.{up_to, held, plain};
-ghost use Rattle.analysis.specs.Rows.{caseBound, row_of, belowOr, bound_at};
-ghost use Rattle.analysis.specs.Limits.{boundedOf, refusedOf, limited, countedBounds, stageBounds};
+ghost use Rattle.analysis.specs.Rows.{case_bound, row_of, below_or, bound_at};
+ghost use Rattle.analysis.specs.Limits.{bounded_of, refused_of, limited, counted_bounds, stage_bounds};
 
 use common::Checked;
 use refusal::Refusal;
@@ -73,7 +73,7 @@ impl Cost {
     // The price of a node that costs this much beside its own overhead.
     fn of(n: u64) -> Self
         requires { n < 2 ^ 35 }
-        ensures { result.units ≡ up_to costLimit (nodeCost + n) }
+        ensures { result.units ≡ up_to cost_limit (node_cost + n) }
     {
         Cost {
             units: up_to(Cost::LIMIT, common::wide(Cost::OVERHEAD) + n),
@@ -82,7 +82,7 @@ impl Cost {
 
     // The sum of two prices, held at one above the limit.
     pub fn add(a: Self, b: Self) -> Self
-        ensures { result.units ≡ up_to costLimit (a.units + b.units) }
+        ensures { result.units ≡ up_to cost_limit (a.units + b.units) }
     {
         Cost {
             units: up_to(Cost::LIMIT, common::wide(a.units) + common::wide(b.units)),
@@ -92,7 +92,7 @@ impl Cost {
 
 // Unit.
 fn unit_row() -> Bound
-    ensures { result ≡ held unitRow }
+    ensures { result ≡ held unit_row }
 {
     Bound {
         cells: 0,
@@ -103,7 +103,7 @@ fn unit_row() -> Bound
 
 // Iden and word of this width.
 fn copy_row(width: u32) -> Bound
-    ensures { result ≡ held (copyRow width) }
+    ensures { result ≡ held (copy_row width) }
 {
     Bound {
         cells: 0,
@@ -114,7 +114,7 @@ fn copy_row(width: u32) -> Bound
 
 // Injl, injr, take, drop, assertions.
 fn child_row(child: Bound) -> Bound
-    ensures { result ≡ held (childRow (plain child)) }
+    ensures { result ≡ held (child_row (plain child)) }
 {
     let own = child.cost;
     let overhead = Cost::of(0);
@@ -127,7 +127,7 @@ fn child_row(child: Bound) -> Bound
 
 // Pair.
 fn pair_row(left: Bound, right: Bound) -> Bound
-    ensures { result ≡ held (pairRow (plain left) (plain right)) }
+    ensures { result ≡ held (pair_row (plain left) (plain right)) }
 {
     let a = left.cost;
     let b = right.cost;
@@ -153,7 +153,7 @@ fn case_row(left: Bound, right: Bound) -> Bound
 
 // Comp with a middle of this width.
 fn comp_row(middle: u32, left: Bound, right: Bound) -> Bound
-    ensures { result ≡ held (compRow middle (plain left) (plain right)) }
+    ensures { result ≡ held (comp_row middle (plain left) (plain right)) }
 {
     let a = left.cost;
     let b = right.cost;
@@ -169,7 +169,7 @@ fn comp_row(middle: u32, left: Bound, right: Bound) -> Bound
 
 // Disconnect with a left source of a hash and `source` cells, a left target of kept + handed cells, of which `kept` are copied.
 fn disconnect_row(source: u32, kept: u32, handed: u32, left: Bound, right: Bound) -> Bound
-    ensures { result ≡ held (disconnectRow (width (word_ty 8) + source) (kept + handed) kept (plain left) (plain right)) }
+    ensures { result ≡ held (disconnect_row (width (word_ty 8) + source) (kept + handed) kept (plain left) (plain right)) }
 {
     let a = left.cost;
     let b = right.cost;
@@ -184,7 +184,7 @@ fn disconnect_row(source: u32, kept: u32, handed: u32, left: Bound, right: Bound
 
 // Witness of this width.
 fn witness_row(width: u32) -> Bound
-    ensures { result ≡ held (witnessRow width) }
+    ensures { result ≡ held (witness_row width) }
 {
     let w = common::wide(width);
     Bound {
@@ -196,7 +196,7 @@ fn witness_row(width: u32) -> Bound
 
 // Fail, and a node that is never run.
 fn fail_row() -> Bound
-    ensures { result ≡ held failRow }
+    ensures { result ≡ held fail_row }
 {
     Bound {
         cells: 0,
@@ -207,7 +207,7 @@ fn fail_row() -> Bound
 
 // A case, by whether its first and its second child are hidden: with one hidden it is an assertion.
 fn case_bound(first: bool, second: bool, left: Bound, right: Bound) -> Bound
-    ensures { result ≡ held (caseBound first second (plain left) (plain right)) }
+    ensures { result ≡ held (case_bound first second (plain left) (plain right)) }
 {
     if first {
         if second {
@@ -233,8 +233,8 @@ fn two_row(
     right: Bound,
 ) -> Bound
     requires { r.kind < 4 }
-    ensures { result ≡ held (row_of (typeRecords types.now) widths.now (nodeRecords nodes.now)
-        (arrowRecords arrows.now) i (kind_of r.kind) r.first r.second (plain left) (plain right)) }
+    ensures { result ≡ held (row_of (type_records types.now) widths.now (node_records nodes.now)
+        (arrow_records arrows.now) i (kind_of r.kind) r.first r.second (plain left) (plain right)) }
 {
     let kind = r.kind;
     match kind {
@@ -260,7 +260,7 @@ fn two_row(
 fn leaf_row(widths: &[u32], arrows: &[u8], kind: u32, i: u32) -> Bound
     requires { 7 < kind }
     ensures { (ts : List TypeRecord) (rs : List ScopeRecord) (a b : ℕ) (x y : ScopeBound)
-        → result ≡ held (row_of ts widths.now rs (arrowRecords arrows.now) i (kind_of kind) a b x y) }
+        → result ≡ held (row_of ts widths.now rs (arrow_records arrows.now) i (kind_of kind) a b x y) }
 {
     match kind {
         table::IDEN => copy_row(lookup::source_width(arrows, widths, i)),
@@ -282,8 +282,8 @@ fn row(
     left: Bound,
     right: Bound,
 ) -> Bound
-    ensures { result ≡ held (row_of (typeRecords types.now) widths.now (nodeRecords nodes.now)
-        (arrowRecords arrows.now) i (kind_of r.kind) r.first r.second (plain left) (plain right)) }
+    ensures { result ≡ held (row_of (type_records types.now) widths.now (node_records nodes.now)
+        (arrow_records arrows.now) i (kind_of r.kind) r.first r.second (plain left) (plain right)) }
 {
     if r.kind <= table::DISCONNECT {
         return two_row(types, widths, nodes, arrows, r, i, left, right);
@@ -296,7 +296,7 @@ fn row(
 
 // A child's place among the rows made so far; one that is not below its parent has the parent's own, where there is nothing yet.
 fn below(child: u32, i: u32) -> usize
-    ensures { (result ≡ belowOr child i) × (result ≤ i) }
+    ensures { (result ≡ below_or child i) × (result ≤ i) }
 {
     if child < i {
         child as usize
@@ -307,7 +307,7 @@ fn below(child: u32, i: u32) -> usize
 
 // How many rows there are: one for each node, as far as the limit.
 fn row_count(nodes: &[u32]) -> u32
-    ensures { result ≡ min (length (nodeRecords nodes.now)) nodeCount }
+    ensures { result ≡ min (length (node_records nodes.now)) node_count }
 {
     let n = nodes.len() / limits::NODE_NUMBERS;
     if n < limits::NODE_COUNT {
@@ -324,8 +324,8 @@ pub fn node_rows(
     nodes: &[u32],
     arrows: &[u8],
 ) -> [Bound; limits::NODE_COUNT]
-    ensures { result ≡ tabulate nodeCount (λ i. held (bound_at (typeRecords types.now) widths.now
-        (nodeRecords nodes.now) (arrowRecords arrows.now) i)) }
+    ensures { result ≡ tabulate node_count (λ i. held (bound_at (type_records types.now) widths.now
+        (node_records nodes.now) (arrow_records arrows.now) i)) }
 {
     let none = fail_row();
     let mut rows = [none; limits::NODE_COUNT];
@@ -347,7 +347,7 @@ pub fn node_rows(
 
 // The numbers of a whole program, or 14 at the first over its limit: 0 cells, 1 frames, 2 cost.
 fn judged(cells: u32, frames: u32, cost: u32) -> BoundsAnswer
-    ensures { boundedOf result ≡ limited (record { cells = cells; frames = frames; cost = cost }) }
+    ensures { bounded_of result ≡ limited (record { cells = cells; frames = frames; cost = cost }) }
 {
     if limits::CELL_COUNT < cells {
         return BoundsAnswer::Refused(Refusal::OverLimit(0));
@@ -363,7 +363,7 @@ fn judged(cells: u32, frames: u32, cost: u32) -> BoundsAnswer
 
 // A refusal of an earlier check, as this answer.
 fn refused(c: Checked) -> BoundsAnswer
-    ensures { result ≡ refusedOf c }
+    ensures { result ≡ refused_of c }
 {
     match c {
         Checked::Passed => BoundsAnswer::Bounded(0, 0, 0),
@@ -373,7 +373,7 @@ fn refused(c: Checked) -> BoundsAnswer
 
 // The bounds of the whole program, its last node, within the limits (14), after the count of the nodes (4).
 pub fn bounds(types: &[u8], widths: &[u32], nodes: &[u32], arrows: &[u8]) -> BoundsAnswer
-    ensures { boundedOf result ≡ countedBounds types.now widths.now nodes.now arrows.now }
+    ensures { bounded_of result ≡ counted_bounds types.now widths.now nodes.now arrows.now }
 {
     let some = table::check_count(nodes);
     let Checked::Passed = some else {
@@ -399,7 +399,7 @@ pub fn bounds_stage(
     program: &[u8],
     hashes: &[u8],
 ) -> BoundsAnswer
-    ensures { boundedOf result ≡ stageBounds types.now nodes.now arrows.now program.now hashes.now }
+    ensures { bounded_of result ≡ stage_bounds types.now nodes.now arrows.now program.now hashes.now }
 {
     let staged = stages::arrow_tables(types, nodes, arrows, program, hashes);
     let arrowed = staged.answer;

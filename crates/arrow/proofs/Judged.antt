@@ -6,47 +6,47 @@ use Prim.Native.Nat.{ℕ, ◌≤◌, ◌<◌}
 use native.Mathlib.Nat.{min-eq_left}
 use native.Mathlib.Omega.{arith}
 use lib.ListN.{length}
-use Rattle.limits.specs.Limits.{nodeCount}
+use Rattle.limits.specs.Limits.{node_count}
 use Rattle.refusal.specs.declared.Refusal.TheVariants.{NodeRepeated, Arrow as BadArrow}
-use Rattle.scope.specs.Check.{firstFailing}
+use Rattle.scope.specs.Check.{first_failing}
 use Rattle.scope.specs.Numbers.{every}
-use Rattle.scope.specs.Types.{typeRecords}
-use Rattle.scope.specs.Nodes.{nodeRecords}
-use Rattle.scope.specs.Arrows.{arrowRecords, arrowRule}
-use Rattle.table.specs.Lent.{lentNodes}
-use Rattle.common.specs.Checks.{first-passed, first-refused}
-use Rattle.equal.specs.Keys.{fresh, firstRepeat}
-use Rattle.arrow.specs.Stage.{lentRule, lentRefusal}
+use Rattle.scope.specs.Types.{type_records}
+use Rattle.scope.specs.Nodes.{node_records}
+use Rattle.scope.specs.Arrows.{arrow_records, arrow_rule}
+use Rattle.table.specs.Lent.{lent_nodes}
+use Rattle.common.specs.Checks.{first_passed, first_refused}
+use Rattle.equal.specs.Keys.{fresh, first_repeat}
+use Rattle.arrow.specs.Stage.{lent_rule, lent_refusal}
 
 module _ (types nodes arrows program hashes : List ℕ) where
-  module _ (few : length (nodeRecords nodes) ≤ nodeCount) (again : ℕ) (found : again ≡ firstRepeat nodes arrows program hashes) where
-    first : again ≡ firstFailing (fresh nodes arrows program hashes) (length (nodeRecords nodes)) 0
-    unfolding firstRepeat
-    first = found ∙ ap (λ (n : ℕ). firstFailing (fresh nodes arrows program hashes) n 0) (min-eq_left few)
+  module _ (few : length (node_records nodes) ≤ node_count) (again : ℕ) (found : again ≡ first_repeat nodes arrows program hashes) where
+    first : again ≡ first_failing (fresh nodes arrows program hashes) (length (node_records nodes)) 0
+    unfolding first_repeat
+    first = found ∙ ap (λ (n : ℕ). first_failing (fresh nodes arrows program hashes) n 0) (min-eq_left few)
 
-    pub fresh-before : (i : ℕ) → i < again → fresh nodes arrows program hashes i ≡ true
-    fresh-before i h = first-passed (fresh nodes arrows program hashes) (length (nodeRecords nodes)) 0 i (omega arith) (omega (arith, first, h))
+    pub fresh_before : (i : ℕ) → i < again → fresh nodes arrows program hashes i ≡ true
+    fresh_before i h = first_passed (fresh nodes arrows program hashes) (length (node_records nodes)) 0 i (omega arith) (omega (arith, first, h))
 
-    pub repeats-there : (i : ℕ) → i < length (nodeRecords nodes) → i ≡ again → fresh nodes arrows program hashes i ≡ false
-    repeats-there i h e =
+    pub repeats_there : (i : ℕ) → i < length (node_records nodes) → i ≡ again → fresh nodes arrows program hashes i ≡ false
+    repeats_there i h e =
         ap (fresh nodes arrows program hashes) (e ∙ first)
-        ∙ first-refused (fresh nodes arrows program hashes) (length (nodeRecords nodes)) 0 (omega (arith, first, h, e))
+        ∙ first_refused (fresh nodes arrows program hashes) (length (node_records nodes)) 0 (omega (arith, first, h, e))
 
   -- the rule of a node, and why it is refused
   module _ (i : ℕ) where
     abbrev right : Bool
-    right = arrowRule (typeRecords types) (lentNodes [] nodes) (arrowRecords arrows) i
+    right = arrow_rule (type_records types) (lent_nodes [] nodes) (arrow_records arrows) i
 
-    pub repeat-refused : fresh nodes arrows program hashes i ≡ false → (lentRule types nodes arrows program hashes i ≡ false)
-        × (NodeRepeated i ≡ lentRefusal types nodes arrows program hashes i)
-    unfolding lentRule lentRefusal every
-    repeat-refused e = (rw (e, lentRule), sym (rw (e, lentRefusal)))
+    pub repeat_refused : fresh nodes arrows program hashes i ≡ false → (lent_rule types nodes arrows program hashes i ≡ false)
+        × (NodeRepeated i ≡ lent_refusal types nodes arrows program hashes i)
+    unfolding lent_rule lent_refusal every
+    repeat_refused e = (rw (e, lent_rule), sym (rw (e, lent_refusal)))
 
-    pub arrow-refused : fresh nodes arrows program hashes i ≡ true → right ≡ false → (lentRule types nodes arrows program hashes i ≡ false)
-        × (BadArrow i ≡ lentRefusal types nodes arrows program hashes i)
-    unfolding lentRule lentRefusal every
-    arrow-refused e f = (rw (e, f, lentRule), sym (rw (e, lentRefusal)))
+    pub arrow_refused : fresh nodes arrows program hashes i ≡ true → right ≡ false → (lent_rule types nodes arrows program hashes i ≡ false)
+        × (BadArrow i ≡ lent_refusal types nodes arrows program hashes i)
+    unfolding lent_rule lent_refusal every
+    arrow_refused e f = (rw (e, f, lent_rule), sym (rw (e, lent_refusal)))
 
-    pub node_kept : fresh nodes arrows program hashes i ≡ true → right ≡ true → lentRule types nodes arrows program hashes i ≡ true
-    unfolding lentRule every
-    node_kept e f = rw (e, f, lentRule)
+    pub node_kept : fresh nodes arrows program hashes i ≡ true → right ≡ true → lent_rule types nodes arrows program hashes i ≡ true
+    unfolding lent_rule every
+    node_kept e f = rw (e, f, lent_rule)

@@ -4,41 +4,41 @@ use mathlib.Core.List.{List, []}
 use Prim.Native.Nat.{ℕ}
 use lib.Dec.{eqb}
 use lib.ListN.{length}
-use Rattle.limits.specs.Limits.{nodeCount}
+use Rattle.limits.specs.Limits.{node_count}
 use Rattle.refusal.specs.declared.Refusal.{Refusal}
 use Rattle.refusal.specs.declared.Refusal.TheVariants.{OneChildDisconnect, Arrow as BadArrow}
 use Rattle.scope.specs.Check.{Check, passed, refused, ◌>>=◌, require, each}
-use Rattle.scope.specs.Types.{typeRecords}
-use Rattle.scope.specs.Nodes.{nodeRecords}
-use Rattle.scope.specs.Arrows.{arrowRecords, noOneChild}
+use Rattle.scope.specs.Types.{type_records}
+use Rattle.scope.specs.Nodes.{node_records}
+use Rattle.scope.specs.Arrows.{arrow_records, no_one_child}
 use Rattle.scope.specs.Stages.{counted}
-use Rattle.table.specs.Lent.{lentNodes}
+use Rattle.table.specs.Lent.{lent_nodes}
 use Rattle.common.specs.Answers.{in_turn}
-use Rattle.common.specs.Checks.{then-then, stops, passes}
-use Rattle.arrow.specs.Stage.{lentRule, lentRefusal, countedArrows}
+use Rattle.common.specs.Checks.{then_then, stops, passes}
+use Rattle.arrow.specs.Stage.{lent_rule, lent_refusal, counted_arrows}
 
 module _ (types nodes arrows program hashes : List ℕ) where
   -- no disconnect with one child, one arrow for each node, and every node judged
   abbrev pub whole : Check (Unit {0})
-  whole = each (length (nodeRecords nodes)) (noOneChild (typeRecords types) (lentNodes [] nodes) (arrowRecords arrows)) OneChildDisconnect
+  whole = each (length (node_records nodes)) (no_one_child (type_records types) (lent_nodes [] nodes) (arrow_records arrows)) OneChildDisconnect
 
-  abbrev pub oneEach : Check (Unit {0})
-  oneEach = require (eqb (length (arrowRecords arrows)) (length (nodeRecords nodes))) (BadArrow (length (nodeRecords nodes)))
+  abbrev pub one_each : Check (Unit {0})
+  one_each = require (eqb (length (arrow_records arrows)) (length (node_records nodes))) (BadArrow (length (node_records nodes)))
 
   abbrev pub judged : Check (Unit {0})
-  judged = each (length (nodeRecords nodes)) (lentRule types nodes arrows program hashes) (lentRefusal types nodes arrows program hashes)
+  judged = each (length (node_records nodes)) (lent_rule types nodes arrows program hashes) (lent_refusal types nodes arrows program hashes)
 
   -- the pass, once the count of the nodes is fine
-  module _ (some : counted (length (nodeRecords nodes)) nodeCount ≡ passed tt) where
-    pub arrows-counted : (whole >>= λ one. oneEach >>= λ count. judged) ≡ countedArrows types nodes arrows program hashes
-    unfolding countedArrows
-    arrows-counted = passes some (λ x. whole >>= λ one. oneEach >>= λ count. judged)
+  module _ (some : counted (length (node_records nodes)) node_count ≡ passed tt) where
+    pub arrows_counted : (whole >>= λ one. one_each >>= λ count. judged) ≡ counted_arrows types nodes arrows program hashes
+    unfolding counted_arrows
+    arrows_counted = passes some (λ x. whole >>= λ one. one_each >>= λ count. judged)
 
-    arrows-by : (in_turn whole oneEach >>= λ both. judged) ≡ countedArrows types nodes arrows program hashes
-    arrows-by = then-then whole (λ one. oneEach) (λ both. judged) ∙ arrows-counted
+    arrows_by : (in_turn whole one_each >>= λ both. judged) ≡ counted_arrows types nodes arrows program hashes
+    arrows_by = then_then whole (λ one. one_each) (λ both. judged) ∙ arrows_counted
 
-    pub arrows-stop : {why : Refusal} → in_turn whole oneEach ≡ refused why → in_turn whole oneEach ≡ countedArrows types nodes arrows program hashes
-    arrows-stop e = stops e (λ both. judged) ∙ arrows-by
+    pub arrows_stop : {why : Refusal} → in_turn whole one_each ≡ refused why → in_turn whole one_each ≡ counted_arrows types nodes arrows program hashes
+    arrows_stop e = stops e (λ both. judged) ∙ arrows_by
 
-    pub arrows-judged : in_turn whole oneEach ≡ passed tt → judged ≡ countedArrows types nodes arrows program hashes
-    arrows-judged e = passes e (λ both. judged) ∙ arrows-by
+    pub arrows_judged : in_turn whole one_each ≡ passed tt → judged ≡ counted_arrows types nodes arrows program hashes
+    arrows_judged e = passes e (λ both. judged) ∙ arrows_by

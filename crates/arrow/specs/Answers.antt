@@ -2,5 +2,5 @@
 use Rattle.scope.specs.Arrows.{Arrow}
 use Rattle.arrow.specs.declared.Arrow.{Arrow as Lent}
 
-abbrev pub arrowOf : Lent → Arrow
-arrowOf a = record { source = a.source; target = a.target }
+abbrev pub arrow_of : Lent → Arrow
+arrow_of a = record { source = a.source; target = a.target }

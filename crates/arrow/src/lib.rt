@@ -2,20 +2,20 @@
 // that of the nodes, then the first node that an earlier one is equal to (9) or whose arrow is not the report's (12). Types are compared by
 // their indices in a checked table.
 ghost use Rattle.std.specs.Prelude.{◌≡◌, List, [], ◌∷◌, ℕ, ◌+◌, ◌-◌, ◌<◌, ◌≤◌, eqb, length, get_or};
-ghost use Rattle.limits.specs.Limits.{nodeCount};
+ghost use Rattle.limits.specs.Limits.{node_count};
 ghost use Rattle.refusal.specs.declared.Refusal.TheVariants.{OneChildDisconnect, Arrow as BadArrow};
 ghost use Rattle.report.specs.Nodes.{Node, comp, case, pair, disconnect, injl, injr, take, drop, word};
 ghost use Rattle.scope.specs.Check.{require, each};
 ghost use Rattle.scope.specs.Numbers.{be16, every};
-ghost use Rattle.scope.specs.Types.{TypeRecord, typeRecords};
-ghost use Rattle.scope.specs.Nodes.{nodeRecords};
-ghost use Rattle.scope.specs.Arrows.{noArrow, arrowRecords, branchRule, kindRule, arrowRule, noOneChild};
+ghost use Rattle.scope.specs.Types.{TypeRecord, type_records};
+ghost use Rattle.scope.specs.Nodes.{node_records};
+ghost use Rattle.scope.specs.Arrows.{no_arrow, arrow_records, branch_rule, kind_rule, arrow_rule, no_one_child};
 ghost use Rattle.scope.specs.Arrows.{Arrow as ScopeArrow};
-ghost use Rattle.common.specs.Answers.{checkOf};
-ghost use Rattle.table.specs.Answers.{recordOf};
-ghost use Rattle.table.specs.Lent.{lentNodes, nodeIs};
-ghost use Rattle.arrow.specs.Answers.{arrowOf};
-ghost use Rattle.arrow.specs.Stage.{lentRule, lentRefusal, countedArrows};
+ghost use Rattle.common.specs.Answers.{check_of};
+ghost use Rattle.table.specs.Answers.{record_of};
+ghost use Rattle.table.specs.Lent.{lent_nodes, node_is};
+ghost use Rattle.arrow.specs.Answers.{arrow_of};
+ghost use Rattle.arrow.specs.Stage.{lent_rule, lent_refusal, counted_arrows};
 
 use common::Checked;
 use refusal::Refusal;
@@ -30,7 +30,7 @@ pub struct Arrow {
 
 // The arrow of node i; past the end of the table from record 0 to record 0.
 pub fn arrow_at(arrows: &[u8], i: u32) -> Arrow
-    ensures { arrowOf result ≡ get_or (arrowRecords arrows.now) i noArrow }
+    ensures { arrow_of result ≡ get_or (arrow_records arrows.now) i no_arrow }
 {
     let k = i as usize;
     if k < arrows.len() / limits::ARROW_BYTES {
@@ -76,7 +76,7 @@ fn all5(a: bool, b: bool, c: bool, d: bool, e: bool) -> bool
 
 // A comp: the left child's target is the right child's source.
 fn comp_fits(arrows: &[u8], s: u32, t: u32, from: usize, to: usize) -> bool
-    ensures { (ts : List TypeRecord) (ns : List Node) → result ≡ kindRule ts ns (arrowRecords arrows.now) from to (comp s t) }
+    ensures { (ts : List TypeRecord) (ns : List Node) → result ≡ kind_rule ts ns (arrow_records arrows.now) from to (comp s t) }
 {
     let a = arrow_at(arrows, s);
     let b = arrow_at(arrows, t);
@@ -93,8 +93,8 @@ fn branch_fits(
     rest: usize,
     to: usize,
 ) -> bool
-    ensures { result ≡ branchRule (typeRecords types.now) (lentNodes [] nodes.now)
-        (arrowRecords arrows.now) j part rest to }
+    ensures { result ≡ branch_rule (type_records types.now) (lent_nodes [] nodes.now)
+        (arrow_records arrows.now) j part rest to }
 {
     if table::hidden_at(nodes, j) {
         return true;
@@ -116,8 +116,8 @@ fn case_fits(
     from: usize,
     to: usize,
 ) -> bool
-    ensures { result ≡ kindRule (typeRecords types.now) (lentNodes [] nodes.now)
-        (arrowRecords arrows.now) from to (case s t) }
+    ensures { result ≡ kind_rule (type_records types.now) (lent_nodes [] nodes.now)
+        (arrow_records arrows.now) from to (case s t) }
 {
     let sum = types::left_of(types, from);
     let rest = types::right_of(types, from);
@@ -133,7 +133,7 @@ fn case_fits(
 
 // A pair: both children from the source, and the target their product.
 fn pair_fits(types: &[u8], arrows: &[u8], s: u32, t: u32, from: usize, to: usize) -> bool
-    ensures { (ns : List Node) → result ≡ kindRule (typeRecords types.now) ns (arrowRecords arrows.now) from to (pair s t) }
+    ensures { (ns : List Node) → result ≡ kind_rule (type_records types.now) ns (arrow_records arrows.now) from to (pair s t) }
 {
     let a = arrow_at(arrows, s);
     let b = arrow_at(arrows, t);
@@ -146,7 +146,7 @@ fn pair_fits(types: &[u8], arrows: &[u8], s: u32, t: u32, from: usize, to: usize
 
 // A disconnect: the left child goes from 2^256 and the source to B and C, the right one from C to D, and the target is B and D.
 fn disconnect_fits(types: &[u8], arrows: &[u8], s: u32, t: u32, from: usize, to: usize) -> bool
-    ensures { (ns : List Node) → result ≡ kindRule (typeRecords types.now) ns (arrowRecords arrows.now) from to (disconnect s t) }
+    ensures { (ns : List Node) → result ≡ kind_rule (type_records types.now) ns (arrow_records arrows.now) from to (disconnect s t) }
 {
     let a = arrow_at(arrows, s);
     let b = arrow_at(arrows, t);
@@ -164,7 +164,7 @@ fn disconnect_fits(types: &[u8], arrows: &[u8], s: u32, t: u32, from: usize, to:
 
 // An injl: the child goes from the source to the left part of the target.
 fn injl_fits(types: &[u8], arrows: &[u8], s: u32, from: usize, to: usize) -> bool
-    ensures { (ns : List Node) → result ≡ kindRule (typeRecords types.now) ns (arrowRecords arrows.now) from to (injl s) }
+    ensures { (ns : List Node) → result ≡ kind_rule (type_records types.now) ns (arrow_records arrows.now) from to (injl s) }
 {
     let a = arrow_at(arrows, s);
     all2(
@@ -175,7 +175,7 @@ fn injl_fits(types: &[u8], arrows: &[u8], s: u32, from: usize, to: usize) -> boo
 
 // An injr: the child goes from the source to the right part of the target.
 fn injr_fits(types: &[u8], arrows: &[u8], s: u32, from: usize, to: usize) -> bool
-    ensures { (ns : List Node) → result ≡ kindRule (typeRecords types.now) ns (arrowRecords arrows.now) from to (injr s) }
+    ensures { (ns : List Node) → result ≡ kind_rule (type_records types.now) ns (arrow_records arrows.now) from to (injr s) }
 {
     let a = arrow_at(arrows, s);
     all2(
@@ -186,7 +186,7 @@ fn injr_fits(types: &[u8], arrows: &[u8], s: u32, from: usize, to: usize) -> boo
 
 // A take: the child goes from the left part of the source to the target.
 fn take_fits(types: &[u8], arrows: &[u8], s: u32, from: usize, to: usize) -> bool
-    ensures { (ns : List Node) → result ≡ kindRule (typeRecords types.now) ns (arrowRecords arrows.now) from to (take s) }
+    ensures { (ns : List Node) → result ≡ kind_rule (type_records types.now) ns (arrow_records arrows.now) from to (take s) }
 {
     let a = arrow_at(arrows, s);
     all2(
@@ -197,7 +197,7 @@ fn take_fits(types: &[u8], arrows: &[u8], s: u32, from: usize, to: usize) -> boo
 
 // A drop: the child goes from the right part of the source to the target.
 fn drop_fits(types: &[u8], arrows: &[u8], s: u32, from: usize, to: usize) -> bool
-    ensures { (ns : List Node) → result ≡ kindRule (typeRecords types.now) ns (arrowRecords arrows.now) from to (drop s) }
+    ensures { (ns : List Node) → result ≡ kind_rule (type_records types.now) ns (arrow_records arrows.now) from to (drop s) }
 {
     let a = arrow_at(arrows, s);
     all2(
@@ -215,7 +215,7 @@ fn depth(n: u32) -> u32
 
 // A word of 2^(n - 1) bits, from unit.
 fn word_fits(types: &[u8], n: u32, from: usize, to: usize) -> bool
-    ensures { (ns : List Node) (as' : List ScopeArrow) (bs : List ℕ) → result ≡ kindRule (typeRecords types.now) ns as' from to (word n bs) }
+    ensures { (ns : List Node) (as' : List ScopeArrow) (bs : List ℕ) → result ≡ kind_rule (type_records types.now) ns as' from to (word n bs) }
 {
     all2(
         types::is_unit(types, from),
@@ -233,8 +233,8 @@ fn two_fits(
     to: usize,
 ) -> bool
     requires { r.kind < 4 }
-    ensures { result ≡ kindRule (typeRecords types.now) (lentNodes [] nodes.now)
-        (arrowRecords arrows.now) from to (nodeIs [] (recordOf r)) }
+    ensures { result ≡ kind_rule (type_records types.now) (lent_nodes [] nodes.now)
+        (arrow_records arrows.now) from to (node_is [] (record_of r)) }
 {
     let kind = r.kind;
     match kind {
@@ -249,7 +249,7 @@ fn two_fits(
 fn one_fits(types: &[u8], arrows: &[u8], r: NodeRecord, from: usize, to: usize) -> bool
     requires { (3 < r.kind) × (r.kind < 8) }
     ensures { (ns : List Node)
-        → result ≡ kindRule (typeRecords types.now) ns (arrowRecords arrows.now) from to (nodeIs [] (recordOf r)) }
+        → result ≡ kind_rule (type_records types.now) ns (arrow_records arrows.now) from to (node_is [] (record_of r)) }
 {
     let kind = r.kind;
     match kind {
@@ -263,7 +263,7 @@ fn one_fits(types: &[u8], arrows: &[u8], r: NodeRecord, from: usize, to: usize) 
 // The nodes with none, and the disconnect with one; a hidden node goes from record 0 to record 0, what has no kind, as a fail node, anywhere.
 fn other_fits(types: &[u8], r: NodeRecord, from: usize, to: usize) -> bool
     requires { 7 < r.kind }
-    ensures { (ns : List Node) (as' : List ScopeArrow) → result ≡ kindRule (typeRecords types.now) ns as' from to (nodeIs [] (recordOf r)) }
+    ensures { (ns : List Node) (as' : List ScopeArrow) → result ≡ kind_rule (type_records types.now) ns as' from to (node_is [] (record_of r)) }
 {
     let kind = r.kind;
     match kind {
@@ -285,8 +285,8 @@ fn kind_fits(
     from: usize,
     to: usize,
 ) -> bool
-    ensures { result ≡ kindRule (typeRecords types.now) (lentNodes [] nodes.now)
-        (arrowRecords arrows.now) from to (nodeIs [] (recordOf r)) }
+    ensures { result ≡ kind_rule (type_records types.now) (lent_nodes [] nodes.now)
+        (arrow_records arrows.now) from to (node_is [] (record_of r)) }
 {
     if r.kind <= table::DISCONNECT {
         return two_fits(types, nodes, arrows, r, from, to);
@@ -299,7 +299,7 @@ fn kind_fits(
 
 // Whether the arrow of node i is in the type table and the report's.
 pub fn arrow_fits(types: &[u8], nodes: &[u32], arrows: &[u8], i: u32) -> bool
-    ensures { result ≡ arrowRule (typeRecords types.now) (lentNodes [] nodes.now) (arrowRecords arrows.now) i }
+    ensures { result ≡ arrow_rule (type_records types.now) (lent_nodes [] nodes.now) (arrow_records arrows.now) i }
 {
     let own = arrow_at(arrows, i);
     let count = types.len() / limits::TYPE_BYTES;
@@ -313,7 +313,7 @@ pub fn arrow_fits(types: &[u8], nodes: &[u32], arrows: &[u8], i: u32) -> bool
 
 // Node i is no disconnect with one child.
 fn not_one_child(nodes: &[u32], i: u32) -> bool
-    ensures { (ts : List TypeRecord) (as' : List ScopeArrow) → result ≡ noOneChild ts (lentNodes [] nodes.now) as' i }
+    ensures { (ts : List TypeRecord) (as' : List ScopeArrow) → result ≡ no_one_child ts (lent_nodes [] nodes.now) as' i }
 {
     let r = table::record_at(nodes, i);
     r.kind != table::DISCONNECT1
@@ -321,9 +321,9 @@ fn not_one_child(nodes: &[u32], i: u32) -> bool
 
 // No node is a disconnect with one child (11).
 fn none_one_child(nodes: &[u32]) -> Checked
-    requires { length (nodeRecords nodes.now) ≤ nodeCount }
-    ensures { (ts : List TypeRecord) (as' : List ScopeArrow) → checkOf result
-        ≡ each (length (nodeRecords nodes.now)) (noOneChild ts (lentNodes [] nodes.now) as') OneChildDisconnect }
+    requires { length (node_records nodes.now) ≤ node_count }
+    ensures { (ts : List TypeRecord) (as' : List ScopeArrow) → check_of result
+        ≡ each (length (node_records nodes.now)) (no_one_child ts (lent_nodes [] nodes.now) as') OneChildDisconnect }
 {
     let n = (nodes.len() / limits::NODE_NUMBERS) as u32;
     let mut i: u32 = 0;
@@ -338,9 +338,9 @@ fn none_one_child(nodes: &[u32]) -> Checked
 
 // As many arrows as nodes (12).
 fn one_each(nodes: &[u32], arrows: &[u8]) -> Checked
-    requires { length (nodeRecords nodes.now) ≤ nodeCount }
-    ensures { checkOf result ≡ require (eqb (length (arrowRecords arrows.now)) (length (nodeRecords nodes.now)))
-        (BadArrow (length (nodeRecords nodes.now))) }
+    requires { length (node_records nodes.now) ≤ node_count }
+    ensures { check_of result ≡ require (eqb (length (arrow_records arrows.now)) (length (node_records nodes.now)))
+        (BadArrow (length (node_records nodes.now))) }
 {
     let n = nodes.len() / limits::NODE_NUMBERS;
     if arrows.len() / limits::ARROW_BYTES != n {
@@ -351,10 +351,10 @@ fn one_each(nodes: &[u32], arrows: &[u8]) -> Checked
 
 // Node by node: no earlier node is equal to it (9), and its arrow is the report's (12).
 fn every_node(types: &[u8], nodes: &[u32], arrows: &[u8], program: &[u8], hashes: &[u8]) -> Checked
-    requires { length (nodeRecords nodes.now) ≤ nodeCount }
-    ensures { checkOf result ≡ each (length (nodeRecords nodes.now))
-        (lentRule types.now nodes.now arrows.now program.now hashes.now)
-        (lentRefusal types.now nodes.now arrows.now program.now hashes.now) }
+    requires { length (node_records nodes.now) ≤ node_count }
+    ensures { check_of result ≡ each (length (node_records nodes.now))
+        (lent_rule types.now nodes.now arrows.now program.now hashes.now)
+        (lent_refusal types.now nodes.now arrows.now program.now hashes.now) }
 {
     let n = (nodes.len() / limits::NODE_NUMBERS) as u32;
     let again = equal::first_repeat(nodes, arrows, program, hashes);
@@ -379,7 +379,7 @@ pub fn check_arrows(
     program: &[u8],
     hashes: &[u8],
 ) -> Checked
-    ensures { checkOf result ≡ countedArrows types.now nodes.now arrows.now program.now hashes.now }
+    ensures { check_of result ≡ counted_arrows types.now nodes.now arrows.now program.now hashes.now }
 {
     let some = table::check_count(nodes);
     let Checked::Passed = some else {

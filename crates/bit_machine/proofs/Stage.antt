@@ -9,106 +9,106 @@ use Rattle.refusal.specs.declared.Answer.TheVariants.{Refused}
 use Rattle.report.specs.Values.{Val}
 use Rattle.report.specs.Meaning.{stuck}
 use Rattle.scope.specs.Check.{passed}
-use Rattle.scope.specs.Nodes.{nodeRecords}
-use Rattle.scope.specs.Program.{Program, valueFrom, whole, wholeSource, wholeTarget}
-use Rattle.scope.specs.Bounds.{wholeCells, wholeFrames}
+use Rattle.scope.specs.Nodes.{node_records}
+use Rattle.scope.specs.Program.{Program, value_from, whole, whole_source, whole_target}
+use Rattle.scope.specs.Bounds.{whole_cells, whole_frames}
 use Rattle.scope.specs.Machine.{machine}
-use Rattle.scope.specs.Run.{Ready, Left, cells_of, leftWith, ran}
-use Rattle.scope.specs.Stages.{tablesLent, runStage}
-use Rattle.common.specs.Nodes.{length-records}
-use Rattle.types.specs.Table.{typeWidths, typeNext}
-use Rattle.ready.specs.Lent.{programAt, Shown}
+use Rattle.scope.specs.Run.{Ready, Left, cells_of, left_with, ran}
+use Rattle.scope.specs.Stages.{tables_lent, run_stage}
+use Rattle.common.specs.Nodes.{length_records}
+use Rattle.types.specs.Table.{type_widths, type_next}
+use Rattle.ready.specs.Lent.{program_at, Shown}
 use Rattle.ready.specs.declared.Prepared.{Prepared}
 use Rattle.ready.specs.declared.RunAnswer.TheVariants.{Bounds, Refused as NoRun}
 use Rattle.ready.proofs.Shown as Shows
-use Rattle.ready.proofs.Told.{found, IsReady, told-ready, stage-runs, told-refused}
-use Rattle.bit_machine.specs.Whole.{readyOf, RunOk}
-use Rattle.bit_machine.proofs.Ends.{nodes-many}
+use Rattle.ready.proofs.Told.{found, IsReady, told_ready, stage_runs, told_refused}
+use Rattle.bit_machine.specs.Whole.{ready_of, RunOk}
+use Rattle.bit_machine.proofs.Ends.{nodes_many}
 
-module _ (types nodes arrows program hashes given witness : List ℕ) (witnessBits : ℕ) (input : List ℕ)
-    (inputBits : ℕ) (cells frames answer : List ℕ) (p : Prepared)
-    (is : p ≡ found types nodes arrows program hashes given witness witnessBits input inputBits cells frames answer) where
+module _ (types nodes arrows program hashes given witness : List ℕ) (witness_bits : ℕ) (input : List ℕ)
+    (input_bits : ℕ) (cells frames answer : List ℕ) (p : Prepared)
+    (is : p ≡ found types nodes arrows program hashes given witness witness_bits input input_bits cells frames answer) where
   abbrev Staged : Left → Type 0
-  Staged left = left ≡ runStage types nodes arrows program hashes given witness witnessBits input inputBits cells frames answer
+  Staged left = left ≡ run_stage types nodes arrows program hashes given witness witness_bits input input_bits cells frames answer
 
   -- no run
-  pub not-begun : (why : Refusal) → p.answer ≡ NoRun why → Staged (leftWith (Refused why) cells frames answer)
-  not-begun why e = sym (told-refused types nodes arrows program hashes given witness witnessBits input inputBits cells frames answer p is why e)
+  pub not_begun : (why : Refusal) → p.answer ≡ NoRun why → Staged (left_with (Refused why) cells frames answer)
+  not_begun why e = sym (told_refused types nodes arrows program hashes given witness witness_bits input input_bits cells frames answer p is why e)
 
   -- a run
   module _ (size most : ℕ) (e : p.answer ≡ Bounds size most) where
-    told : IsReady types nodes arrows program hashes given witness witnessBits input inputBits cells frames answer p size most
-    told = told-ready types nodes arrows program hashes given witness witnessBits input inputBits cells frames answer p is size most e
+    told : IsReady types nodes arrows program hashes given witness witness_bits input input_bits cells frames answer p size most
+    told = told_ready types nodes arrows program hashes given witness witness_bits input input_bits cells frames answer p is size most e
 
     abbrev R : Ready
     R = told.ready
 
     -- the program, with the positions that the checks found
     abbrev P : Program
-    P = programAt types nodes arrows program hashes given witness p.positions
+    P = program_at types nodes arrows program hashes given witness p.positions
 
-    pub begun-shown : Shown types p.widths p.next nodes arrows program hashes given witness p.positions
-    unfolding tablesLent
-    begun-shown =
-        rw (told.widthsAre, told.nextAre, told.positionsAre)
-        (Shows.shown types nodes arrows program hashes given witness witnessBits input inputBits told.tablesPass cells frames answer R told.readyPass)
+    pub begun_shown : Shown types p.widths p.next nodes arrows program hashes given witness p.positions
+    unfolding tables_lent
+    begun_shown =
+        rw (told.widths_are, told.next_are, told.positions_are)
+        (Shows.shown types nodes arrows program hashes given witness witness_bits input input_bits told.tables_pass cells frames answer R told.ready_pass)
 
-    same-program : P ≡ R.program
-    unfolding tablesLent
-    same-program =
-        ap (λ (ps : List ℕ). programAt types nodes arrows program hashes given witness ps) told.positionsAre
-        ∙ Shows.program-is types nodes arrows program hashes given witness witnessBits input inputBits
-        told.tablesPass cells frames answer R told.readyPass
+    same_program : P ≡ R.program
+    unfolding tables_lent
+    same_program =
+        ap (λ (ps : List ℕ). program_at types nodes arrows program hashes given witness ps) told.positions_are
+        ∙ Shows.program_is_lem types nodes arrows program hashes given witness witness_bits input input_bits
+        told.tables_pass cells frames answer R told.ready_pass
 
     -- the input that was made ready is the value at the front of the input bits
-    same-input : (readyOf R.program input).input ≡ R.input
-    unfolding wholeSource valueFrom
-    same-input =
-        let h = Shows.input-held types nodes arrows program hashes given witness witnessBits input inputBits
-        told.tablesPass cells frames answer R told.readyPass in
-        rw (h.1, valueFrom)
+    same_input : (ready_of R.program input).input ≡ R.input
+    unfolding whole_source value_from
+    same_input =
+        let h = Shows.input_held types nodes arrows program hashes given witness witness_bits input input_bits
+        told.tables_pass cells frames answer R told.ready_pass in
+        rw (h.1, value_from)
 
-    same-ready : readyOf P input ≡ R
-    same-ready = ap (λ (P : Program). readyOf P input) same-program ∙ λ i. record { program = R.program; input = same-input i }
+    same_ready : ready_of P input ≡ R
+    same_ready = ap (λ (P : Program). ready_of P input) same_program ∙ λ i. record { program = R.program; input = same_input i }
 
     -- the stage is this run
-    pub begun-ran : (left : Left) → left ≡ ran (readyOf P input) cells frames answer → Staged left
-    begun-ran left q =
-        q ∙ ap (λ (R : Ready). ran R cells frames answer) same-ready
-        ∙ sym (stage-runs types nodes arrows program hashes given witness witnessBits input inputBits cells frames answer p is size most told)
+    pub begun_ran : (left : Left) → left ≡ ran (ready_of P input) cells frames answer → Staged left
+    begun_ran left q =
+        q ∙ ap (λ (R : Ready). ran R cells frames answer) same_ready
+        ∙ sym (stage_runs types nodes arrows program hashes given witness witness_bits input input_bits cells frames answer p is size most told)
 
     fit : RunOk R.program input size most cells frames answer
     fit =
-        let n = Shows.nodes-counted types nodes arrows program hashes given witness witnessBits input inputBits told.tablesPass in
-        let l : length R.program.nodes ≡ length (nodeRecords nodes) =
-        ap (λ (P : Program). length P.nodes) (sym same-program)
-        ∙ nodes-many types nodes arrows program hashes given witness p.positions
-        ∙ sym (length-records nodes) in
-        let h = Shows.input-held types nodes arrows program hashes given witness witnessBits input inputBits
-        told.tablesPass cells frames answer R told.readyPass in
-        let r = Shows.room types nodes arrows program hashes given witness witnessBits input inputBits
-        told.tablesPass cells frames answer R told.readyPass in
-        let w = Shows.within-limits types nodes arrows program hashes given witness witnessBits input inputBits
-        told.tablesPass cells frames answer R told.readyPass in
+        let n = Shows.nodes_counted types nodes arrows program hashes given witness witness_bits input input_bits told.tables_pass in
+        let l : length R.program.nodes ≡ length (node_records nodes) =
+        ap (λ (P : Program). length P.nodes) (sym same_program)
+        ∙ nodes_many types nodes arrows program hashes given witness p.positions
+        ∙ sym (length_records nodes) in
+        let h = Shows.input_held types nodes arrows program hashes given witness witness_bits input input_bits
+        told.tables_pass cells frames answer R told.ready_pass in
+        let r = Shows.room types nodes arrows program hashes given witness witness_bits input input_bits
+        told.tables_pass cells frames answer R told.ready_pass in
+        let w = Shows.within_limits types nodes arrows program hashes given witness witness_bits input input_bits
+        told.tables_pass cells frames answer R told.ready_pass in
         record {
           some = omega arith;
           few = omega arith;
           reads = (R.input, h.0, h.1);
-          sizeIs = told.cellsAre;
-          mostIs = told.framesAre;
-          sizeFits = rw told.cellsAre w.0;
-          mostFits = rw told.framesAre w.1;
-          cellsFit = rw told.cellsAre r.0;
-          framesFit = rw told.framesAre r.1;
-          answerFits = r.2;
+          size_is = told.cells_are;
+          most_is = told.frames_are;
+          size_fits = rw told.cells_are w.0;
+          most_fits = rw told.frames_are w.1;
+          cells_fit = rw told.cells_are r.0;
+          frames_fit = rw told.frames_are r.1;
+          answer_fits = r.2;
           goes = subst
-              (λ (v : Val). machine (wholeCells R.program) (wholeFrames R.program) (whole R.program) (wholeSource R.program)
-              (wholeTarget R.program) v (cells_of cells) ≡ stuck → ⊥)
-              (sym same-input)
-              (Shows.not_stuck types nodes arrows program hashes given witness witnessBits input inputBits
-              told.tablesPass cells frames answer R told.readyPass);
+              (λ (v : Val). machine (whole_cells R.program) (whole_frames R.program) (whole R.program) (whole_source R.program)
+              (whole_target R.program) v (cells_of cells) ≡ stuck → ⊥)
+              (sym same_input)
+              (Shows.not_stuck types nodes arrows program hashes given witness witness_bits input input_bits
+              told.tables_pass cells frames answer R told.ready_pass);
         }
 
     -- what the run rests on
     pub begun_ok : RunOk P input size most cells frames answer
-    begun_ok = subst (λ (P : Program). RunOk P input size most cells frames answer) (sym same-program) fit
+    begun_ok = subst (λ (P : Program). RunOk P input size most cells frames answer) (sym same_program) fit

@@ -11,37 +11,37 @@ use contract.Lifetimes.{Lfts}
 use denote.Triple.Clauses.{AtExit}
 use Rattle.bit_machine.proofs.engine.node.Kinds as kinds
 use Rattle.bit_machine.proofs.engine.node.Reads as reads
-use Rattle.limits.specs.Limits.{cellCount, frameCount}
+use Rattle.limits.specs.Limits.{cell_count, frame_count}
 use Rattle.report.specs.Bits.{bits_of}
 use Rattle.report.specs.Values.{HasTy, value_at}
 use Rattle.report.specs.Meaning.{eval}
 use Rattle.scope.specs.Check.{passed}
-use Rattle.scope.specs.Numbers.{bytesFor}
-use Rattle.scope.specs.Types.{typeRecords}
-use Rattle.scope.specs.Arrows.{arrowRecords}
-use Rattle.scope.specs.Program.{Program, sourceTy, targetTy, termAt, wholeSource}
-use Rattle.scope.specs.Bounds.{wholeCells, wholeFrames}
+use Rattle.scope.specs.Numbers.{bytes_for}
+use Rattle.scope.specs.Types.{type_records}
+use Rattle.scope.specs.Arrows.{arrow_records}
+use Rattle.scope.specs.Program.{Program, source_ty, target_ty, term_at, whole_source}
+use Rattle.scope.specs.Bounds.{whole_cells, whole_frames}
 use Rattle.scope.specs.Machine.{State, Step, exec}
-use Rattle.scope.specs.Run.{Ready, checkReady, cells_of}
-use Rattle.scope.specs.Stages.{tablesLent, hashStage}
-use Rattle.layout.specs.Mach.{Mach, recordsOf, length-recordsOf}
-use Rattle.layout.specs.Exec.{Outcome, runTerm}
-use Rattle.common.specs.Bits.{length-bits}
+use Rattle.scope.specs.Run.{Ready, check_ready, cells_of}
+use Rattle.scope.specs.Stages.{tables_lent, hash_stage}
+use Rattle.layout.specs.Mach.{Mach, records_of, length-records_of}
+use Rattle.layout.specs.Exec.{Outcome, run_term}
+use Rattle.common.specs.Bits.{length_bits}
 use Rattle.layout.specs.Safe.{Safe}
 use Rattle.layout.specs.Layout.{layout}
 use Rattle.layout.specs.Follow.{Fits}
-use Rattle.layout.specs.Match.{laidOut}
+use Rattle.layout.specs.Match.{laid_out}
 use Rattle.theory.specs.Sound.{Sound}
-use Rattle.theory.specs.Accepted.{Checked, ready-sound, ready-input}
-use Rattle.theory.specs.LentTables.{lent-checked}
+use Rattle.theory.specs.Accepted.{Checked, ready_sound, ready_input}
+use Rattle.theory.specs.LentTables.{lent_checked}
 use Rattle.theory.specs.Entered.{Entered}
-use Rattle.theory.specs.Entry.{cursorOf, entry-fits}
+use Rattle.theory.specs.Entry.{cursor_of, entry_fits}
 use Rattle.theory.specs.AtNodes.{AtNode, entered_at}
-use Rattle.theory.specs.NodeEnds.{NodeEnds, node-means, node-goes}
+use Rattle.theory.specs.NodeEnds.{NodeEnds, node_means, node_goes}
 use Rattle.theory.specs.Theorems as Theorems
-use Rattle.types.specs.Table.{typeWidths, typeNext}
-use Rattle.ready.specs.Lent.{programNodes, programAt, Shown}
-use Rattle.ready.specs.Positions.{positionsOf}
+use Rattle.types.specs.Table.{type_widths, type_next}
+use Rattle.ready.specs.Lent.{program_nodes, program_at, Shown}
+use Rattle.ready.specs.Positions.{positions_of}
 use Rattle.ready.proofs.Shown as Shows
 use Rattle.bit_machine.specs.Machine.{machine_of, Within}
 use Rattle.bit_machine.specs.Engine.{out_of}
@@ -67,75 +67,75 @@ module _ (κs : Lfts 3) where
 
   -- the tables that it is lent
   pub record Lends (a : Args) (types widths next nodes arrows program hashes given witness positions : List ℕ) : Type 0 where
-    pub typesAre : a.0.now ≡ types
-    pub widthsAre : a.1.0.now ≡ widths
-    pub nextAre : a.1.1.0.now ≡ next
-    pub nodesAre : a.1.1.1.0.now ≡ nodes
-    pub arrowsAre : a.1.1.1.1.0.now ≡ arrows
-    pub programIs : a.1.1.1.1.1.0.now ≡ program
-    pub hashesAre : a.1.1.1.1.1.1.0.now ≡ hashes
-    pub givenAre : a.1.1.1.1.1.1.1.0.now ≡ given
-    pub witnessIs : a.1.1.1.1.1.1.1.1.0.now ≡ witness
-    pub positionsAre : a.1.1.1.1.1.1.1.1.1.0.now ≡ positions
+    pub types_are : a.0.now ≡ types
+    pub widths_are : a.1.0.now ≡ widths
+    pub next_are : a.1.1.0.now ≡ next
+    pub nodes_are : a.1.1.1.0.now ≡ nodes
+    pub arrows_are : a.1.1.1.1.0.now ≡ arrows
+    pub program_is : a.1.1.1.1.1.0.now ≡ program
+    pub hashes_are : a.1.1.1.1.1.1.0.now ≡ hashes
+    pub given_are : a.1.1.1.1.1.1.1.0.now ≡ given
+    pub witness_is : a.1.1.1.1.1.1.1.1.0.now ≡ witness
+    pub positions_are : a.1.1.1.1.1.1.1.1.1.0.now ≡ positions
 
   -- the machine in the stores that it is lent, with the heights; and the node
-  abbrev pub machineIn : Args → Mach
-  machineIn a =
+  abbrev pub machine_in : Args → Mach
+  machine_in a =
       machine_of (bits_of a.1.1.1.1.1.1.1.1.1.1.0.now) a.1.1.1.1.1.1.1.1.1.1.1.0.now
       a.1.1.1.1.1.1.1.1.1.1.1.1.1.0
 
-  abbrev pub nodeIn : Args → ℕ
-  nodeIn a = a.1.1.1.1.1.1.1.1.1.1.1.1.0
+  abbrev pub node_in : Args → ℕ
+  node_in a = a.1.1.1.1.1.1.1.1.1.1.1.1.0
 
   -- the tables of a run, beside them the widths and the entries of the types and the positions of the witness values
-  abbrev pub LendsRun : Args → (types nodes arrows program hashes given witness : List ℕ) → (witnessBits : ℕ) → Type 0
-  LendsRun a types nodes arrows program hashes given witness witnessBits =
-      Lends a types (typeWidths types) (typeNext types) nodes arrows program hashes given witness
-      (positionsOf (typeRecords types) (programNodes nodes program hashes) (arrowRecords arrows) witness witnessBits)
+  abbrev pub LendsRun : Args → (types nodes arrows program hashes given witness : List ℕ) → (witness_bits : ℕ) → Type 0
+  LendsRun a types nodes arrows program hashes given witness witness_bits =
+      Lends a types (type_widths types) (type_next types) nodes arrows program hashes given witness
+      (positions_of (type_records types) (program_nodes nodes program hashes) (arrow_records arrows) witness witness_bits)
 
   -- how it ended, with the machine in the stores as it leaves them
   abbrev pub outcome : Result → Exit → Outcome
   outcome r x = out_of r (bits_of x.1.1.1.1.1.1.1.1.1.1.0.now) x.1.1.1.1.1.1.1.1.1.1.1.0.now
 
 -- the same tables, shown and read as a program
-tables-shown : {t w n m r p h g v q t' w' n' m' r' p' h' g' v' q' : List ℕ} → t ≡ t' → w ≡ w' → n ≡ n' → m ≡ m' → r ≡ r' → p ≡ p' → h ≡ h'
+tables_shown : {t w n m r p h g v q t' w' n' m' r' p' h' g' v' q' : List ℕ} → t ≡ t' → w ≡ w' → n ≡ n' → m ≡ m' → r ≡ r' → p ≡ p' → h ≡ h'
     → g ≡ g' → v ≡ v' → q ≡ q'
     → Shown t' w' n' m' r' p' h' g' v' q' → Shown t w n m r p h g v q
-tables-shown t w n m r p h g v q shown = rw (t, w, n, m, r, p, h, g, v, q) shown
+tables_shown t w n m r p h g v q shown = rw (t, w, n, m, r, p, h, g, v, q) shown
 
-tables-program : {t m r p h g v q t' m' r' p' h' g' v' q' : List ℕ} → t ≡ t' → m ≡ m' → r ≡ r' → p ≡ p' → h ≡ h' → g ≡ g' → v ≡ v' → q ≡ q'
-    → programAt t m r p h g v q ≡ programAt t' m' r' p' h' g' v' q'
-tables-program t m r p h g v q = rw (t, m, r, p, h, g, v, q)
+tables_program : {t m r p h g v q t' m' r' p' h' g' v' q' : List ℕ} → t ≡ t' → m ≡ m' → r ≡ r' → p ≡ p' → h ≡ h' → g ≡ g' → v ≡ v' → q ≡ q'
+    → program_at t m r p h g v q ≡ program_at t' m' r' p' h' g' v' q'
+tables_program t m r p h g v q = rw (t, m, r, p, h, g, v, q)
 
 -- stores that hold the layout of a state are within the limits of a run
-stores-within : (bytes numbers : List ℕ) (heights : Heights) (lentCells size most : ℕ) (s : State) → Fits size most s
-    → lentCells ≤ cellCount → most ≤ frameCount
-    → machine_of (bits_of bytes) numbers heights ≡ layout lentCells most s → Within bytes numbers
-stores-within bytes numbers heights lentCells size most s fits c f e =
-    let l = Theorems.layout-size lentCells size most s fits in
-    let b : length (bits_of bytes) ≡ lentCells = ap (λ (m : Mach). length m.bits) e ∙ l.0 in
-    let n : length (recordsOf numbers) ≡ most = ap (λ (m : Mach). length m.records) e ∙ l.1 in
-    record { cells = omega (arith, length-bits bytes); frames = omega (arith, length-recordsOf numbers) }
+stores_within : (bytes numbers : List ℕ) (heights : Heights) (lent_cells size most : ℕ) (s : State) → Fits size most s
+    → lent_cells ≤ cell_count → most ≤ frame_count
+    → machine_of (bits_of bytes) numbers heights ≡ layout lent_cells most s → Within bytes numbers
+stores_within bytes numbers heights lent_cells size most s fits c f e =
+    let l = Theorems.layout_size lent_cells size most s fits in
+    let b : length (bits_of bytes) ≡ lent_cells = ap (λ (m : Mach). length m.bits) e ∙ l.0 in
+    let n : length (records_of numbers) ≡ most = ap (λ (m : Mach). length m.records) e ∙ l.1 in
+    record { cells = omega (arith, length_bits bytes); frames = omega (arith, length-records_of numbers) }
 
 -- a run over lent tables that passed their checks
-module _ (types nodes arrows program hashes given witness : List ℕ) (witnessBits : ℕ) (input : List ℕ) (inputBits : ℕ)
-    (tables : hashStage types nodes arrows program hashes given ≡ passed tt) (cells frames answer : List ℕ) (R : Ready)
-    (ready : checkReady (tablesLent types nodes arrows program hashes given witness witnessBits input inputBits) cells frames answer ≡ passed R) where
+module _ (types nodes arrows program hashes given witness : List ℕ) (witness_bits : ℕ) (input : List ℕ) (input_bits : ℕ)
+    (tables : hash_stage types nodes arrows program hashes given ≡ passed tt) (cells frames answer : List ℕ) (R : Ready)
+    (ready : check_ready (tables_lent types nodes arrows program hashes given witness witness_bits input input_bits) cells frames answer ≡ passed R) where
   abbrev P : Program
   P = R.program
 
-  checked : Checked (tablesLent types nodes arrows program hashes given witness witnessBits input inputBits)
-  checked = lent-checked types nodes arrows program hashes given witness witnessBits input inputBits tables
+  checked : Checked (tables_lent types nodes arrows program hashes given witness witness_bits input input_bits)
+  checked = lent_checked types nodes arrows program hashes given witness witness_bits input input_bits tables
 
   sound : Sound P
-  sound = ready-sound (tablesLent types nodes arrows program hashes given witness witnessBits input inputBits) checked cells frames answer R ready
+  sound = ready_sound (tables_lent types nodes arrows program hashes given witness witness_bits input input_bits) checked cells frames answer R ready
 
-  typed : HasTy R.input (wholeSource P)
-  typed = ready-input (tablesLent types nodes arrows program hashes given witness witnessBits input inputBits) checked cells frames answer R ready
+  typed : HasTy R.input (whole_source P)
+  typed = ready_input (tables_lent types nodes arrows program hashes given witness witness_bits input input_bits) checked cells frames answer R ready
 
   -- the cells that are lent to the engine: those of the bytes that hold the bound's
-  abbrev pub lentCells : ℕ
-  lentCells = 8 * bytesFor (wholeCells P)
+  abbrev pub lent_cells : ℕ
+  lent_cells = 8 * bytes_for (whole_cells P)
 
   -- the run enters node i in state s
   module _ (i : ℕ) (s : State) (entered : Entered P R.input (cells_of cells) i s) where
@@ -144,51 +144,51 @@ module _ (types nodes arrows program hashes given witness : List ℕ) (witnessBi
 
     -- the node's run at that state
     abbrev step : Step
-    step = exec (wholeCells P) (wholeFrames P) (termAt P i) s
+    step = exec (whole_cells P) (whole_frames P) (term_at P i) s
 
     -- how it ends, by the meaning of the value that is read
     abbrev pub Ends : Step → Type 0
-    Ends e = NodeEnds (targetTy P i) s (eval (termAt P i) (value_at (sourceTy P i) s.cells (cursorOf s.reads))) e
+    Ends e = NodeEnds (target_ty P i) s (eval (term_at P i) (value_at (source_ty P i) s.cells (cursor_of s.reads))) e
 
     means : Ends step
-    means = node-means P sound here
+    means = node_means P sound here
 
-    fits : Fits (wholeCells P) (wholeFrames P) s
-    fits = entry-fits here.entry
+    fits : Fits (whole_cells P) (whole_frames P) s
+    fits = entry_fits here.entry
 
-    safe : Safe (termAt P i) (layout lentCells (wholeFrames P) s)
-    safe = Theorems.term-safe lentCells (wholeCells P) (wholeFrames P) (omega arith) (termAt P i) s fits (node-goes means)
+    safe : Safe (term_at P i) (layout lent_cells (whole_frames P) s)
+    safe = Theorems.term_safe lent_cells (whole_cells P) (whole_frames P) (omega arith) (term_at P i) s fits (node_goes means)
 
-    same : runTerm (termAt P i) (layout lentCells (wholeFrames P) s) ≡ laidOut lentCells (wholeFrames P) step
-    same = Theorems.term-same lentCells (wholeCells P) (wholeFrames P) (omega arith) (termAt P i) s fits (node-goes means)
+    same : run_term (term_at P i) (layout lent_cells (whole_frames P) s) ≡ laid_out lent_cells (whole_frames P) step
+    same = Theorems.term_same lent_cells (whole_cells P) (whole_frames P) (omega arith) (term_at P i) s fits (node_goes means)
 
     -- the engine's function is lent the tables, node i and that state's layout
-    module _ (κs : Lfts 3) (a : Args κs) (lends : LendsRun κs a types nodes arrows program hashes given witness witnessBits)
-        (node : nodeIn κs a ≡ i) (holds : machineIn κs a ≡ layout lentCells (wholeFrames P) s) where
+    module _ (κs : Lfts 3) (a : Args κs) (lends : LendsRun κs a types nodes arrows program hashes given witness witness_bits)
+        (node : node_in κs a ≡ i) (holds : machine_in κs a ≡ layout lent_cells (whole_frames P) s) where
       -- the program of its tables is the run's, so its term is the node's
-      term_is : termAt (programAt a.0.now a.1.1.1.0.now a.1.1.1.1.0.now a.1.1.1.1.1.0.now
+      term_is : term_at (program_at a.0.now a.1.1.1.0.now a.1.1.1.1.0.now a.1.1.1.1.1.0.now
           a.1.1.1.1.1.1.0.now a.1.1.1.1.1.1.1.0.now
-          a.1.1.1.1.1.1.1.1.0.now a.1.1.1.1.1.1.1.1.1.0.now) (nodeIn κs a) ≡ termAt P i
+          a.1.1.1.1.1.1.1.1.0.now a.1.1.1.1.1.1.1.1.1.0.now) (node_in κs a) ≡ term_at P i
       term_is =
-          ap₂ termAt
-          (tables-program lends.typesAre lends.nodesAre lends.arrowsAre lends.programIs lends.hashesAre lends.givenAre
-          lends.witnessIs lends.positionsAre
-          ∙ Shows.program-is types nodes arrows program hashes given witness witnessBits input inputBits tables cells frames answer R ready)
+          ap₂ term_at
+          (tables_program lends.types_are lends.nodes_are lends.arrows_are lends.program_is lends.hashes_are lends.given_are
+          lends.witness_is lends.positions_are
+          ∙ Shows.program_is_lem types nodes arrows program hashes given witness witness_bits input input_bits tables cells frames answer R ready)
           node
 
       -- WHAT THE FUNCTION ASKS FOR HOLDS
-      pub visit-asks : Pre κs a
-      visit-asks = (
-        tables-shown lends.typesAre lends.widthsAre lends.nextAre lends.nodesAre lends.arrowsAre lends.programIs
-            lends.hashesAre lends.givenAre lends.witnessIs lends.positionsAre
-            (Shows.shown types nodes arrows program hashes given witness witnessBits input inputBits tables cells frames answer R ready),
+      pub visit_asks : Pre κs a
+      visit_asks = (
+        tables_shown lends.types_are lends.widths_are lends.next_are lends.nodes_are lends.arrows_are lends.program_is
+            lends.hashes_are lends.given_are lends.witness_is lends.positions_are
+            (Shows.shown types nodes arrows program hashes given witness witness_bits input input_bits tables cells frames answer R ready),
         (
-          (let w = Shows.within-limits types nodes arrows program hashes given witness witnessBits input inputBits tables cells frames answer R ready in
-              stores-within _ _ _ lentCells (wholeCells P) (wholeFrames P) s fits (omega (arith, w.0)) w.1 holds),
+          (let w = Shows.within_limits types nodes arrows program hashes given witness witness_bits input input_bits tables cells frames answer R ready in
+              stores_within _ _ _ lent_cells (whole_cells P) (whole_frames P) s fits (omega (arith, w.0)) w.1 holds),
           rw (term_is, holds) safe,
         ),
       )
 
       -- WHAT IT PROMISES IS THE LAYOUT OF HOW THE NODE'S RUN ENDS, by the meaning
-      pub visit-ends : (r : Result κs) (x : Exit κs) → Post κs a r x → (e : Step) × (outcome κs r x ≡ laidOut lentCells (wholeFrames P) e) × Ends e
-      visit-ends r x post = (step, post ∙ ap₂ runTerm term_is holds ∙ same, means)
+      pub visit_ends : (r : Result κs) (x : Exit κs) → Post κs a r x → (e : Step) × (outcome κs r x ≡ laid_out lent_cells (whole_frames P) e) × Ends e
+      visit_ends r x post = (step, post ∙ ap₂ run_term term_is holds ∙ same, means)

@@ -5,15 +5,15 @@ use Rattle.report.specs.Types.{width, left_of, word_ty}
 use Rattle.report.specs.Values.{padded}
 use Rattle.report.specs.Nodes.{Node, comp, case, pair, disconnect, injl, injr, take, drop, disconnect1, iden, unit, witness, fail, hidden, word}
 use Rattle.report.specs.Meaning.{Out, done, failed, pruned, stuck, ◌>>=◌}
-use Rattle.scope.specs.Nodes.{nodeAt}
-use Rattle.scope.specs.Program.{Program, sourceTy, targetTy, termAt}
+use Rattle.scope.specs.Nodes.{node_at}
+use Rattle.scope.specs.Program.{Program, source_ty, target_ty, term_at}
 use Rattle.layout.specs.Mach.{Mach}
-use Rattle.layout.specs.Rules.{pushed, moved, copied, bitsWritten}
+use Rattle.layout.specs.Rules.{pushed, moved, copied, bits_written}
 use Rattle.layout.specs.Exec as Layout
-use Rattle.layout.specs.Exec.{Outcome, returning, runTerm, pairing, composing, disconnecting}
+use Rattle.layout.specs.Exec.{Outcome, returning, run_term, pairing, composing, disconnecting}
 use Rattle.layout.specs.Safe.{Safe, ReturnOk}
 use Rattle.bit_machine.specs.Machine.{machine_of}
-use Rattle.lookup.specs.Lookup.{recordAt}
+use Rattle.lookup.specs.Lookup.{record_at}
 use Rattle.bit_machine.specs.declared.Heights.{Heights}
 use Rattle.lookup.specs.declared.Around.{Around}
 use Rattle.lookup.specs.declared.Around.TheVariants.{Pairing, Composing, Disconnecting}
@@ -25,14 +25,14 @@ use Rattle.bit_machine.specs.declared.Plan.{Plan}
 use Rattle.bit_machine.specs.declared.Plan.TheVariants.{Rest, Stop, One, Two}
 
 -- a stop with the machine that it leaves
-abbrev pub stopOf : Reason → Mach → Outcome
-stopOf (Failed place) m = failed place m
-stopOf (Pruned place) m = pruned place m
+abbrev pub stop_of : Reason → Mach → Outcome
+stop_of (Failed place) m = failed place m
+stop_of (Pruned place) m = pruned place m
 
 -- an answer with the cells and the frame store's numbers
 abbrev pub out_of : Ran → (bits numbers : List ℕ) → Outcome
 out_of (Done h) bits numbers = done (machine_of bits numbers h)
-out_of (Stopped why h) bits numbers = stopOf why (machine_of bits numbers h)
+out_of (Stopped why h) bits numbers = stop_of why (machine_of bits numbers h)
 
 -- what is done around two children, with the hash of a disconnect's right child
 abbrev pub around_of : Around → (hash : List Bit) → Layout.Around
@@ -42,21 +42,21 @@ around_of (Disconnecting a b c) hash = disconnecting hash a b c
 
 -- before the left child of a disconnect
 abbrev pub handed : (hash : List Bit) → (source target : ℕ) → Mach → Mach
-handed hash source target m = pushed target (moved (copied source (bitsWritten hash (pushed (width (word_ty 8) + source) m))))
+handed hash source target m = pushed target (moved (copied source (bits_written hash (pushed (width (word_ty 8) + source) m))))
 
 -- a node that is a comp, a pair or a disconnect: its kind is at most 3, and not 1
 abbrev pub TwoKind : (nodes : List ℕ) → (i : ℕ) → Type 0
-TwoKind nodes i = ((recordAt nodes i).kind ≤ 3) × ((recordAt nodes i).kind ≡ 1 → ⊥)
+TwoKind nodes i = ((record_at nodes i).kind ≤ 3) × ((record_at nodes i).kind ≡ 1 → ⊥)
 
 -- node i on m is child x on m', and then the read cursor n cells back
 pub record OneOk (P : Program) (i : ℕ) (m m' : Mach) (x n : ℕ) : Type 0 where
   pub below : x < i
-  pub child : ReturnOk (λ z. Safe (termAt P x) z) (λ z. runTerm (termAt P x) z) n m'
-  pub runs : runTerm (termAt P i) m ≡ returning n (runTerm (termAt P x) m')
+  pub child : ReturnOk (λ z. Safe (term_at P x) z) (λ z. run_term (term_at P x) z) n m'
+  pub runs : run_term (term_at P i) m ≡ returning n (run_term (term_at P x) m')
 
 -- node i of a program on m, whose own work left m': what is left of it
 abbrev pub Planned : Plan → (nodes : List ℕ) → Program → (i : ℕ) → (m m' : Mach) → Type 0
-Planned Rest nodes P i m m' = runTerm (termAt P i) m ≡ done m'
-Planned (Stop why) nodes P i m m' = runTerm (termAt P i) m ≡ stopOf why m'
+Planned Rest nodes P i m m' = run_term (term_at P i) m ≡ done m'
+Planned (Stop why) nodes P i m m' = run_term (term_at P i) m ≡ stop_of why m'
 Planned (One x n) nodes P i m m' = OneOk P i m m' x n
 Planned Two nodes P i m m' = (m' ≡ m) × TwoKind nodes i

@@ -3,14 +3,14 @@
 // stands outside their cycle. A stop is handed on as it is, with the heights at the stop.
 ghost use Rattle.std.specs.Prelude.{◌≡◌, List, [], ℕ, ◌+◌, ◌*◌, ◌<◌, ◌≤◌};
 ghost use Rattle.report.specs.Bits.{bits_of};
-ghost use Rattle.scope.specs.Nodes.{nodeRecords, nodesOf};
-ghost use Rattle.scope.specs.Hashes.{branchHash};
-ghost use Rattle.scope.specs.Program.{termAt};
-ghost use Rattle.layout.specs.Exec.{runTerm, first_of, second_of, thirdOf};
+ghost use Rattle.scope.specs.Nodes.{node_records, nodes_of};
+ghost use Rattle.scope.specs.Hashes.{branch_hash};
+ghost use Rattle.scope.specs.Program.{term_at};
+ghost use Rattle.layout.specs.Exec.{run_term, first_of, second_of, third_of};
 ghost use Rattle.layout.specs.Safe.{Fed, Safe, FirstOk, SecondOk, ThirdOk, HandOk};
 ghost use Rattle.bit_machine.specs.Machine.{machine_of, Within};
-ghost use Rattle.lookup.specs.Lookup.{recordAt};
-ghost use Rattle.ready.specs.Lent.{programAt, Shown};
+ghost use Rattle.lookup.specs.Lookup.{record_at};
+ghost use Rattle.ready.specs.Lent.{program_at, Shown};
 ghost use Rattle.bit_machine.specs.Engine.{out_of, around_of, handed, TwoKind, Planned};
 
 use crate::{Heights, Plan, Ran, Reason, rules, values};
@@ -35,10 +35,10 @@ fn leaf<'a>(
 ) -> Plan
     requires shown { Shown types.now widths.now next.now nodes.now arrows.now program.now hashes.now given.now witness.now positions.now }
     requires within { Within cells.old frames.old }
-    requires safe { Safe (termAt (programAt types.now nodes.now arrows.now program.now hashes.now given.now witness.now positions.now) i)
+    requires safe { Safe (term_at (program_at types.now nodes.now arrows.now program.now hashes.now given.now witness.now positions.now) i)
         (machine_of (bits_of cells.old) frames.old h) }
-    requires bound { 7 < (recordAt nodes.now i).kind }
-    ensures { Planned result nodes.now (programAt types.now nodes.now arrows.now
+    requires bound { 7 < (record_at nodes.now i).kind }
+    ensures { Planned result nodes.now (program_at types.now nodes.now arrows.now
         program.now hashes.now given.now witness.now positions.now) i
         (machine_of (bits_of cells.old) frames.old h) (machine_of (bits_of cells.new) frames.new h) }
 {
@@ -83,10 +83,10 @@ fn one_child<'a>(
 ) -> Plan
     requires shown { Shown types.now widths.now next.now nodes.now arrows.now program.now hashes.now given.now witness.now positions.now }
     requires within { Within cells.old frames.old }
-    requires safe { Safe (termAt (programAt types.now nodes.now arrows.now program.now hashes.now given.now witness.now positions.now) i)
+    requires safe { Safe (term_at (program_at types.now nodes.now arrows.now program.now hashes.now given.now witness.now positions.now) i)
         (machine_of (bits_of cells.old) frames.old h) }
-    requires bound { (3 < (recordAt nodes.now i).kind) × ((recordAt nodes.now i).kind ≤ 7) }
-    ensures { Planned result nodes.now (programAt types.now nodes.now arrows.now
+    requires bound { (3 < (record_at nodes.now i).kind) × ((record_at nodes.now i).kind ≤ 7) }
+    ensures { Planned result nodes.now (program_at types.now nodes.now arrows.now
         program.now hashes.now given.now witness.now positions.now) i
         (machine_of (bits_of cells.old) frames.old h) (machine_of (bits_of cells.new) frames.new h) }
 {
@@ -129,10 +129,10 @@ fn branch<'a>(
 ) -> Plan
     requires shown { Shown types.now widths.now next.now nodes.now arrows.now program.now hashes.now given.now witness.now positions.now }
     requires within { Within cells.old frames.old }
-    requires safe { Safe (termAt (programAt types.now nodes.now arrows.now program.now hashes.now given.now witness.now positions.now) i)
+    requires safe { Safe (term_at (program_at types.now nodes.now arrows.now program.now hashes.now given.now witness.now positions.now) i)
         (machine_of (bits_of cells.old) frames.old h) }
-    requires i_value { (recordAt nodes.now i).kind ≡ 1 }
-    ensures { Planned result nodes.now (programAt types.now nodes.now arrows.now
+    requires i_value { (record_at nodes.now i).kind ≡ 1 }
+    ensures { Planned result nodes.now (program_at types.now nodes.now arrows.now
         program.now hashes.now given.now witness.now positions.now) i
         (machine_of (bits_of cells.old) frames.old h) (machine_of (bits_of cells.new) frames.new h) }
 {
@@ -175,9 +175,9 @@ fn prepare<'a>(
 ) -> Plan
     requires shown { Shown types.now widths.now next.now nodes.now arrows.now program.now hashes.now given.now witness.now positions.now }
     requires within { Within cells.old frames.old }
-    requires safe { Safe (termAt (programAt types.now nodes.now arrows.now program.now hashes.now given.now witness.now positions.now) i)
+    requires safe { Safe (term_at (program_at types.now nodes.now arrows.now program.now hashes.now given.now witness.now positions.now) i)
         (machine_of (bits_of cells.old) frames.old h) }
-    ensures { Planned result nodes.now (programAt types.now nodes.now arrows.now
+    ensures { Planned result nodes.now (program_at types.now nodes.now arrows.now
         program.now hashes.now given.now witness.now positions.now) i
         (machine_of (bits_of cells.old) frames.old h) (machine_of (bits_of cells.new) frames.new h) }
 {
@@ -216,10 +216,10 @@ fn hand<'a>(
     h: Heights,
 ) -> Heights
     requires fed { Fed cells.old frames.old }
-    requires hand_ok { HandOk (bits_of (branchHash (nodesOf [] hashes.now (nodeRecords nodes.now)) given.now right)) source target
+    requires hand_ok { HandOk (bits_of (branch_hash (nodes_of [] hashes.now (node_records nodes.now)) given.now right)) source target
         (machine_of (bits_of cells.old) frames.old h) }
     ensures { machine_of (bits_of cells.new) frames.new result
-        ≡ handed (bits_of (branchHash (nodesOf [] hashes.now (nodeRecords nodes.now)) given.now right))
+        ≡ handed (bits_of (branch_hash (nodes_of [] hashes.now (node_records nodes.now)) given.now right))
         source target (machine_of (bits_of cells.old) frames.old h) }
 {
     let size = limits::HASH_BYTES as u32 * 8 + source;
@@ -242,10 +242,10 @@ fn first<'a>(
     h: Heights,
 ) -> Heights
     requires fed { Fed cells.old frames.old }
-    requires first_ok { FirstOk (around_of around (bits_of (branchHash (nodesOf [] hashes.now (nodeRecords nodes.now)) given.now right)))
+    requires first_ok { FirstOk (around_of around (bits_of (branch_hash (nodes_of [] hashes.now (node_records nodes.now)) given.now right)))
         (machine_of (bits_of cells.old) frames.old h) }
     ensures { machine_of (bits_of cells.new) frames.new result
-        ≡ first_of (around_of around (bits_of (branchHash (nodesOf [] hashes.now (nodeRecords nodes.now)) given.now right)))
+        ≡ first_of (around_of around (bits_of (branch_hash (nodes_of [] hashes.now (node_records nodes.now)) given.now right)))
         (machine_of (bits_of cells.old) frames.old h) }
 {
     match around {
@@ -282,7 +282,7 @@ fn second(around: Around, cells: &mut [u8], frames: &mut [u32], h: Heights) -> H
 // What is done after the right child.
 fn third(around: Around, frames: &mut [u32], h: Heights) -> Heights
     requires { ThirdOk (around_of around []) (machine_of [] frames.old h) }
-    ensures { (hash b : List ℕ) → machine_of b frames.new result ≡ thirdOf (around_of around hash) (machine_of b frames.old h) }
+    ensures { (hash b : List ℕ) → machine_of b frames.new result ≡ third_of (around_of around hash) (machine_of b frames.old h) }
 {
     match around {
         Around::Pairing => h,
@@ -314,9 +314,9 @@ pub(crate) fn node<'a>(
 ) -> Ran
     requires shown { Shown types.now widths.now next.now nodes.now arrows.now program.now hashes.now given.now witness.now positions.now }
     requires within { Within cells.old frames.old }
-    requires safe { Safe (termAt (programAt types.now nodes.now arrows.now program.now hashes.now given.now witness.now positions.now) i)
+    requires safe { Safe (term_at (program_at types.now nodes.now arrows.now program.now hashes.now given.now witness.now positions.now) i)
         (machine_of (bits_of cells.old) frames.old h) }
-    ensures { out_of result (bits_of cells.new) frames.new ≡ runTerm (termAt (programAt types.now
+    ensures { out_of result (bits_of cells.new) frames.new ≡ run_term (term_at (program_at types.now
         nodes.now arrows.now program.now hashes.now given.now witness.now
         positions.now) i) (machine_of (bits_of cells.old) frames.old h) }
 {
@@ -366,9 +366,9 @@ fn both<'a>(
     requires shown { Shown types.now widths.now next.now nodes.now arrows.now program.now hashes.now given.now witness.now positions.now }
     requires within { Within cells.old frames.old }
     requires two_kind { TwoKind nodes.now i }
-    requires safe { Safe (termAt (programAt types.now nodes.now arrows.now program.now hashes.now given.now witness.now positions.now) i)
+    requires safe { Safe (term_at (program_at types.now nodes.now arrows.now program.now hashes.now given.now witness.now positions.now) i)
         (machine_of (bits_of cells.old) frames.old h) }
-    ensures { out_of result (bits_of cells.new) frames.new ≡ runTerm (termAt (programAt types.now
+    ensures { out_of result (bits_of cells.new) frames.new ≡ run_term (term_at (program_at types.now
         nodes.now arrows.now program.now hashes.now given.now witness.now
         positions.now) i) (machine_of (bits_of cells.old) frames.old h) }
 {

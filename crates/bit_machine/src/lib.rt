@@ -7,8 +7,8 @@ mod run;
 mod values;
 
 ghost use Rattle.std.specs.Prelude.{◌≡◌};
-ghost use Rattle.scope.specs.Run.{leftWith};
-ghost use Rattle.scope.specs.Stages.{runStage};
+ghost use Rattle.scope.specs.Run.{left_with};
+ghost use Rattle.scope.specs.Stages.{run_stage};
 
 use ready::RunAnswer;
 use refusal::Answer;
@@ -61,8 +61,8 @@ pub fn run_stage<'a>(
     frames: &mut [u32],
     answer: &mut [u8],
 ) -> Answer
-    ensures { leftWith result cells.new frames.new answer.new
-        ≡ runStage types.now nodes.now arrows.now program.now hashes.now
+    ensures { left_with result cells.new frames.new answer.new
+        ≡ run_stage types.now nodes.now arrows.now program.now hashes.now
         given.now witness.now witness_bits
         input.now input_bits cells.old frames.old answer.old }
 {

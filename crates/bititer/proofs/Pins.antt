@@ -4,8 +4,8 @@ use mathlib.Core.List.{List}
 use Prim.Native.Nat.{ℕ, ◌+◌}
 use native.Mathlib.Omega.{arith}
 use Rattle.promise.specs.Outcomes.{OneResult, OneOutcome, ◌&◌}
-use Rattle.bititer.specs.Answers.{gotCode, gotNatural, gotBytes, Stored, stored}
-use Rattle.bititer.specs.Windows.{gotWindow}
+use Rattle.bititer.specs.Answers.{got_code, got_natural, got_bytes, Stored, stored}
+use Rattle.bititer.specs.Windows.{got_window}
 use Rattle.bititer.specs.declared.CodeRead.{CodeRead}
 use Rattle.bititer.specs.declared.WindowRead.{WindowRead}
 use Rattle.bititer.specs.declared.NaturalFault.{NaturalFault}
@@ -36,30 +36,30 @@ use Rattle.bititer.proofs.two_bits.Kinds as two-bits-kinds
 use Rattle.bititer.proofs.two_bits.Reads as two-bits-reads
 
 -- answers that say the same are the same
-same_code : (r q : CodeRead) → gotCode r ≡ gotCode q → r ≡ q
+same_code : (r q : CodeRead) → got_code r ≡ got_code q → r ≡ q
 same_code (CodeRead.Read v n) (CodeRead.Read w m) e = cc
 same_code (CodeRead.Read v n) CodeRead.Ended e = cc
 same_code CodeRead.Ended (CodeRead.Read w m) e = cc
 same_code CodeRead.Ended CodeRead.Ended e = refl
 
-same-natural : (at : ℕ) (r q : NaturalRead) → gotNatural at r ≡ gotNatural at q → r ≡ q
-same-natural at (NaturalRead.Read n a) (NaturalRead.Read m b) e =
+same_natural : (at : ℕ) (r q : NaturalRead) → got_natural at r ≡ got_natural at q → r ≡ q
+same_natural at (NaturalRead.Read n a) (NaturalRead.Read m b) e =
     let v : n ≡ m = cc in
     let next : at + a ≡ at + b = cc in
     ap₂ NaturalRead.Read v (let w : a ≡ b = omega arith in w)
-same-natural at (NaturalRead.Read n a) (NaturalRead.Fault g) e = cc
-same-natural at (NaturalRead.Fault f) (NaturalRead.Read m b) e = cc
-same-natural at (NaturalRead.Fault NaturalFault.Ended) (NaturalRead.Fault NaturalFault.Ended) e = refl
-same-natural at (NaturalRead.Fault NaturalFault.Ended) (NaturalRead.Fault NaturalFault.TooLong) e = cc
-same-natural at (NaturalRead.Fault NaturalFault.Ended) (NaturalRead.Fault NaturalFault.OverBound) e = cc
-same-natural at (NaturalRead.Fault NaturalFault.TooLong) (NaturalRead.Fault NaturalFault.Ended) e = cc
-same-natural at (NaturalRead.Fault NaturalFault.TooLong) (NaturalRead.Fault NaturalFault.TooLong) e = refl
-same-natural at (NaturalRead.Fault NaturalFault.TooLong) (NaturalRead.Fault NaturalFault.OverBound) e = cc
-same-natural at (NaturalRead.Fault NaturalFault.OverBound) (NaturalRead.Fault NaturalFault.Ended) e = cc
-same-natural at (NaturalRead.Fault NaturalFault.OverBound) (NaturalRead.Fault NaturalFault.TooLong) e = cc
-same-natural at (NaturalRead.Fault NaturalFault.OverBound) (NaturalRead.Fault NaturalFault.OverBound) e = refl
+same_natural at (NaturalRead.Read n a) (NaturalRead.Fault g) e = cc
+same_natural at (NaturalRead.Fault f) (NaturalRead.Read m b) e = cc
+same_natural at (NaturalRead.Fault NaturalFault.Ended) (NaturalRead.Fault NaturalFault.Ended) e = refl
+same_natural at (NaturalRead.Fault NaturalFault.Ended) (NaturalRead.Fault NaturalFault.TooLong) e = cc
+same_natural at (NaturalRead.Fault NaturalFault.Ended) (NaturalRead.Fault NaturalFault.OverBound) e = cc
+same_natural at (NaturalRead.Fault NaturalFault.TooLong) (NaturalRead.Fault NaturalFault.Ended) e = cc
+same_natural at (NaturalRead.Fault NaturalFault.TooLong) (NaturalRead.Fault NaturalFault.TooLong) e = refl
+same_natural at (NaturalRead.Fault NaturalFault.TooLong) (NaturalRead.Fault NaturalFault.OverBound) e = cc
+same_natural at (NaturalRead.Fault NaturalFault.OverBound) (NaturalRead.Fault NaturalFault.Ended) e = cc
+same_natural at (NaturalRead.Fault NaturalFault.OverBound) (NaturalRead.Fault NaturalFault.TooLong) e = cc
+same_natural at (NaturalRead.Fault NaturalFault.OverBound) (NaturalRead.Fault NaturalFault.OverBound) e = refl
 
-same_bytes : (r q : BytesRead) → gotBytes r ≡ gotBytes q → r ≡ q
+same_bytes : (r q : BytesRead) → got_bytes r ≡ got_bytes q → r ≡ q
 same_bytes (BytesRead.Read n) (BytesRead.Read m) e = cc
 same_bytes (BytesRead.Read n) (BytesRead.Fault g) e = cc
 same_bytes (BytesRead.Fault f) (BytesRead.Read m) e = cc
@@ -68,44 +68,44 @@ same_bytes (BytesRead.Fault BytesFault.Ended) (BytesRead.Fault BytesFault.NoRoom
 same_bytes (BytesRead.Fault BytesFault.NoRoom) (BytesRead.Fault BytesFault.Ended) e = cc
 same_bytes (BytesRead.Fault BytesFault.NoRoom) (BytesRead.Fault BytesFault.NoRoom) e = refl
 
-same-stored : (r q : BytesRead) (l m : List ℕ) → stored (gotBytes r) l ≡ stored (gotBytes q) m → (r ≡ q) × (l ≡ m)
-same-stored r q l m e = (same_bytes r q (ap (λ (x : Stored). x.says) e), ap (λ (x : Stored). x.store) e)
+same_stored : (r q : BytesRead) (l m : List ℕ) → stored (got_bytes r) l ≡ stored (got_bytes q) m → (r ≡ q) × (l ≡ m)
+same_stored r q l m e = (same_bytes r q (ap (λ (x : Stored). x.says) e), ap (λ (x : Stored). x.store) e)
 
-same-window : (at : ℕ) (r q : WindowRead) → gotWindow at r ≡ gotWindow at q → r ≡ q
-same-window at (WindowRead.Read v) (WindowRead.Read w) e = cc
-same-window at (WindowRead.Read v) WindowRead.Ended e = cc
-same-window at WindowRead.Ended (WindowRead.Read w) e = cc
-same-window at WindowRead.Ended WindowRead.Ended e = refl
+same_window : (at : ℕ) (r q : WindowRead) → got_window at r ≡ got_window at q → r ≡ q
+same_window at (WindowRead.Read v) (WindowRead.Read w) e = cc
+same_window at (WindowRead.Read v) WindowRead.Ended e = cc
+same_window at WindowRead.Ended (WindowRead.Read w) e = cc
+same_window at WindowRead.Ended WindowRead.Ended e = refl
 
 pub bit : OneResult 1 bit-kinds.ps bit-kinds.r bit-reads.Post
 bit κs a s t x y p q = same_code s t (p ∙ sym q)
 
-pub two-bits : OneResult 1 two-bits-kinds.ps two-bits-kinds.r two-bits-reads.Post
-two-bits κs a s t x y p q = same_code s t (p ∙ sym q)
+pub two_bits : OneResult 1 two-bits-kinds.ps two-bits-kinds.r two-bits-reads.Post
+two_bits κs a s t x y p q = same_code s t (p ∙ sym q)
 
 pub natural : OneResult 1 natural-kinds.ps natural-kinds.r natural-reads.Post
-natural κs a s t x y p q = same-natural _ s t (p ∙ sym q)
+natural κs a s t x y p q = same_natural _ s t (p ∙ sym q)
 
-pub natural-by-lengths : OneResult 1 natural-by-lengths-kinds.ps natural-by-lengths-kinds.r natural-by-lengths-reads.Post
-natural-by-lengths κs a s t x y p q = same-natural _ s t (p ∙ sym q)
+pub natural_by_lengths : OneResult 1 natural-by-lengths-kinds.ps natural-by-lengths-kinds.r natural-by-lengths-reads.Post
+natural_by_lengths κs a s t x y p q = same_natural _ s t (p ∙ sym q)
 
-pub natural-table : OneResult 0 natural-table-kinds.ps natural-table-kinds.r natural-table-reads.Post
-natural-table κs a s t x y p q = p ∙ sym q
+pub natural_table : OneResult 0 natural-table-kinds.ps natural-table-kinds.r natural-table-reads.Post
+natural_table κs a s t x y p q = p ∙ sym q
 
 pub window : OneResult 1 window-kinds.ps window-kinds.r window-reads.Post
-window κs a s t x y p q = same-window _ s t (p ∙ sym q)
+window κs a s t x y p q = same_window _ s t (p ∙ sym q)
 
-pub after_one : OneResult 0 after-one-kinds.ps after-one-kinds.r after-one-reads.Post
-after_one κs a s t x y p q = p ∙ sym q
+pub after_one_lem : OneResult 0 after-one-kinds.ps after-one-kinds.r after-one-reads.Post
+after_one_lem κs a s t x y p q = p ∙ sym q
 
-pub natural-refusal : OneResult 0 natural-refusal-kinds.ps natural-refusal-kinds.r natural-refusal-reads.Post
-natural-refusal κs a s t x y p q = p ∙ sym q
+pub natural_refusal : OneResult 0 natural-refusal-kinds.ps natural-refusal-kinds.r natural-refusal-reads.Post
+natural_refusal κs a s t x y p q = p ∙ sym q
 
-pub hash-bytes : OneOutcome 2 hash-bytes-kinds.ps hash-bytes-kinds.r hash-bytes-reads.Post
-hash-bytes κs a s t v w p q = let e = same-stored s t v.1.1.0 w.1.1.0 (p ∙ sym q) in (e.0, λ i. tt & tt & e.1 i & tt & tt)
+pub hash_bytes_lem : OneOutcome 2 hash-bytes-kinds.ps hash-bytes-kinds.r hash-bytes-reads.Post
+hash_bytes_lem κs a s t v w p q = let e = same_stored s t v.1.1.0 w.1.1.0 (p ∙ sym q) in (e.0, λ i. tt & tt & e.1 i & tt & tt)
 
-pub fail-bytes : OneOutcome 2 fail-bytes-kinds.ps fail-bytes-kinds.r fail-bytes-reads.Post
-fail-bytes κs a s t v w p q = let e = same-stored s t v.1.1.0 w.1.1.0 (p ∙ sym q) in (e.0, λ i. tt & tt & e.1 i & tt & tt)
+pub fail_bytes_lem : OneOutcome 2 fail-bytes-kinds.ps fail-bytes-kinds.r fail-bytes-reads.Post
+fail_bytes_lem κs a s t v w p q = let e = same_stored s t v.1.1.0 w.1.1.0 (p ∙ sym q) in (e.0, λ i. tt & tt & e.1 i & tt & tt)
 
 pub closes : OneResult 1 closes-kinds.ps closes-kinds.r closes-reads.Post
 closes κs a s t x y p q = p ∙ sym q

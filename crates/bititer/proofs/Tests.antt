@@ -25,11 +25,11 @@ agree true b = b
 agree false true = false
 agree false false = true
 
-pub agree-eq : (a b : Bool) → T (agree a b) → a ≡ b
-agree-eq true true t = refl
-agree-eq true false t = absurd t
-agree-eq false true t = absurd t
-agree-eq false false t = refl
+pub agree_eq : (a b : Bool) → T (agree a b) → a ≡ b
+agree_eq true true t = refl
+agree_eq true false t = absurd t
+agree_eq false true t = absurd t
+agree_eq false false t = refl
 
 -- the test holds of every number below n
 abbrev pub below : (ℕ → Bool) → ℕ → Bool

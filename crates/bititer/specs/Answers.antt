@@ -1,38 +1,38 @@
 -- What each answer says, in the words of the requirements' readers: one line for each of its cases.
 -- And what reading whole bytes into a lent store leaves: what was said, and the store.
 use Rattle.std.specs.Prelude.{true, false, List, ◌++◌, ℕ, ◌+◌, leb, length, take, drop}
-use Rattle.scope.specs.Reading.{Got, got, fault, Fault, streamEnded, lengthTooLong, overBound, hashesShort}
+use Rattle.scope.specs.Reading.{Got, got, fault, Fault, stream_ended, length_too_long, over_bound, hashes_short}
 use Rattle.bititer.specs.declared.CodeRead.{CodeRead}
 use Rattle.bititer.specs.declared.NaturalFault.{NaturalFault}
 use Rattle.bititer.specs.declared.NaturalRead.{NaturalRead}
 use Rattle.bititer.specs.declared.BytesFault.{BytesFault}
 use Rattle.bititer.specs.declared.BytesRead.{BytesRead}
 
-abbrev pub gotCode : CodeRead → Got ℕ
-gotCode (CodeRead.Read value next) = got value next
-gotCode CodeRead.Ended = fault streamEnded
+abbrev pub got_code : CodeRead → Got ℕ
+got_code (CodeRead.Read value next) = got value next
+got_code CodeRead.Ended = fault stream_ended
 
-abbrev pub naturalFault : NaturalFault → Fault
-naturalFault NaturalFault.Ended = streamEnded
-naturalFault NaturalFault.TooLong = lengthTooLong
-naturalFault NaturalFault.OverBound = overBound
+abbrev pub natural_fault : NaturalFault → Fault
+natural_fault NaturalFault.Ended = stream_ended
+natural_fault NaturalFault.TooLong = length_too_long
+natural_fault NaturalFault.OverBound = over_bound
 
 -- a natural that was read at a position
-abbrev pub gotNatural : (at : ℕ) → NaturalRead → Got ℕ
-gotNatural at (NaturalRead.Read n bits) = got n (at + bits)
-gotNatural at (NaturalRead.Fault f) = fault (naturalFault f)
+abbrev pub got_natural : (at : ℕ) → NaturalRead → Got ℕ
+got_natural at (NaturalRead.Read n bits) = got n (at + bits)
+got_natural at (NaturalRead.Fault f) = fault (natural_fault f)
 
 -- a number that was read, unless it is over its bound
 abbrev pub at_most : (bound n next : ℕ) → Got ℕ
-at_most bound n next = elim (leb n bound) [ true ↦ got n next | false ↦ fault overBound ]
+at_most bound n next = elim (leb n bound) [ true ↦ got n next | false ↦ fault over_bound ]
 
-abbrev pub bytesFault : BytesFault → Fault
-bytesFault BytesFault.Ended = streamEnded
-bytesFault BytesFault.NoRoom = hashesShort
+abbrev pub bytes_fault : BytesFault → Fault
+bytes_fault BytesFault.Ended = stream_ended
+bytes_fault BytesFault.NoRoom = hashes_short
 
-abbrev pub gotBytes : BytesRead → Got (Unit {0})
-gotBytes (BytesRead.Read next) = got tt next
-gotBytes (BytesRead.Fault f) = fault (bytesFault f)
+abbrev pub got_bytes : BytesRead → Got (Unit {0})
+got_bytes (BytesRead.Read next) = got tt next
+got_bytes (BytesRead.Fault f) = fault (bytes_fault f)
 
 -- what was said, and the store as it is left
 pub record Stored : Type 0 where
@@ -50,6 +50,6 @@ placed store at bytes = take at store ++ (bytes ++ drop (at + length bytes) stor
 unfoldable pub storing : Got (List ℕ) → (store : List ℕ) → (at : ℕ) → Stored
 storing (got bytes next) store at = elim (leb (at + length bytes) (length store)) [
   | true ↦ stored (got tt next) (placed store at bytes)
-  | false ↦ stored (fault hashesShort) store
+  | false ↦ stored (fault hashes_short) store
 ]
 storing (fault e) store at = stored (fault e) store

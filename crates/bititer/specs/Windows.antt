@@ -1,44 +1,44 @@
 -- A window is the 25 bits from a position on, as one number: four bytes hold them wherever in its byte the position stands.
 -- What is cut out of a window, the natural that it begins with, and the table of the naturals that stand whole in a byte.
 use Rattle.std.specs.Prelude.{◌≡◌, true, false, List, ℕ, ◌+◌, ◌-◌, ◌*◌, ◌/◌, ◌%◌, ◌^◌, ◌≤◌, leb, length, take, drop}
-use Rattle.report.specs.Bits.{Bit, byteBits, numberFrom}
-use Rattle.scope.specs.Naturals.{Natural, natural, ended, tooLong, readNatural}
+use Rattle.report.specs.Bits.{Bit, byte_bits, number_from}
+use Rattle.scope.specs.Naturals.{Natural, natural, ended, too_long, read_natural}
 use Rattle.scope.specs.Numbers.{tabulate}
-use Rattle.scope.specs.Reading.{Got, got, fault, streamEnded}
+use Rattle.scope.specs.Reading.{Got, got, fault, stream_ended}
 use Rattle.common.specs.Bits.{AreBits}
 use Rattle.bititer.specs.declared.WindowRead.{WindowRead}
 use Rattle.bititer.specs.declared.Begins.{Begins}
 
-abbrev pub windowBits : ℕ
-windowBits = 25
+abbrev pub window_bits : ℕ
+window_bits = 25
 
 -- a window that was read at a position
-abbrev pub gotWindow : (at : ℕ) → WindowRead → Got ℕ
-gotWindow at (WindowRead.Read w) = got w (at + windowBits)
-gotWindow at WindowRead.Ended = fault streamEnded
+abbrev pub got_window : (at : ℕ) → WindowRead → Got ℕ
+got_window at (WindowRead.Read w) = got w (at + window_bits)
+got_window at WindowRead.Ended = fault stream_ended
 
 -- these bits begin with a window of this number
 abbrev pub Window : List Bit → (w : ℕ) → Type 0
-Window l w = AreBits l × (windowBits ≤ length l) × (w ≡ numberFrom 0 (take windowBits l))
+Window l w = AreBits l × (window_bits ≤ length l) × (w ≡ number_from 0 (take window_bits l))
 
 -- the number that is 1 followed by `count` bits of a window from its bit `at` on; 0 where the window has not so many
-unfoldable pub afterOne : (w at count : ℕ) → ℕ
-afterOne w at count = elim (leb (at + count) windowBits) [
-  | true ↦ 2 ^ count + w / 2 ^ (windowBits - (at + count)) % 2 ^ count
+unfoldable pub after_one : (w at count : ℕ) → ℕ
+after_one w at count = elim (leb (at + count) window_bits) [
+  | true ↦ 2 ^ count + w / 2 ^ (window_bits - (at + count)) % 2 ^ count
   | false ↦ 0
 ]
 
 -- the natural that bits begin with, and how many of them it takes
 abbrev pub BeginsWith : List Bit → Begins → Type 0
-BeginsWith l (Begins.Natural n bits) = (readNatural l ≡ natural n (drop bits l)) × (bits ≤ windowBits)
+BeginsWith l (Begins.Natural n bits) = (read_natural l ≡ natural n (drop bits l)) × (bits ≤ window_bits)
 BeginsWith l Begins.Longer = Unit {0}
 
 -- a byte's entry: sixteen times the natural that stands in its leading bits, and the bits that it takes; 0 where no whole one stands there
 unfoldable pub entry_of : Natural → ℕ
 entry_of (natural n rest) = 16 * n + (8 - length rest)
 entry_of ended = 0
-entry_of tooLong = 0
+entry_of too_long = 0
 
-unfoldable pub naturalEntries : List ℕ
-unfolding tabulate entry_of readNatural
-naturalEntries = tabulate 256 (λ b. entry_of (readNatural (byteBits b)))
+unfoldable pub natural_entries : List ℕ
+unfolding tabulate entry_of read_natural
+natural_entries = tabulate 256 (λ b. entry_of (read_natural (byte_bits b)))

@@ -1,16 +1,16 @@
 // Reading a lent byte slice at a bit position: a bit, two bits, a natural, 32 and 64 whole bytes, and whether the slice closes there. A
 // reader takes the position by value and answers with the next one; a natural's answers with the bits that it took. The bits of a slice are
-// `streamOf` of the requirements: from the top bit of each byte on, and none at all above the dossier's limit, so that no position wraps.
+// `stream_of` of the requirements: from the top bit of each byte on, and none at all above the dossier's limit, so that no position wraps.
 // Most naturals are read from a window, the 25 bits that any four bytes hold from a position on.
 ghost use Rattle.std.specs.Prelude.{◌≡◌, List, ℕ, ◌+◌, ◌*◌, ◌<◌, ◌≤◌, leb, length, take, drop};
-ghost use Rattle.limits.specs.Limits.{naturalLength, hashBytes, failBytes};
-ghost use Rattle.report.specs.Bits.{Bit, bits_of, numberFrom};
-ghost use Rattle.scope.specs.Numbers.{streamOf};
-ghost use Rattle.scope.specs.Reading.{refusalAt, code, naturalUpTo, octets};
+ghost use Rattle.limits.specs.Limits.{natural_length, hash_bytes, fail_bytes};
+ghost use Rattle.report.specs.Bits.{Bit, bits_of, number_from};
+ghost use Rattle.scope.specs.Numbers.{stream_of};
+ghost use Rattle.scope.specs.Reading.{refusal_at, code, natural_up_to, octets};
 ghost use Rattle.scope.specs.Closing.{closes};
-ghost use Rattle.bititer.specs.Answers.{gotCode, naturalFault, gotNatural, at_most, gotBytes, stored, storing};
+ghost use Rattle.bititer.specs.Answers.{got_code, natural_fault, got_natural, at_most, got_bytes, stored, storing};
 ghost use Rattle.bititer.specs.Parts.{OnesMean, BitsMean};
-ghost use Rattle.bititer.specs.Windows.{windowBits, gotWindow, Window, afterOne, naturalEntries, BeginsWith};
+ghost use Rattle.bititer.specs.Windows.{window_bits, got_window, Window, after_one, natural_entries, BeginsWith};
 
 use refusal::Refusal;
 
@@ -99,7 +99,7 @@ const NATURALS: [u8; 256] = [
 
 // How many bits the slice's stream has.
 fn stream_length(s: &[u8]) -> usize
-    ensures { result ≡ length (streamOf s.now) }
+    ensures { result ≡ length (stream_of s.now) }
 {
     if limits::DOSSIER_BYTES < s.len() {
         return 0;
@@ -109,7 +109,7 @@ fn stream_length(s: &[u8]) -> usize
 
 // The bit at p.
 pub fn bit(s: &[u8], p: usize) -> CodeRead
-    ensures { gotCode result ≡ code (streamOf s.now) 1 p }
+    ensures { got_code result ≡ code (stream_of s.now) 1 p }
 {
     if stream_length(s) <= p {
         return CodeRead::Ended;
@@ -121,7 +121,7 @@ pub fn bit(s: &[u8], p: usize) -> CodeRead
 
 // The two bits from p on, as a number.
 pub fn two_bits(s: &[u8], p: usize) -> CodeRead
-    ensures { gotCode result ≡ code (streamOf s.now) 2 p }
+    ensures { got_code result ≡ code (stream_of s.now) 2 p }
 {
     let CodeRead::Read(high, middle) = bit(s, p) else {
         return CodeRead::Ended;
@@ -134,7 +134,7 @@ pub fn two_bits(s: &[u8], p: usize) -> CodeRead
 
 // How many ones stand from p on, and the position after the zero that ends them.
 fn ones(s: &[u8], p: usize) -> Part
-    ensures { OnesMean (streamOf s.now) p result }
+    ensures { OnesMean (stream_of s.now) p result }
 {
     let mut at = p;
     let mut count: u32 = 0;
@@ -152,8 +152,8 @@ fn ones(s: &[u8], p: usize) -> Part
 
 // The number that is 1 followed by the next `count` bits.
 fn bits_after_one(s: &[u8], p: usize, count: u32) -> Part
-    requires { count ≤ naturalLength }
-    ensures { BitsMean (streamOf s.now) p count result }
+    requires { count ≤ natural_length }
+    ensures { BitsMean (stream_of s.now) p count result }
 {
     let mut at = p;
     let mut n: u32 = 1;
@@ -171,7 +171,7 @@ fn bits_after_one(s: &[u8], p: usize, count: u32) -> Part
 
 // A natural that was read with so many bits, unless it is over its bound.
 fn within(n: u32, bits: usize, bound: u32) -> NaturalRead
-    ensures { (p : ℕ) → gotNatural p result ≡ at_most bound n (p + bits) }
+    ensures { (p : ℕ) → got_natural p result ≡ at_most bound n (p + bits) }
 {
     if n <= bound {
         NaturalRead::Read(n, bits)
@@ -182,7 +182,7 @@ fn within(n: u32, bits: usize, bound: u32) -> NaturalRead
 
 // The natural from p on, which is at most `bound`, length by length. A length is refused before its bits are asked for.
 pub fn natural_by_lengths(s: &[u8], p: usize, bound: u32) -> NaturalRead
-    ensures { gotNatural p result ≡ naturalUpTo (streamOf s.now) bound p }
+    ensures { got_natural p result ≡ natural_up_to (stream_of s.now) bound p }
 {
     let Part::Number(count, first) = ones(s, p) else {
         return NaturalRead::Fault(NaturalFault::Ended);
@@ -207,14 +207,14 @@ pub fn natural_by_lengths(s: &[u8], p: usize, bound: u32) -> NaturalRead
 
 // The table of naturals that stand whole in a byte.
 pub fn natural_table() -> [u8; 256]
-    ensures { result ≡ naturalEntries }
+    ensures { result ≡ natural_entries }
 {
     NATURALS
 }
 
 // The 25 bits from p on, as a number.
 pub fn window(s: &[u8], p: usize) -> WindowRead
-    ensures { gotWindow p result ≡ code (streamOf s.now) windowBits p }
+    ensures { got_window p result ≡ code (stream_of s.now) window_bits p }
 {
     let i = p / 8;
     let all = s.len();
@@ -229,7 +229,7 @@ pub fn window(s: &[u8], p: usize) -> WindowRead
 
 // The number that is 1 followed by `count` bits of a window from its bit `at` on; 0 where the window has not so many.
 pub fn after_one(w: u32, at: u32, count: u32) -> u32
-    ensures { result ≡ afterOne w at count }
+    ensures { result ≡ after_one w at count }
 {
     if WINDOW_BITS < count {
         return 0;
@@ -264,7 +264,7 @@ fn natural_in(w: u32) -> Begins
 
 // The natural from p on, which is at most `bound`: from a window, or else length by length.
 pub fn natural(s: &[u8], p: usize, bound: u32) -> NaturalRead
-    ensures { gotNatural p result ≡ naturalUpTo (streamOf s.now) bound p }
+    ensures { got_natural p result ≡ natural_up_to (stream_of s.now) bound p }
 {
     let WindowRead::Read(w) = window(s, p) else {
         return natural_by_lengths(s, p, bound);
@@ -277,7 +277,7 @@ pub fn natural(s: &[u8], p: usize, bound: u32) -> NaturalRead
 
 // Why a natural of node i is refused.
 pub fn natural_refusal(why: NaturalFault, i: u32) -> Refusal
-    ensures { result ≡ refusalAt i (naturalFault why) }
+    ensures { result ≡ refusal_at i (natural_fault why) }
 {
     match why {
         NaturalFault::Ended => Refusal::StreamEnded(i),
@@ -299,7 +299,7 @@ fn has_room(all: usize, at: usize, n: usize) -> bool
 // The byte whose top bit is bit k of byte i: what is left of that byte, and the beginning of the next.
 fn byte_from(s: &[u8], i: usize, k: usize) -> u8
     requires { (k < 8) × (8 * i + k + 8 ≤ 8 * length s.now) }
-    ensures { result ≡ numberFrom 0 (take 8 (drop (8 * i + k) (bits_of s.now))) }
+    ensures { result ≡ number_from 0 (take 8 (drop (8 * i + k) (bits_of s.now))) }
 {
     if k == 0 {
         return s[i];
@@ -309,8 +309,8 @@ fn byte_from(s: &[u8], i: usize, k: usize) -> u8
 
 // n bytes from p on, into the store from the index `at` on.
 fn bytes(s: &[u8], p: usize, store: &mut [u8], at: usize, n: usize) -> BytesRead
-    requires { n ≤ failBytes }
-    ensures { stored (gotBytes result) store.new ≡ storing (octets (streamOf s.now) n p) store.old at }
+    requires { n ≤ fail_bytes }
+    ensures { stored (got_bytes result) store.new ≡ storing (octets (stream_of s.now) n p) store.old at }
 {
     if !has_room(stream_length(s), p, 8 * n) {
         return BytesRead::Fault(BytesFault::Ended);
@@ -331,21 +331,21 @@ fn bytes(s: &[u8], p: usize, store: &mut [u8], at: usize, n: usize) -> BytesRead
 
 // The 32 bytes of a hash.
 pub fn hash_bytes(s: &[u8], p: usize, store: &mut [u8], at: usize) -> BytesRead
-    ensures { stored (gotBytes result) store.new ≡ storing (octets (streamOf s.now) hashBytes p) store.old at }
+    ensures { stored (got_bytes result) store.new ≡ storing (octets (stream_of s.now) hash_bytes p) store.old at }
 {
     bytes(s, p, store, at, limits::HASH_BYTES)
 }
 
 // The 64 bytes of a fail node.
 pub fn fail_bytes(s: &[u8], p: usize, store: &mut [u8], at: usize) -> BytesRead
-    ensures { stored (gotBytes result) store.new ≡ storing (octets (streamOf s.now) failBytes p) store.old at }
+    ensures { stored (got_bytes result) store.new ≡ storing (octets (stream_of s.now) fail_bytes p) store.old at }
 {
     bytes(s, p, store, at, limits::FAIL_BYTES)
 }
 
 // Whether the stream ends at p, but for fewer than eight zeros.
 pub fn closes(s: &[u8], p: usize) -> bool
-    ensures { result ≡ closes (streamOf s.now) p }
+    ensures { result ≡ closes (stream_of s.now) p }
 {
     let all = stream_length(s);
     if all < p {

@@ -8,13 +8,13 @@ use Rattle.report.specs.Values.{Cells}
 use Rattle.scope.specs.Numbers.{tabulate}
 use Rattle.scope.specs.Run.{cells_of, packed}
 use Rattle.common.specs.Tables.{tabulated}
-use Rattle.common.specs.Bits.{length-bits}
+use Rattle.common.specs.Bits.{length_bits}
 use Rattle.bititer.proofs.Bits.{Bytes, packing}
 
-pub cells-tabulated : (s : List ℕ) → bits_of s ≡ tabulate (8 * length s) (cells_of s)
+pub cells_tabulated : (s : List ℕ) → bits_of s ≡ tabulate (8 * length s) (cells_of s)
 unfolding cells_of
-cells-tabulated s = tabulated (cells_of s) 0 (bits_of s) (λ j k. refl) ∙ ap (λ (n : ℕ). tabulate n (cells_of s)) (length-bits s)
+cells_tabulated s = tabulated (cells_of s) 0 (bits_of s) (λ j k. refl) ∙ ap (λ (n : ℕ). tabulate n (cells_of s)) (length_bits s)
 
-pub cells-packed : (s : List ℕ) (c : Cells) → Bytes s → bits_of s ≡ tabulate (8 * length s) c → s ≡ packed (length s) c
+pub cells_packed : (s : List ℕ) (c : Cells) → Bytes s → bits_of s ≡ tabulate (8 * length s) c → s ≡ packed (length s) c
 unfolding packed
-cells-packed s c h e = sym (packing s h) ∙ ap (bytes_of (length s)) e
+cells_packed s c h e = sym (packing s h) ∙ ap (bytes_of (length s)) e

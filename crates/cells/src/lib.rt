@@ -4,9 +4,9 @@
 // is over the list of bits; bytes are told by their bits (bititer's law bits-tell).
 ghost use Rattle.std.specs.Prelude.{◌≡◌, ◌+◌, ◌-◌, ◌*◌, ◌%◌, ◌^◌, ◌<◌, ◌≤◌, length, get_or, set};
 ghost use Rattle.std.proofs.lemmas.List.Edits.{sets};
-ghost use Rattle.report.specs.Bits.{byteBits, bits_of, numberFrom};
+ghost use Rattle.report.specs.Bits.{byte_bits, bits_of, number_from};
 ghost use Rattle.scope.specs.Numbers.{zeros};
-ghost use Rattle.common.specs.Cells.{copyBits, bitsFrom};
+ghost use Rattle.common.specs.Cells.{copy_bits, bits_from};
 
 // From so many cells on all whole bytes are moved at once; fewer cost less eight by eight.
 const LEAST_RUN: usize = 32;
@@ -14,7 +14,7 @@ const LEAST_RUN: usize = 32;
 // The byte x with its bit k, from the top, set to b.
 fn with_bit(x: u8, k: usize, b: u8) -> u8
     requires { (k < 8) × (b < 2) }
-    ensures { byteBits result ≡ set (byteBits x) k b }
+    ensures { byte_bits result ≡ set (byte_bits x) k b }
 {
     let place = 7 - k;
     let unit = 1u8 << place;
@@ -47,7 +47,7 @@ fn put_cell(cells: &mut [u8], p: usize, b: u8)
 
 // The eight cells from p on, as a byte.
 fn eight_at(cells: &[u8], p: usize) -> u8
-    ensures { byteBits result ≡ bitsFrom (bits_of cells.now) p 8 }
+    ensures { byte_bits result ≡ bits_from (bits_of cells.now) p 8 }
 {
     let i = p / 8;
     let k = p % 8;
@@ -60,7 +60,7 @@ fn eight_at(cells: &[u8], p: usize) -> u8
 
 // The byte at i set to x.
 fn put_byte(cells: &mut [u8], i: usize, x: u8)
-    ensures { bits_of cells.new ≡ sets (bits_of cells.old) (8 * i) (byteBits x) }
+    ensures { bits_of cells.new ≡ sets (bits_of cells.old) (8 * i) (byte_bits x) }
 {
     if i < cells.len() {
         cells[i] = x;
@@ -70,7 +70,7 @@ fn put_byte(cells: &mut [u8], i: usize, x: u8)
 // k bytes from byte a on, copied one after the other to byte b on.
 fn copy_bytes(cells: &mut [u8], a: usize, b: usize, k: usize)
     requires { (a + k ≤ length cells.old) × (b + k ≤ length cells.old) }
-    ensures { bits_of cells.new ≡ copyBits (bits_of cells.old) (8 * a) (8 * b) (8 * k) }
+    ensures { bits_of cells.new ≡ copy_bits (bits_of cells.old) (8 * a) (8 * b) (8 * k) }
 {
     let mut i: usize = 0;
     while i < k {
@@ -94,7 +94,7 @@ fn zero_bytes(cells: &mut [u8], b: usize, k: usize)
 // k bytes of a source from byte a on, put into the cells from byte b on.
 fn put_bytes(source: &[u8], a: usize, k: usize, cells: &mut [u8], b: usize)
     requires { (a + k ≤ length source.now) × (b + k ≤ length cells.old) }
-    ensures { bits_of cells.new ≡ sets (bits_of cells.old) (8 * b) (bitsFrom (bits_of source.now) (8 * a) (8 * k)) }
+    ensures { bits_of cells.new ≡ sets (bits_of cells.old) (8 * b) (bits_from (bits_of source.now) (8 * a) (8 * k)) }
 {
     let mut put: usize = 0;
     while put < k {
@@ -108,7 +108,7 @@ fn put_bytes(source: &[u8], a: usize, k: usize, cells: &mut [u8], b: usize)
 fn copy_front(cells: &mut [u8], from: usize, to: usize, n: usize) -> usize
     requires { (from < 2 ^ 32) × (to < 2 ^ 32) × (n < 2 ^ 32) }
     ensures { (result ≤ n)
-        × (copyBits (bits_of cells.old) from to n ≡ copyBits (bits_of cells.new) (from + result) (to + result) (n - result)) }
+        × (copy_bits (bits_of cells.old) from to n ≡ copy_bits (bits_of cells.new) (from + result) (to + result) (n - result)) }
 {
     if n < LEAST_RUN
         || from % 8 != to % 8
@@ -155,8 +155,8 @@ fn zero_front(cells: &mut [u8], at: usize, n: usize) -> usize
 // end, or are few.
 fn put_front(source: &[u8], p: usize, n: usize, cells: &mut [u8], at: usize) -> usize
     requires { (p < 2 ^ 32) × (n < 2 ^ 32) × (at < 2 ^ 32) }
-    ensures { (result ≤ n) × (sets (bits_of cells.old) at (bitsFrom (bits_of source.now) p n)
-        ≡ sets (bits_of cells.new) (at + result) (bitsFrom (bits_of source.now) (p + result) (n - result))) }
+    ensures { (result ≤ n) × (sets (bits_of cells.old) at (bits_from (bits_of source.now) p n)
+        ≡ sets (bits_of cells.new) (at + result) (bits_from (bits_of source.now) (p + result) (n - result))) }
 {
     if n < LEAST_RUN
         || p % 8 != at % 8
@@ -182,7 +182,7 @@ fn put_front(source: &[u8], p: usize, n: usize, cells: &mut [u8], at: usize) -> 
 fn copy_step(cells: &mut [u8], from: usize, to: usize, n: u32) -> u32
     requires { 0 < n }
     ensures { (0 < result) × (result ≤ n)
-        × (copyBits (bits_of cells.old) from to n ≡ copyBits (bits_of cells.new) (from + result) (to + result) (n - result)) }
+        × (copy_bits (bits_of cells.old) from to n ≡ copy_bits (bits_of cells.new) (from + result) (to + result) (n - result)) }
 {
     if 8 <= n && to % 8 == 0 && (to <= from || 8 <= to - from) {
         let x = eight_at(cells, from);
@@ -210,8 +210,8 @@ fn zero_step(cells: &mut [u8], at: usize, n: u32) -> u32
 // The first of n bits of a source from bit p on put into the cells, eight at once where they fill a byte; how many they are.
 fn put_step(source: &[u8], p: usize, n: u32, cells: &mut [u8], at: usize) -> u32
     requires { 0 < n }
-    ensures { (0 < result) × (result ≤ n) × (sets (bits_of cells.old) at (bitsFrom (bits_of source.now) p n)
-        ≡ sets (bits_of cells.new) (at + result) (bitsFrom (bits_of source.now) (p + result) (n - result))) }
+    ensures { (0 < result) × (result ≤ n) × (sets (bits_of cells.old) at (bits_from (bits_of source.now) p n)
+        ≡ sets (bits_of cells.new) (at + result) (bits_from (bits_of source.now) (p + result) (n - result))) }
 {
     if 8 <= n && at % 8 == 0 {
         let x = eight_at(source, p);
@@ -232,7 +232,7 @@ pub fn read_cell(cells: &[u8], p: u32) -> u8
 
 // The eight cells from p on, as a byte whose top bit is the first of them; 0 past the end.
 pub fn read_eight(cells: &[u8], p: usize) -> u8
-    ensures { result ≡ numberFrom 0 (bitsFrom (bits_of cells.now) p 8) }
+    ensures { result ≡ number_from 0 (bits_from (bits_of cells.now) p 8) }
 {
     eight_at(cells, p)
 }
@@ -246,7 +246,7 @@ pub fn write_cell(cells: &mut [u8], p: u32, b: u8)
 
 // n cells from `from` on copied to `to` on, one after the other.
 pub fn copy_cells(cells: &mut [u8], from: u32, to: u32, n: u32)
-    ensures { bits_of cells.new ≡ copyBits (bits_of cells.old) from to n }
+    ensures { bits_of cells.new ≡ copy_bits (bits_of cells.old) from to n }
 {
     let mut i = copy_front(cells, from as usize, to as usize, n as usize) as u32;
     while i < n {
@@ -271,7 +271,7 @@ pub fn zero_cells(cells: &mut [u8], at: u32, n: u32)
 
 // n bits of a source from bit p on, put into the cells from `at` on; a bit past the source's end is 0.
 pub fn put_bits(source: &[u8], p: u32, n: u32, cells: &mut [u8], at: u32)
-    ensures { bits_of cells.new ≡ sets (bits_of cells.old) at (bitsFrom (bits_of source.now) p n) }
+    ensures { bits_of cells.new ≡ sets (bits_of cells.old) at (bits_from (bits_of source.now) p n) }
 {
     let mut put = put_front(source, p as usize, n as usize, cells, at as usize) as u32;
     while put < n {

@@ -2,7 +2,7 @@
 use mathlib.Core.Path.{sym, ◌∙◌}
 use Rattle.promise.specs.Outcomes.{OneResult, OneSeen, OneOutcome, ◌&◌}
 use Rattle.promise.specs.Parts.{part_of}
-use Rattle.common.specs.Answers.{check-tells}
+use Rattle.common.specs.Answers.{check_tells}
 use Rattle.common.proofs.answer_of.Kinds as answer-of-kinds
 use Rattle.common.proofs.answer_of.Reads as answer-of-reads
 use Rattle.common.proofs.entry_at.Kinds as entry-at-kinds
@@ -36,14 +36,14 @@ use Rattle.common.proofs.clear_numbers.Reads as clear-numbers-reads
 use Rattle.common.proofs.clear_bytes.Kinds as clear-bytes-kinds
 use Rattle.common.proofs.clear_bytes.Reads as clear-bytes-reads
 
-pub first-refusal : OneResult 0 first-refusal-kinds.ps first-refusal-kinds.r first-refusal-reads.Post
-first-refusal κs a s t x y p q = check-tells s t (p ∙ sym q)
+pub first_refusal : OneResult 0 first-refusal-kinds.ps first-refusal-kinds.r first-refusal-reads.Post
+first_refusal κs a s t x y p q = check_tells s t (p ∙ sym q)
 
-pub check-count : OneResult 0 check-count-kinds.ps check-count-kinds.r check-count-reads.Post
-check-count κs a s t x y p q = check-tells s t (p ∙ sym q)
+pub check_count : OneResult 0 check-count-kinds.ps check-count-kinds.r check-count-reads.Post
+check_count κs a s t x y p q = check_tells s t (p ∙ sym q)
 
-pub answer-of : OneResult 0 answer-of-kinds.ps answer-of-kinds.r answer-of-reads.Post
-answer-of κs a s t x y p q = p ∙ sym q
+pub answer_of_lem : OneResult 0 answer-of-kinds.ps answer-of-kinds.r answer-of-reads.Post
+answer_of_lem κs a s t x y p q = p ∙ sym q
 
 pub index : OneResult 0 index-kinds.ps index-kinds.r index_Reads.Post
 index κs a s t x y p q = p.0 ∙ sym q.0
@@ -72,14 +72,14 @@ part κs a s t x y p q = p ∙ sym q
 pub same_bytes : OneResult 2 same-bytes-kinds.ps same-bytes-kinds.r same-bytes-reads.Post
 same_bytes κs a s t x y p q = p ∙ sym q
 
-pub bytes-for : OneResult 0 bytes-for-kinds.ps bytes-for-kinds.r bytes-for-reads.Post
-bytes-for κs a s t x y p q = p.0 ∙ sym q.0
+pub bytes_for_lem : OneResult 0 bytes-for-kinds.ps bytes-for-kinds.r bytes-for-reads.Post
+bytes_for_lem κs a s t x y p q = p.0 ∙ sym q.0
 
-pub word-bits : OneResult 0 word-bits-kinds.ps word-bits-kinds.r word-bits-reads.Post
-word-bits κs a s t x y p q = p.0 ∙ sym q.0
+pub word_bits_lem : OneResult 0 word-bits-kinds.ps word-bits-kinds.r word-bits-reads.Post
+word_bits_lem κs a s t x y p q = p.0 ∙ sym q.0
 
-pub clear-numbers : OneOutcome 1 clear-numbers-kinds.ps clear-numbers-kinds.r clear-numbers-reads.Post
-clear-numbers κs a s t v w p q = let e = p ∙ sym q in (λ i. tt, λ i. e i & tt & tt)
+pub clear_numbers : OneOutcome 1 clear-numbers-kinds.ps clear-numbers-kinds.r clear-numbers-reads.Post
+clear_numbers κs a s t v w p q = let e = p ∙ sym q in (λ i. tt, λ i. e i & tt & tt)
 
-pub clear-bytes : OneOutcome 1 clear-bytes-kinds.ps clear-bytes-kinds.r clear-bytes-reads.Post
-clear-bytes κs a s t v w p q = let e = p ∙ sym q in (λ i. tt, λ i. e i & tt & tt)
+pub clear_bytes : OneOutcome 1 clear-bytes-kinds.ps clear-bytes-kinds.r clear-bytes-reads.Post
+clear_bytes κs a s t v w p q = let e = p ∙ sym q in (λ i. tt, λ i. e i & tt & tt)

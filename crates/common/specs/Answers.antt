@@ -8,16 +8,16 @@ use Rattle.common.specs.declared.Checked.{Checked}
 use Rattle.common.specs.declared.Checked.TheVariants.{Passed, Refused}
 use Rattle.common.specs.Checks.{clash}
 
-abbrev pub checkOf : Checked → Check (Unit {0})
-checkOf Passed = passed tt
-checkOf (Refused why) = refused why
+abbrev pub check_of : Checked → Check (Unit {0})
+check_of Passed = passed tt
+check_of (Refused why) = refused why
 
 -- an answer is told by what it stands for
-pub check-tells : (c d : Checked) → checkOf c ≡ checkOf d → c ≡ d
-check-tells Passed Passed e = refl
-check-tells Passed (Refused why) e = clash (cc)
-check-tells (Refused why) Passed e = clash (cc)
-check-tells (Refused why) (Refused other) e = ap Refused (cc)
+pub check_tells : (c d : Checked) → check_of c ≡ check_of d → c ≡ d
+check_tells Passed Passed e = refl
+check_tells Passed (Refused why) e = clash (cc)
+check_tells (Refused why) Passed e = clash (cc)
+check_tells (Refused why) (Refused other) e = ap Refused (cc)
 
 -- as the answer of a job that has nothing to tell
 abbrev pub answer_of : Checked → Answer

@@ -6,45 +6,45 @@ use native.Mathlib.Omega.{arith}
 use Rattle.std.proofs.Math.Decide.{dec_lt}
 use Rattle.std.proofs.Math.ListN.{replicate, get_or-append}
 use Rattle.std.proofs.lemmas.List.{length-replicate, set_at}
-use Rattle.scope.specs.Numbers.{tabulate, tabulateFrom}
-use Rattle.common.specs.Lists.{replicate-at}
-use Rattle.common.specs.Tables.{length-tabulate, tabulate-at, tabulate-more}
+use Rattle.scope.specs.Numbers.{tabulate, tabulate_from}
+use Rattle.common.specs.Lists.{replicate_at}
+use Rattle.common.specs.Tables.{length-tabulate, tabulate_at, tabulate_more}
 
 module _ {X : Type 0} (f : ℕ → X) (none : X) (size : ℕ) where
-  abbrev pub filledTo : (n : ℕ) → List X
-  filledTo n = tabulate n f ++ replicate (size - n) none
+  abbrev pub filled_to : (n : ℕ) → List X
+  filled_to n = tabulate n f ++ replicate (size - n) none
 
-  pub fill_start : replicate size none ≡ filledTo 0
-  unfolding tabulate tabulateFrom
+  pub fill_start : replicate size none ≡ filled_to 0
+  unfolding tabulate tabulate_from
   fill_start = ap (λ k. replicate k none) (let e : size ≡ size - 0 = omega arith in e)
 
-  pub fill-length : (n : ℕ) → n ≤ size → length (filledTo n) ≡ size
-  fill-length n h = omega (arith, length-append (tabulate n f) (replicate (size - n) none), length-tabulate f n, length-replicate (size - n) none)
+  pub fill_length : (n : ℕ) → n ≤ size → length (filled_to n) ≡ size
+  fill_length n h = omega (arith, length-append (tabulate n f) (replicate (size - n) none), length-tabulate f n, length-replicate (size - n) none)
 
-  pub fill-at : (n j : ℕ) → j < n → get_or (filledTo n) j none ≡ f j
-  fill-at n j h = get_or-append (tabulate n f) (replicate (size - n) none) none j (omega (arith, length-tabulate f n)) ∙ tabulate-at f n j none h
+  pub fill_at : (n j : ℕ) → j < n → get_or (filled_to n) j none ≡ f j
+  fill_at n j h = get_or-append (tabulate n f) (replicate (size - n) none) none j (omega (arith, length-tabulate f n)) ∙ tabulate_at f n j none h
 
-  pub fill-past : (n j : ℕ) → n ≤ j → get_or (filledTo n) j none ≡ none
-  fill-past n j h =
-      ap (λ k. get_or (filledTo n) k none) (let q : j ≡ length (tabulate n f) + (j - n) = omega (arith, length-tabulate f n) in q)
+  pub fill_past : (n j : ℕ) → n ≤ j → get_or (filled_to n) j none ≡ none
+  fill_past n j h =
+      ap (λ k. get_or (filled_to n) k none) (let q : j ≡ length (tabulate n f) + (j - n) = omega (arith, length-tabulate f n) in q)
       ∙ get_or-append-add (tabulate n f) (replicate (size - n) none) (j - n) none
-      ∙ replicate-at (size - n) (j - n) none
+      ∙ replicate_at (size - n) (j - n) none
 
-  pub fill_more : (n : ℕ) (v : X) → n < size → v ≡ f n → set (filledTo n) n v ≡ filledTo (n + 1)
+  pub fill_more : (n : ℕ) (v : X) → n < size → v ≡ f n → set (filled_to n) n v ≡ filled_to (n + 1)
   fill_more n v h e =
       ap (λ k. set (tabulate n f ++ replicate k none) n v) (let q : size - n ≡ suc (size - (n + 1)) = omega arith in q)
       ∙ set_at (tabulate n f) none (replicate (size - (n + 1)) none) v n (length-tabulate f n)
       ∙ ap (λ x. tabulate n f ++ (x ∷ replicate (size - (n + 1)) none)) e
       ∙ sym (append_assoc (tabulate n f) (f n ∷ []) (replicate (size - (n + 1)) none))
-      ∙ ap (λ l. l ++ replicate (size - (n + 1)) none) (sym (tabulate-more f n))
+      ∙ ap (λ l. l ++ replicate (size - (n + 1)) none) (sym (tabulate_more f n))
       ∙ ap (λ k. tabulate k f ++ replicate (size - (n + 1)) none) (sym (add-one n))
 
   -- where nothing is to stand in the rest, the array is whole
-  pub fill_end : (n : ℕ) → n ≤ size → ((j : ℕ) → n ≤ j → j < size → f j ≡ none) → filledTo n ≡ tabulate size f
+  pub fill_end : (n : ℕ) → n ≤ size → ((j : ℕ) → n ≤ j → j < size → f j ≡ none) → filled_to n ≡ tabulate size f
   fill_end n h rest =
-      ext_get_or none (filledTo n) (tabulate size f) (fill-length n h ∙ sym (length-tabulate f size))
-      (λ j l. let m : j < size = omega (arith, fill-length n h) in entry j m (dec_lt j n) ∙ sym (tabulate-at f size j none m))
+      ext_get_or none (filled_to n) (tabulate size f) (fill_length n h ∙ sym (length-tabulate f size))
+      (λ j l. let m : j < size = omega (arith, fill_length n h) in entry j m (dec_lt j n) ∙ sym (tabulate_at f size j none m))
     where
-      entry : (j : ℕ) → j < size → Dec (j < n) → get_or (filledTo n) j none ≡ f j
-      entry j m (yes l) = fill-at n j l
-      entry j m (no l) = fill-past n j (omega arith) ∙ sym (rest j (omega arith) m)
+      entry : (j : ℕ) → j < size → Dec (j < n) → get_or (filled_to n) j none ≡ f j
+      entry j m (yes l) = fill_at n j l
+      entry j m (no l) = fill_past n j (omega arith) ∙ sym (rest j (omega arith) m)

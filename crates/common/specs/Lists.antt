@@ -4,8 +4,8 @@ use Rattle.std.proofs.Common.{sym, ap, ◌∙◌, zero-add, suc-add, arith, leng
 use Rattle.std.proofs.Math.Seq.{take-nil}
 
 module _ {X : Type 0} where
-  pub length-snoc : (xs : List X) (x : X) → length (xs ++ x ∷ []) ≡ suc (length xs)
-  length-snoc xs x = rw (length-append xs (x ∷ [])) (omega arith)
+  pub length_snoc : (xs : List X) (x : X) → length (xs ++ x ∷ []) ≡ suc (length xs)
+  length_snoc xs x = rw (length-append xs (x ∷ [])) (omega arith)
 
   pub drop-take : (p n : ℕ) (l : List X) → drop p (take n l) ≡ take (n - p) (drop p l)
   drop-take zero n l = ap (λ (k : ℕ). take k l) (let e : n ≡ n - 0 = omega arith in e)
@@ -17,7 +17,7 @@ module _ {X : Type 0} where
   set-append-add [] ys n a = rw zero-add
   set-append-add (x ∷ xs) ys n a = rw (suc-add (length xs) n, set-append-add xs ys n a)
 
-  pub replicate-at : (n j : ℕ) (x : X) → get_or (replicate n x) j x ≡ x
-  replicate-at zero j x = refl
-  replicate-at (suc n) zero x = refl
-  replicate-at (suc n) (suc j) x = replicate-at n j x
+  pub replicate_at : (n j : ℕ) (x : X) → get_or (replicate n x) j x ≡ x
+  replicate_at zero j x = refl
+  replicate_at (suc n) zero x = refl
+  replicate_at (suc n) (suc j) x = replicate_at n j x

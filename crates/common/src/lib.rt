@@ -3,12 +3,12 @@
 // Each call answers on every input: past the end of a slice stand zeros, and a part ends where its slice does.
 ghost use Rattle.std.specs.Prelude.{◌≡◌, ◌^◌, ◌<◌, get_or};
 ghost use Rattle.promise.specs.Parts.{part_of, cut};
-ghost use Rattle.limits.specs.Limits.{wordMost};
-ghost use Rattle.scope.specs.Numbers.{be16, be32, bytesFor, same};
+ghost use Rattle.limits.specs.Limits.{word_most};
+ghost use Rattle.scope.specs.Numbers.{be16, be32, bytes_for, same};
 ghost use Rattle.scope.specs.Stages.{counted};
-ghost use Rattle.common.specs.Answers.{checkOf, in_turn, answer_of};
+ghost use Rattle.common.specs.Answers.{check_of, in_turn, answer_of};
 ghost use Rattle.common.specs.Stores.{cleared};
-ghost use Rattle.common.specs.Words.{wordBits};
+ghost use Rattle.common.specs.Words.{word_bits};
 
 use refusal::{Answer, Refusal};
 
@@ -21,7 +21,7 @@ pub enum Checked {
 
 // Of two checks the refusal that comes first.
 pub fn first_refusal(first: Checked, second: Checked) -> Checked
-    ensures { checkOf result ≡ in_turn (checkOf first) (checkOf second) }
+    ensures { check_of result ≡ in_turn (check_of first) (check_of second) }
 {
     let Checked::Passed = first else {
         return first;
@@ -31,7 +31,7 @@ pub fn first_refusal(first: Checked, second: Checked) -> Checked
 
 // A count is at least one, and not above the most (4).
 pub fn check_count(count: usize, most: usize) -> Checked
-    ensures { checkOf result ≡ counted count most }
+    ensures { check_of result ≡ counted count most }
 {
     if count < 1 {
         return Checked::Refused(Refusal::Natural(0));
@@ -130,14 +130,14 @@ pub fn same_bytes(a: &[u8], b: &[u8]) -> bool
 
 // How many bytes hold so many bits.
 pub fn bytes_for(bits: u32) -> usize
-    ensures { (result ≡ bytesFor bits) × (result < 2 ^ 30) }
+    ensures { (result ≡ bytes_for bits) × (result < 2 ^ 30) }
 {
     (bits as usize + 7) / 8
 }
 
 // How many bits a word of n has; none where n is no word's.
 pub fn word_bits(n: u32) -> usize
-    ensures { (result ≡ wordBits n) × (result < 2 ^ wordMost) }
+    ensures { (result ≡ word_bits n) × (result < 2 ^ word_most) }
 {
     if n < 1 {
         return 0;

@@ -8,126 +8,126 @@ use native.Mathlib.Omega.{arith}
 use lib.Dec.{eqb}
 use lib.ListN.{length}
 use borrow.Author.Tests.{eq-eqb, ne_eqb}
-use Rattle.limits.specs.Limits.{dossierBytes, wordMost, hashBytes}
+use Rattle.limits.specs.Limits.{dossier_bytes, word_most, hash_bytes}
 use Rattle.refusal.specs.declared.Refusal.{Refusal}
 use Rattle.refusal.specs.declared.Refusal.TheVariants.{StreamEnded, Jet}
 use Rattle.report.specs.Bits.{Bit}
 use Rattle.scope.specs.Check.{Check, passed, refused}
-use Rattle.scope.specs.Numbers.{streamOf}
-use Rattle.scope.specs.Reading.{Got, got, fault, Fault, streamEnded, aJet, refusalAt, Reader, ◌>>=◌, give, stop, here, Item, item, next, code, naturalUpTo, child, octets, combinator, word_item, node}
+use Rattle.scope.specs.Numbers.{stream_of}
+use Rattle.scope.specs.Reading.{Got, got, fault, Fault, stream_ended, a_jet, refusal_at, Reader, ◌>>=◌, give, stop, here, Item, item, next, code, natural_up_to, child, octets, combinator, word_item, node}
 use Rattle.common.specs.Checks.{clash}
-use Rattle.common.specs.Bits.{length-within}
-use Rattle.bititer.specs.Windows.{windowBits}
-use Rattle.bititer.proofs.Streams.{next-within, next_past}
-use Rattle.bititer.proofs.Windows.{window-code}
-use Rattle.exactness.specs.Stream.{then-reads}
+use Rattle.common.specs.Bits.{length_within}
+use Rattle.bititer.specs.Windows.{window_bits}
+use Rattle.bititer.proofs.Streams.{next_within, next_past}
+use Rattle.bititer.proofs.Windows.{window_code}
+use Rattle.exactness.specs.Stream.{then_reads}
 use Rattle.decode.specs.declared.NumberRead.{NumberRead}
 use Rattle.decode.specs.declared.Follows.{Follows}
 use Rattle.decode.specs.Answers.{number_of}
-use Rattle.decode.specs.Heads.{atNode, withOne, bytesAfter, followed, head_of, twoChildren, oneChild, third, last, wordFrom}
+use Rattle.decode.specs.Heads.{at_node, with_one, bytes_after, followed, head_of, two_children_lem, one_child, third, last, word_from}
 
 -- a result that passed at a node was read
-pub at-got : {X : Type 0} (i : ℕ) (g : Got X) (x : X) (n : ℕ) → atNode i g ≡ passed (x, n) → g ≡ got x n
-unfolding atNode
-at-got {X} i (got y m) x n e =
+pub at_got : {X : Type 0} (i : ℕ) (g : Got X) (x : X) (n : ℕ) → at_node i g ≡ passed (x, n) → g ≡ got x n
+unfolding at_node
+at_got {X} i (got y m) x n e =
     ap₂ got (ap (λ (c : Check (X × ℕ)). elim c [ passed p ↦ p.0 | refused r ↦ y ]) e)
     (ap (λ (c : Check (X × ℕ)). elim c [ passed p ↦ p.1 | refused r ↦ m ]) e)
-at-got i (fault d) x n e = clash (cc)
+at_got i (fault d) x n e = clash (cc)
 
 -- one reader and then another: what stops the first stops both
-pub stops-with : {X Y : Type 0} (m : Reader X) (f : X → Reader Y) (at : ℕ) (d : Fault) → m at ≡ fault d → (m >>= f) at ≡ fault d
+pub stops_with : {X Y : Type 0} (m : Reader X) (f : X → Reader Y) (at : ℕ) (d : Fault) → m at ≡ fault d → (m >>= f) at ≡ fault d
 unfolding ◌>>=◌
-stops-with {X} {Y} m f at d e = ap (λ (g : Got X). elim g as (λ z. Got Y) [ got x n ↦ f x n | fault d ↦ fault d ]) e
+stops_with {X} {Y} m f at d e = ap (λ (g : Got X). elim g as (λ z. Got Y) [ got x n ↦ f x n | fault d ↦ fault d ]) e
 
-pub stops : {X Y : Type 0} (i : ℕ) (m : Reader X) (f : X → Reader Y) (at : ℕ) (why : Refusal) → atNode i (m at) ≡ refused why
-    → atNode i ((m >>= f) at) ≡ refused why
-unfolding ◌>>=◌ atNode
+pub stops : {X Y : Type 0} (i : ℕ) (m : Reader X) (f : X → Reader Y) (at : ℕ) (why : Refusal) → at_node i (m at) ≡ refused why
+    → at_node i ((m >>= f) at) ≡ refused why
+unfolding ◌>>=◌ at_node
 stops {X} {Y} i m f at why e = go (m at) e
   where
-    go : (g : Got X) → atNode i g ≡ refused why → atNode {X = Y} i (elim g [ got x n ↦ f x n | fault d ↦ fault d ]) ≡ refused why
+    go : (g : Got X) → at_node i g ≡ refused why → at_node {X = Y} i (elim g [ got x n ↦ f x n | fault d ↦ fault d ]) ≡ refused why
     go (got x n) e = clash (cc)
-    go (fault d) e = (let r : refusalAt i d ≡ why = cc in ap (λ (r : Refusal). refused r) r)
+    go (fault d) e = (let r : refusal_at i d ≡ why = cc in ap (λ (r : Refusal). refused r) r)
 
-pub at_ended : {X : Type 0} (i : ℕ) (g : Got X) → g ≡ fault streamEnded → refused (StreamEnded i) ≡ atNode i g
-unfolding atNode refusalAt
-at_ended i g e = sym (ap (atNode i) e)
+pub at_ended : {X : Type 0} (i : ℕ) (g : Got X) → g ≡ fault stream_ended → refused (StreamEnded i) ≡ at_node i g
+unfolding at_node refusal_at
+at_ended i g e = sym (ap (at_node i) e)
 
 -- a number that was read, or refused
-pub number-got : (i : ℕ) (g : Got ℕ) (r : NumberRead) (n next : ℕ) → number_of r ≡ atNode i g → r ≡ NumberRead.Number n next → g ≡ got n next
-number-got i g r n next e told = at-got i g n next (sym e ∙ ap number_of told)
+pub number_got : (i : ℕ) (g : Got ℕ) (r : NumberRead) (n next : ℕ) → number_of r ≡ at_node i g → r ≡ NumberRead.Number n next → g ≡ got n next
+number_got i g r n next e told = at_got i g n next (sym e ∙ ap number_of told)
 
-pub number-stopped : (i : ℕ) (g : Got ℕ) (r : NumberRead) (why : Refusal) → number_of r ≡ atNode i g → r ≡ NumberRead.Refused why → atNode i g ≡ refused why
-number-stopped i g r why e told = sym e ∙ ap number_of told
+pub number_stopped : (i : ℕ) (g : Got ℕ) (r : NumberRead) (why : Refusal) → number_of r ≡ at_node i g → r ≡ NumberRead.Refused why → at_node i g ≡ refused why
+number_stopped i g r why e told = sym e ∙ ap number_of told
 
 module _ (bits : List Bit) (i at : ℕ) where
   -- a child whose distance is refused, or read
-  pub child-stops : (why : Refusal) → atNode i (naturalUpTo bits i at) ≡ refused why → refused why ≡ atNode i (child bits i at)
+  pub child_stops : (why : Refusal) → at_node i (natural_up_to bits i at) ≡ refused why → refused why ≡ at_node i (child bits i at)
   unfolding child
-  child-stops why e = sym (stops i (naturalUpTo bits i) (λ d. give (i - d)) at why e)
+  child_stops why e = sym (stops i (natural_up_to bits i) (λ d. give (i - d)) at why e)
 
-  pub child-read : (d n : ℕ) → naturalUpTo bits i at ≡ got d n → passed (i - d, n) ≡ atNode i (child bits i at)
-  unfolding child give atNode
-  child-read d n e = sym (ap (atNode i) (then-reads (naturalUpTo bits i) (λ d. give (i - d)) at d n e))
+  pub child_read : (d n : ℕ) → natural_up_to bits i at ≡ got d n → passed (i - d, n) ≡ at_node i (child bits i at)
+  unfolding child give at_node
+  child_read d n e = sym (ap (at_node i) (then_reads (natural_up_to bits i) (λ d. give (i - d)) at d n e))
 
   -- two children: the first refused, the second, or none
-  pub first_stops : (kind : ℕ) (why : Refusal) → atNode i (child bits i at) ≡ refused why → refused why ≡ atNode i (twoChildren bits kind i at)
-  unfolding twoChildren
+  pub first_stops : (kind : ℕ) (why : Refusal) → at_node i (child bits i at) ≡ refused why → refused why ≡ at_node i (two_children_lem bits kind i at)
+  unfolding two_children_lem
   first_stops kind why e = sym (stops i (child bits i) (λ a. child bits i >>= λ b. item kind a b []) at why e)
 
-  after_first : (kind a m : ℕ) → child bits i at ≡ got a m → twoChildren bits kind i at ≡ (child bits i >>= λ b. item kind a b []) m
-  unfolding twoChildren
-  after_first kind a m e = then-reads (child bits i) (λ a. child bits i >>= λ b. item kind a b []) at a m e
+  after_first_lem : (kind a m : ℕ) → child bits i at ≡ got a m → two_children_lem bits kind i at ≡ (child bits i >>= λ b. item kind a b []) m
+  unfolding two_children_lem
+  after_first_lem kind a m e = then_reads (child bits i) (λ a. child bits i >>= λ b. item kind a b []) at a m e
 
-  pub second-stops : (kind a m : ℕ) (why : Refusal) → child bits i at ≡ got a m → atNode i (child bits i m) ≡ refused why
-      → refused why ≡ atNode i (twoChildren bits kind i at)
-  second-stops kind a m why e f = sym (ap (atNode i) (after_first kind a m e) ∙ stops i (child bits i) (λ b. item kind a b []) m why f)
+  pub second_stops : (kind a m : ℕ) (why : Refusal) → child bits i at ≡ got a m → at_node i (child bits i m) ≡ refused why
+      → refused why ≡ at_node i (two_children_lem bits kind i at)
+  second_stops kind a m why e f = sym (ap (at_node i) (after_first_lem kind a m e) ∙ stops i (child bits i) (λ b. item kind a b []) m why f)
 
   pub both_read : (kind a m b n : ℕ) → child bits i at ≡ got a m → child bits i m ≡ got b n
-      → atNode i (followed bits (record { kind = kind; first = a; second = b; third = 0 }) Follows.Nothing n) ≡ atNode i (twoChildren bits kind i at)
-  unfolding followed bytesAfter ◌>>=◌ give item
-  both_read kind a m b n e f = ap (atNode i) (sym (after_first kind a m e ∙ then-reads (child bits i) (λ b. item kind a b []) m b n f))
+      → at_node i (followed bits (record { kind = kind; first = a; second = b; third = 0 }) Follows.Nothing n) ≡ at_node i (two_children_lem bits kind i at)
+  unfolding followed bytes_after ◌>>=◌ give item
+  both_read kind a m b n e f = ap (at_node i) (sym (after_first_lem kind a m e ∙ then_reads (child bits i) (λ b. item kind a b []) m b n f))
 
   -- one child, refused or read
-  pub one-head : (kind : ℕ) (r : NumberRead) → number_of r ≡ atNode i (child bits i at) → head_of bits i (withOne kind r) ≡ atNode i (oneChild bits kind i at)
-  unfolding oneChild followed bytesAfter ◌>>=◌ give item
-  one-head kind (NumberRead.Number a n) e =
-      ap (atNode i) (sym (then-reads (child bits i) (λ a. item kind a 0 []) at a n (at-got i (child bits i at) a n (sym e))))
-  one-head kind (NumberRead.Refused why) e = sym (stops i (child bits i) (λ a. item kind a 0 []) at why (sym e))
+  pub one_head : (kind : ℕ) (r : NumberRead) → number_of r ≡ at_node i (child bits i at) → head_of bits i (with_one kind r) ≡ at_node i (one_child bits kind i at)
+  unfolding one_child followed bytes_after ◌>>=◌ give item
+  one_head kind (NumberRead.Number a n) e =
+      ap (at_node i) (sym (then_reads (child bits i) (λ a. item kind a 0 []) at a n (at_got i (child bits i at) a n (sym e))))
+  one_head kind (NumberRead.Refused why) e = sym (stops i (child bits i) (λ a. item kind a 0 []) at why (sym e))
 
   -- the third group by its code
-  pub third-child : (held sub : ℕ) → sub ≡ 3 → third bits i held sub at ≡ oneChild bits 11 i at
+  pub third_child : (held sub : ℕ) → sub ≡ 3 → third bits i held sub at ≡ one_child bits 11 i at
   unfolding third
-  third-child held sub e = rw (eq-eqb sub 3 e, third)
+  third_child held sub e = rw (eq-eqb sub 3 e, third)
 
-  pub third-fail : (held sub : ℕ) → sub ≡ 2
+  pub third_fail : (held sub : ℕ) → sub ≡ 2
       → followed bits (record { kind = 10; first = held; second = 0; third = 0 }) Follows.Fail at ≡ third bits i held sub at
-  unfolding third followed bytesAfter item
-  third-fail held sub e = sym (rw (ne_eqb sub 3 (λ q. omega arith), eq-eqb sub 2 e, third))
+  unfolding third followed bytes_after item
+  third_fail held sub e = sym (rw (ne_eqb sub 3 (λ q. omega arith), eq-eqb sub 2 e, third))
 
-  pub third-leaf : (held sub : ℕ) → (sub ≡ 3 → ⊥) → (sub ≡ 2 → ⊥)
+  pub third_leaf : (held sub : ℕ) → (sub ≡ 3 → ⊥) → (sub ≡ 2 → ⊥)
       → followed bits (record { kind = 8 + sub; first = 0; second = 0; third = 0 }) Follows.Nothing at ≡ third bits i held sub at
-  unfolding third followed bytesAfter item give ◌>>=◌
-  third-leaf held sub m n = sym (rw (ne_eqb sub 3 m, ne_eqb sub 2 n, third))
+  unfolding third followed bytes_after item give ◌>>=◌
+  third_leaf held sub m n = sym (rw (ne_eqb sub 3 m, ne_eqb sub 2 n, third))
 
   -- the last group: its bit is not there, or tells a witness from a hidden node
-  abbrev byLastBit : (held : ℕ) → Bool → Reader Item
-  byLastBit held b = elim b [ true ↦ item 12 0 0 [] | false ↦ (octets bits hashBytes >>= λ bytes. item 13 held 0 bytes) ]
+  abbrev by_last_bit : (held : ℕ) → Bool → Reader Item
+  by_last_bit held b = elim b [ true ↦ item 12 0 0 [] | false ↦ (octets bits hash_bytes >>= λ bytes. item 13 held 0 bytes) ]
 
-  pub last-ended : (held : ℕ) → code bits 1 at ≡ fault streamEnded → last bits held at ≡ fault streamEnded
+  pub last_ended : (held : ℕ) → code bits 1 at ≡ fault stream_ended → last bits held at ≡ fault stream_ended
   unfolding last
-  last-ended held e = stops-with (code bits 1) _ at streamEnded e
+  last_ended held e = stops_with (code bits 1) _ at stream_ended e
 
-  pub last-witness : (held sub n : ℕ) → code bits 1 at ≡ got sub n → sub ≡ 1
+  pub last_witness : (held sub n : ℕ) → code bits 1 at ≡ got sub n → sub ≡ 1
       → followed bits (record { kind = 12; first = 0; second = 0; third = 0 }) Follows.Nothing n ≡ last bits held at
-  unfolding last followed bytesAfter item give ◌>>=◌
-  last-witness held sub n e h =
-      sym (then-reads (code bits 1) (λ sub. byLastBit held (eqb sub 1)) at sub n e ∙ ap (λ (b : Bool). byLastBit held b n) (eq-eqb sub 1 h))
+  unfolding last followed bytes_after item give ◌>>=◌
+  last_witness held sub n e h =
+      sym (then_reads (code bits 1) (λ sub. by_last_bit held (eqb sub 1)) at sub n e ∙ ap (λ (b : Bool). by_last_bit held b n) (eq-eqb sub 1 h))
 
-  pub last-hidden : (held sub n : ℕ) → code bits 1 at ≡ got sub n → (sub ≡ 1 → ⊥)
+  pub last_hidden : (held sub n : ℕ) → code bits 1 at ≡ got sub n → (sub ≡ 1 → ⊥)
       → followed bits (record { kind = 13; first = held; second = 0; third = 0 }) Follows.Hash n ≡ last bits held at
-  unfolding last followed bytesAfter item
-  last-hidden held sub n e h =
-      sym (then-reads (code bits 1) (λ sub. byLastBit held (eqb sub 1)) at sub n e ∙ ap (λ (b : Bool). byLastBit held b n) (ne_eqb sub 1 h))
+  unfolding last followed bytes_after item
+  last_hidden held sub n e h =
+      sym (then_reads (code bits 1) (λ sub. by_last_bit held (eqb sub 1)) at sub n e ∙ ap (λ (b : Bool). by_last_bit held b n) (ne_eqb sub 1 h))
 
   -- a combinator by its code
   pub combinator-last : (held two : ℕ) → 3 ≤ two → combinator bits i held two at ≡ last bits held at
@@ -137,126 +137,126 @@ module _ (bits : List Bit) (i at : ℕ) where
   combinator-last held (suc (suc zero)) h = absurd (omega arith)
   combinator-last held (suc (suc (suc k))) h = refl
 
-  pub combinator-ended : (held two : ℕ) → two < 3 → code bits 2 at ≡ fault streamEnded → combinator bits i held two at ≡ fault streamEnded
+  pub combinator_ended : (held two : ℕ) → two < 3 → code bits 2 at ≡ fault stream_ended → combinator bits i held two at ≡ fault stream_ended
   unfolding combinator
-  combinator-ended held zero h e = stops-with (code bits 2) _ at streamEnded e
-  combinator-ended held (suc zero) h e = stops-with (code bits 2) _ at streamEnded e
-  combinator-ended held (suc (suc zero)) h e = stops-with (code bits 2) _ at streamEnded e
-  combinator-ended held (suc (suc (suc k))) h e = absurd (omega arith)
+  combinator_ended held zero h e = stops_with (code bits 2) _ at stream_ended e
+  combinator_ended held (suc zero) h e = stops_with (code bits 2) _ at stream_ended e
+  combinator_ended held (suc (suc zero)) h e = stops_with (code bits 2) _ at stream_ended e
+  combinator_ended held (suc (suc (suc k))) h e = absurd (omega arith)
 
-  pub combinator-two : (held two sub n : ℕ) → two ≡ 0 → code bits 2 at ≡ got sub n → combinator bits i held two at ≡ twoChildren bits (0 + sub) i n
-  unfolding combinator twoChildren
-  combinator-two held two sub n h e =
+  pub combinator_two : (held two sub n : ℕ) → two ≡ 0 → code bits 2 at ≡ got sub n → combinator bits i held two at ≡ two_children_lem bits (0 + sub) i n
+  unfolding combinator two_children_lem
+  combinator_two held two sub n h e =
       ap (λ (k : ℕ). combinator bits i held k at) h
-      ∙ then-reads (code bits 2) (λ sub. twoChildren bits sub i) at sub n e
-      ∙ ap (λ (k : ℕ). twoChildren bits k i n) (sym (zero-add sub))
+      ∙ then_reads (code bits 2) (λ sub. two_children_lem bits sub i) at sub n e
+      ∙ ap (λ (k : ℕ). two_children_lem bits k i n) (sym (zero-add sub))
 
-  pub combinator-one : (held two sub n : ℕ) → two ≡ 1 → code bits 2 at ≡ got sub n → combinator bits i held two at ≡ oneChild bits (4 + sub) i n
-  unfolding combinator oneChild
-  combinator-one held two sub n h e =
-      ap (λ (k : ℕ). combinator bits i held k at) h ∙ then-reads (code bits 2) (λ sub. oneChild bits (4 + sub) i) at sub n e
+  pub combinator_one : (held two sub n : ℕ) → two ≡ 1 → code bits 2 at ≡ got sub n → combinator bits i held two at ≡ one_child bits (4 + sub) i n
+  unfolding combinator one_child
+  combinator_one held two sub n h e =
+      ap (λ (k : ℕ). combinator bits i held k at) h ∙ then_reads (code bits 2) (λ sub. one_child bits (4 + sub) i) at sub n e
 
   pub combinator-third : (held two sub n : ℕ) → two ≡ 2 → code bits 2 at ≡ got sub n → combinator bits i held two at ≡ third bits i held sub n
-  unfolding combinator third oneChild
+  unfolding combinator third one_child
   combinator-third held two sub n h e =
-      ap (λ (k : ℕ). combinator bits i held k at) h ∙ then-reads (code bits 2) (λ sub. third bits i held sub) at sub n e
+      ap (λ (k : ℕ). combinator bits i held k at) h ∙ then_reads (code bits 2) (λ sub. third bits i held sub) at sub n e
 
   -- a word: its natural refused, or read
-  pub word-stops : (why : Refusal) → atNode i (naturalUpTo bits wordMost at) ≡ refused why → refused why ≡ atNode i (word_item bits at)
+  pub word_stops : (why : Refusal) → at_node i (natural_up_to bits word_most at) ≡ refused why → refused why ≡ at_node i (word_item bits at)
   unfolding word_item
-  word-stops why e = sym (stops i (naturalUpTo bits wordMost) (λ n. here >>= λ first. next bits (2 ^ (n - 1)) >>= λ bs. item 14 n first []) at why e)
+  word_stops why e = sym (stops i (natural_up_to bits word_most) (λ n. here >>= λ first. next bits (2 ^ (n - 1)) >>= λ bs. item 14 n first []) at why e)
 
-  pub word_read : (n first : ℕ) → naturalUpTo bits wordMost at ≡ got n first → word_item bits at ≡ wordFrom bits n first
-  unfolding word_item wordFrom here ◌>>=◌
-  word_read n first e = then-reads (naturalUpTo bits wordMost) (λ n. here >>= λ first. next bits (2 ^ (n - 1)) >>= λ bs. item 14 n first []) at n first e
+  pub word_read : (n first : ℕ) → natural_up_to bits word_most at ≡ got n first → word_item bits at ≡ word_from bits n first
+  unfolding word_item word_from here ◌>>=◌
+  word_read n first e = then_reads (natural_up_to bits word_most) (λ n. here >>= λ first. next bits (2 ^ (n - 1)) >>= λ bs. item 14 n first []) at n first e
 
   -- a node by its first bits
-  pub node-ended : (held : ℕ) → code bits 1 at ≡ fault streamEnded → node bits i held at ≡ fault streamEnded
+  pub node_ended : (held : ℕ) → code bits 1 at ≡ fault stream_ended → node bits i held at ≡ fault stream_ended
   unfolding node
-  node-ended held e = stops-with (code bits 1) _ at streamEnded e
+  node_ended held e = stops_with (code bits 1) _ at stream_ended e
 
   -- after the second bit of what is no combinator: a jet, or a word
-  abbrev byJetBit : Bool → Reader Item
-  byJetBit b = elim b [ true ↦ stop aJet | false ↦ word_item bits ]
+  abbrev by_jet_bit : Bool → Reader Item
+  by_jet_bit b = elim b [ true ↦ stop a_jet | false ↦ word_item bits ]
 
-  abbrev byFirstBit : (held : ℕ) → Bool → Reader Item
-  byFirstBit held b = elim b [ true ↦ (code bits 2 >>= λ two. combinator bits i held two) | false ↦ (code bits 1 >>= λ jet. byJetBit (eqb jet 1)) ]
+  abbrev by_first_bit : (held : ℕ) → Bool → Reader Item
+  by_first_bit held b = elim b [ true ↦ (code bits 2 >>= λ two. combinator bits i held two) | false ↦ (code bits 1 >>= λ jet. by_jet_bit (eqb jet 1)) ]
 
-  first_bit : (held b n : ℕ) (t : Bool) → code bits 1 at ≡ got b n → eqb b 0 ≡ t → node bits i held at ≡ byFirstBit held t n
+  first_bit : (held b n : ℕ) (t : Bool) → code bits 1 at ≡ got b n → eqb b 0 ≡ t → node bits i held at ≡ by_first_bit held t n
   unfolding node
-  first_bit held b n t e h = then-reads (code bits 1) (λ other. byFirstBit held (eqb other 0)) at b n e ∙ ap (λ (t : Bool). byFirstBit held t n) h
+  first_bit held b n t e h = then_reads (code bits 1) (λ other. by_first_bit held (eqb other 0)) at b n e ∙ ap (λ (t : Bool). by_first_bit held t n) h
 
-  pub code-ended : (held b n : ℕ) → code bits 1 at ≡ got b n → b ≡ 0 → code bits 2 n ≡ fault streamEnded → node bits i held at ≡ fault streamEnded
-  code-ended held b n e h f = first_bit held b n true e (eq-eqb b 0 h) ∙ stops-with (code bits 2) (λ two. combinator bits i held two) n streamEnded f
+  pub code_ended : (held b n : ℕ) → code bits 1 at ≡ got b n → b ≡ 0 → code bits 2 n ≡ fault stream_ended → node bits i held at ≡ fault stream_ended
+  code_ended held b n e h f = first_bit held b n true e (eq-eqb b 0 h) ∙ stops_with (code bits 2) (λ two. combinator bits i held two) n stream_ended f
 
   pub code_read : (held b n two m : ℕ) → code bits 1 at ≡ got b n → b ≡ 0 → code bits 2 n ≡ got two m → node bits i held at ≡ combinator bits i held two m
-  code_read held b n two m e h f = first_bit held b n true e (eq-eqb b 0 h) ∙ then-reads (code bits 2) (λ two. combinator bits i held two) n two m f
+  code_read held b n two m e h f = first_bit held b n true e (eq-eqb b 0 h) ∙ then_reads (code bits 2) (λ two. combinator bits i held two) n two m f
 
-  pub jet-ended : (held b n : ℕ) → code bits 1 at ≡ got b n → (b ≡ 0 → ⊥) → code bits 1 n ≡ fault streamEnded → node bits i held at ≡ fault streamEnded
-  jet-ended held b n e h f = first_bit held b n false e (ne_eqb b 0 h) ∙ stops-with (code bits 1) (λ jet. byJetBit (eqb jet 1)) n streamEnded f
+  pub jet_ended : (held b n : ℕ) → code bits 1 at ≡ got b n → (b ≡ 0 → ⊥) → code bits 1 n ≡ fault stream_ended → node bits i held at ≡ fault stream_ended
+  jet_ended held b n e h f = first_bit held b n false e (ne_eqb b 0 h) ∙ stops_with (code bits 1) (λ jet. by_jet_bit (eqb jet 1)) n stream_ended f
 
-  second-bit : (held b n jet m : ℕ) (t : Bool) → code bits 1 at ≡ got b n → (b ≡ 0 → ⊥) → code bits 1 n ≡ got jet m → eqb jet 1 ≡ t
-      → node bits i held at ≡ byJetBit t m
-  second-bit held b n jet m t e h f k =
-      first_bit held b n false e (ne_eqb b 0 h) ∙ then-reads (code bits 1) (λ jet. byJetBit (eqb jet 1)) n jet m f ∙ ap (λ (t : Bool). byJetBit t m) k
+  second_bit : (held b n jet m : ℕ) (t : Bool) → code bits 1 at ≡ got b n → (b ≡ 0 → ⊥) → code bits 1 n ≡ got jet m → eqb jet 1 ≡ t
+      → node bits i held at ≡ by_jet_bit t m
+  second_bit held b n jet m t e h f k =
+      first_bit held b n false e (ne_eqb b 0 h) ∙ then_reads (code bits 1) (λ jet. by_jet_bit (eqb jet 1)) n jet m f ∙ ap (λ (t : Bool). by_jet_bit t m) k
 
-  pub jet-read : (held b n jet m : ℕ) → code bits 1 at ≡ got b n → (b ≡ 0 → ⊥) → code bits 1 n ≡ got jet m → jet ≡ 1
-      → refused (Jet i) ≡ atNode i (node bits i held at)
-  unfolding stop atNode refusalAt
-  jet-read held b n jet m e h f k = sym (ap (atNode i) (second-bit held b n jet m true e h f (eq-eqb jet 1 k)))
+  pub jet_read : (held b n jet m : ℕ) → code bits 1 at ≡ got b n → (b ≡ 0 → ⊥) → code bits 1 n ≡ got jet m → jet ≡ 1
+      → refused (Jet i) ≡ at_node i (node bits i held at)
+  unfolding stop at_node refusal_at
+  jet_read held b n jet m e h f k = sym (ap (at_node i) (second_bit held b n jet m true e h f (eq-eqb jet 1 k)))
 
-  pub no-jet : (held b n jet m : ℕ) → code bits 1 at ≡ got b n → (b ≡ 0 → ⊥) → code bits 1 n ≡ got jet m → (jet ≡ 1 → ⊥) → node bits i held at ≡ word_item bits m
-  no-jet held b n jet m e h f k = second-bit held b n jet m false e h f (ne_eqb jet 1 k)
+  pub no_jet : (held b n jet m : ℕ) → code bits 1 at ≡ got b n → (b ≡ 0 → ⊥) → code bits 1 n ≡ got jet m → (jet ≡ 1 → ⊥) → node bits i held at ≡ word_item bits m
+  no_jet held b n jet m e h f k = second_bit held b n jet m false e h f (ne_eqb jet 1 k)
 
 -- a node by the five bits of its code, which are its kind: two children, one child, or none
-module _ (program : List ℕ) (i at held w : ℕ) (read : code (streamOf program) windowBits at ≡ got w (at + windowBits)) (small : w / 1048576 < 12) where
-  first_three : node (streamOf program) i held at ≡ combinator (streamOf program) i held (w / 1048576 / 4) (at + 1 + 2)
+module _ (program : List ℕ) (i at held w : ℕ) (read : code (stream_of program) window_bits at ≡ got w (at + window_bits)) (small : w / 1048576 < 12) where
+  first_three : node (stream_of program) i held at ≡ combinator (stream_of program) i held (w / 1048576 / 4) (at + 1 + 2)
   first_three =
       let z : at ≡ at + 0 = omega arith in
       let low : w < 2 ^ 24 = omega arith in
-      code_read (streamOf program) i at held (w / 2 ^ 24 % 2) (at + 1) (w / 1048576 / 4) (at + 1 + 2)
-      (ap (code (streamOf program) 1) z ∙ window-code program at w 0 1 read (omega arith)
+      code_read (stream_of program) i at held (w / 2 ^ 24 % 2) (at + 1) (w / 1048576 / 4) (at + 1 + 2)
+      (ap (code (stream_of program) 1) z ∙ window_code program at w 0 1 read (omega arith)
       ∙ ap (got (w / 2 ^ 24 % 2)) (let y : at + 0 + 1 ≡ at + 1 = omega arith in y))
       (omega arith)
-      (window-code program at w 1 2 read (omega arith) ∙ ap (λ (n : ℕ). got n (at + 1 + 2)) (let y : w / 2 ^ 22 % 2 ^ 2 ≡ w / 1048576 / 4 = omega arith in y))
+      (window_code program at w 1 2 read (omega arith) ∙ ap (λ (n : ℕ). got n (at + 1 + 2)) (let y : w / 2 ^ 22 % 2 ^ 2 ≡ w / 1048576 / 4 = omega arith in y))
 
-  last-two : code (streamOf program) 2 (at + 1 + 2) ≡ got (w / 1048576 % 4) (at + 5)
-  last-two =
+  last_two : code (stream_of program) 2 (at + 1 + 2) ≡ got (w / 1048576 % 4) (at + 5)
+  last_two =
       let y : at + 1 + 2 ≡ at + 3 = omega arith in
       let z : at + 3 + 2 ≡ at + 5 = omega arith in
-      ap (code (streamOf program) 2) y ∙ window-code program at w 3 2 read (omega arith) ∙ ap (got (w / 2 ^ 20 % 2 ^ 2)) z
+      ap (code (stream_of program) 2) y ∙ window_code program at w 3 2 read (omega arith) ∙ ap (got (w / 2 ^ 20 % 2 ^ 2)) z
 
-  pub kind-two : w / 1048576 < 4 → node (streamOf program) i held at ≡ twoChildren (streamOf program) (w / 1048576) i (at + 5)
-  kind-two h =
-      first_three ∙ combinator-two (streamOf program) i (at + 1 + 2) held (w / 1048576 / 4) (w / 1048576 % 4) (at + 5) (omega arith) last-two
-      ∙ ap (λ (k : ℕ). twoChildren (streamOf program) k i (at + 5)) (let y : 0 + w / 1048576 % 4 ≡ w / 1048576 = omega arith in y)
+  pub kind_two : w / 1048576 < 4 → node (stream_of program) i held at ≡ two_children_lem (stream_of program) (w / 1048576) i (at + 5)
+  kind_two h =
+      first_three ∙ combinator_two (stream_of program) i (at + 1 + 2) held (w / 1048576 / 4) (w / 1048576 % 4) (at + 5) (omega arith) last_two
+      ∙ ap (λ (k : ℕ). two_children_lem (stream_of program) k i (at + 5)) (let y : 0 + w / 1048576 % 4 ≡ w / 1048576 = omega arith in y)
 
-  pub kind-one : 4 ≤ w / 1048576 → w / 1048576 < 8 → node (streamOf program) i held at ≡ oneChild (streamOf program) (w / 1048576) i (at + 5)
-  kind-one g h =
-      first_three ∙ combinator-one (streamOf program) i (at + 1 + 2) held (w / 1048576 / 4) (w / 1048576 % 4) (at + 5) (omega arith) last-two
-      ∙ ap (λ (k : ℕ). oneChild (streamOf program) k i (at + 5)) (let y : 4 + w / 1048576 % 4 ≡ w / 1048576 = omega arith in y)
+  pub kind_one : 4 ≤ w / 1048576 → w / 1048576 < 8 → node (stream_of program) i held at ≡ one_child (stream_of program) (w / 1048576) i (at + 5)
+  kind_one g h =
+      first_three ∙ combinator_one (stream_of program) i (at + 1 + 2) held (w / 1048576 / 4) (w / 1048576 % 4) (at + 5) (omega arith) last_two
+      ∙ ap (λ (k : ℕ). one_child (stream_of program) k i (at + 5)) (let y : 4 + w / 1048576 % 4 ≡ w / 1048576 = omega arith in y)
 
-  pub kind-none : 8 ≤ w / 1048576 → w / 1048576 < 10
-      → followed (streamOf program) (record { kind = w / 1048576; first = 0; second = 0; third = 0 }) Follows.Nothing (at + 5)
-      ≡ node (streamOf program) i held at
-  kind-none g h =
+  pub kind_none : 8 ≤ w / 1048576 → w / 1048576 < 10
+      → followed (stream_of program) (record { kind = w / 1048576; first = 0; second = 0; third = 0 }) Follows.Nothing (at + 5)
+      ≡ node (stream_of program) i held at
+  kind_none g h =
       let y : w / 1048576 ≡ 8 + w / 1048576 % 4 = omega arith in
-      ap (λ (k : ℕ). followed (streamOf program) (record { kind = k; first = 0; second = 0; third = 0 }) Follows.Nothing (at + 5)) y
-      ∙ third-leaf (streamOf program) i (at + 5) held (w / 1048576 % 4) (λ q. omega arith) (λ q. omega arith)
-      ∙ sym (first_three ∙ combinator-third (streamOf program) i (at + 1 + 2) held (w / 1048576 / 4) (w / 1048576 % 4) (at + 5) (omega arith) last-two)
+      ap (λ (k : ℕ). followed (stream_of program) (record { kind = k; first = 0; second = 0; third = 0 }) Follows.Nothing (at + 5)) y
+      ∙ third_leaf (stream_of program) i (at + 5) held (w / 1048576 % 4) (λ q. omega arith) (λ q. omega arith)
+      ∙ sym (first_three ∙ combinator-third (stream_of program) i (at + 1 + 2) held (w / 1048576 / 4) (w / 1048576 % 4) (at + 5) (omega arith) last_two)
 
 -- a word whose bits are not all there, and one whose bits are
-module _ (program : List ℕ) (i n first : ℕ) (within : length program ≤ dossierBytes) where
-  pub word-ended : length program < (first + 2 ^ (n - 1) + 7) / 8 → refused (StreamEnded i) ≡ atNode i (wordFrom (streamOf program) n first)
-  unfolding wordFrom
-  word-ended h =
-      at_ended i _ (stops-with (next (streamOf program) (2 ^ (n - 1))) (λ bs. item 14 n first []) first streamEnded
-      (next_past (streamOf program) (2 ^ (n - 1)) first (omega (arith, length-within program within))))
+module _ (program : List ℕ) (i n first : ℕ) (within : length program ≤ dossier_bytes) where
+  pub word_ended : length program < (first + 2 ^ (n - 1) + 7) / 8 → refused (StreamEnded i) ≡ at_node i (word_from (stream_of program) n first)
+  unfolding word_from
+  word_ended h =
+      at_ended i _ (stops_with (next (stream_of program) (2 ^ (n - 1))) (λ bs. item 14 n first []) first stream_ended
+      (next_past (stream_of program) (2 ^ (n - 1)) first (omega (arith, length_within program within))))
 
-  pub word-whole : (first + 2 ^ (n - 1) + 7) / 8 ≤ length program
-      → atNode i (followed (streamOf program) (record { kind = 14; first = n; second = first; third = 0 }) Follows.Nothing (first + 2 ^ (n - 1)))
-      ≡ atNode i (wordFrom (streamOf program) n first)
-  unfolding wordFrom followed bytesAfter item give ◌>>=◌
-  word-whole h =
-      ap (atNode i) (sym (then-reads (next (streamOf program) (2 ^ (n - 1))) (λ bs. item 14 n first []) first _ (first + 2 ^ (n - 1))
-      (next-within (streamOf program) (2 ^ (n - 1)) first (omega (arith, length-within program within)))))
+  pub word_whole_lem : (first + 2 ^ (n - 1) + 7) / 8 ≤ length program
+      → at_node i (followed (stream_of program) (record { kind = 14; first = n; second = first; third = 0 }) Follows.Nothing (first + 2 ^ (n - 1)))
+      ≡ at_node i (word_from (stream_of program) n first)
+  unfolding word_from followed bytes_after item give ◌>>=◌
+  word_whole_lem h =
+      ap (at_node i) (sym (then_reads (next (stream_of program) (2 ^ (n - 1))) (λ bs. item 14 n first []) first _ (first + 2 ^ (n - 1))
+      (next_within (stream_of program) (2 ^ (n - 1)) first (omega (arith, length_within program within)))))

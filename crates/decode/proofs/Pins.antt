@@ -9,15 +9,15 @@ use Rattle.decode.proofs.decode.Kinds as decode-kinds
 use Rattle.decode.proofs.decode.Reads as decode-reads
 
 -- what an answer says tells it
-pub answer-tells : (r q : Decoded) → said_of r ≡ said_of q → r ≡ q
-answer-tells (Decoded.Table s) (Decoded.Table t) e = ap Decoded.Table (cc)
-answer-tells (Decoded.Table s) (Decoded.Refused why) e = clash (cc)
-answer-tells (Decoded.Refused why) (Decoded.Table t) e = clash (cc)
-answer-tells (Decoded.Refused why) (Decoded.Refused other) e = ap Decoded.Refused (cc)
+pub answer_tells : (r q : Decoded) → said_of r ≡ said_of q → r ≡ q
+answer_tells (Decoded.Table s) (Decoded.Table t) e = ap Decoded.Table (cc)
+answer_tells (Decoded.Table s) (Decoded.Refused why) e = clash (cc)
+answer_tells (Decoded.Refused why) (Decoded.Table t) e = clash (cc)
+answer_tells (Decoded.Refused why) (Decoded.Refused other) e = ap Decoded.Refused (cc)
 
 pub decode : OneOutcome 3 decode-kinds.ps decode-kinds.r decode-reads.Post
 decode κs a s t v w p q =
     let e = p ∙ sym q in
     let nodes = ap (λ (l : Left). l.nodes) e in
     let hashes = ap (λ (l : Left). l.hashes) e in
-    (answer-tells s t (ap (λ (l : Left). l.says) e), λ i. tt & nodes i & hashes i & tt)
+    (answer_tells s t (ap (λ (l : Left). l.says) e), λ i. tt & nodes i & hashes i & tt)

@@ -1,6 +1,6 @@
 -- What the code's answers say in the words of the requirements, one line for each case: a number that was read, the bytes that follow a node, a decoded table.
 use Rattle.std.specs.Prelude.{ℕ}
-use Rattle.limits.specs.Limits.{hashBytes, failBytes}
+use Rattle.limits.specs.Limits.{hash_bytes, fail_bytes}
 use Rattle.scope.specs.Check.{Check, passed, refused}
 use Rattle.decode.specs.declared.NumberRead.{NumberRead}
 use Rattle.decode.specs.declared.Follows.{Follows}
@@ -15,8 +15,8 @@ number_of (NumberRead.Refused why) = refused why
 -- how many bytes follow
 abbrev pub size_of : Follows → ℕ
 size_of Follows.Nothing = 0
-size_of Follows.Hash = hashBytes
-size_of Follows.Fail = failBytes
+size_of Follows.Hash = hash_bytes
+size_of Follows.Fail = fail_bytes
 
 -- a decoded table's sizes
 abbrev pub said_of : Decoded → Check Sizes

@@ -3,14 +3,14 @@
 use Rattle.std.specs.Prelude.{◌≡◌, ℕ, ◌+◌, ◌-◌, ◌^◌, ◌≤◌, leb, eqb, length, drop}
 use Rattle.std.proofs.Math.Bool.{true, false}
 use mathlib.Core.List.{List, []}
-use Rattle.limits.specs.Limits.{nodeCount, hashBytes, failBytes}
+use Rattle.limits.specs.Limits.{node_count, hash_bytes, fail_bytes}
 use Rattle.refusal.specs.declared.Refusal.TheVariants.{StoreShort}
 use Rattle.report.specs.Bits.{Bit}
 use Rattle.scope.specs.Check.{Check, passed, refused}
-use Rattle.scope.specs.Naturals.{natural, readNatural}
+use Rattle.scope.specs.Naturals.{natural, read_natural}
 use Rattle.scope.specs.Nodes.{NodeRecord}
-use Rattle.scope.specs.Reading.{Got, got, fault, Reader, ◌>>=◌, give, Item, item, refusalAt, next, code, naturalUpTo, child, octets}
-use Rattle.table.specs.Answers.{recordOf}
+use Rattle.scope.specs.Reading.{Got, got, fault, Reader, ◌>>=◌, give, Item, item, refusal_at, next, code, natural_up_to, child, octets}
+use Rattle.table.specs.Answers.{record_of}
 use Rattle.decode.specs.declared.TableRead.{TableRead}
 use Rattle.decode.specs.declared.NumberRead.{NumberRead}
 use Rattle.decode.specs.declared.Follows.{Follows}
@@ -19,14 +19,14 @@ use Rattle.decode.specs.declared.HeadRead.{HeadRead}
 use Rattle.decode.specs.declared.Progressed.{Progressed}
 
 -- what a reader gives at node i, as a check: the result with the position after it, or the fault's refusal there
-unfoldable pub atNode : {X : Type 0} → (i : ℕ) → Got X → Check (X × ℕ)
-unfolding refusalAt
-atNode i (got x next) = passed (x, next)
-atNode i (fault e) = refused (refusalAt i e)
+unfoldable pub at_node : {X : Type 0} → (i : ℕ) → Got X → Check (X × ℕ)
+unfolding refusal_at
+at_node i (got x next) = passed (x, next)
+at_node i (fault e) = refused (refusal_at i e)
 
 -- a natural that the table tells of, with the position after it
 abbrev pub TableMeans : List Bit → (at : ℕ) → TableRead → Type 0
-TableMeans bits at (TableRead.Read n next) = (readNatural (drop at bits) ≡ natural n (drop next bits)) × (at ≤ next) × (next ≤ length bits)
+TableMeans bits at (TableRead.Read n next) = (read_natural (drop at bits) ≡ natural n (drop next bits)) × (at ≤ next) × (next ≤ length bits)
 TableMeans bits at TableRead.Longer = Unit {0}
 
 -- a head of these numbers
@@ -34,53 +34,53 @@ abbrev pub plain : (kind first second : ℕ) → Follows → NodeHead
 plain kind first second follows = record { node = record { kind = kind; first = first; second = second; third = 0 }; follows = follows }
 
 -- a head with the one number that was read
-abbrev pub withOne : (kind : ℕ) → NumberRead → HeadRead
-withOne kind (NumberRead.Number n next) = HeadRead.Read (plain kind n 0 Follows.Nothing) next
-withOne kind (NumberRead.Refused why) = HeadRead.Refused why
+abbrev pub with_one : (kind : ℕ) → NumberRead → HeadRead
+with_one kind (NumberRead.Number n next) = HeadRead.Read (plain kind n 0 Follows.Nothing) next
+with_one kind (NumberRead.Refused why) = HeadRead.Refused why
 
 module _ (bits : List Bit) where
   -- the bytes that follow a head
-  unfoldable pub bytesAfter : Follows → Reader (List ℕ)
+  unfoldable pub bytes_after : Follows → Reader (List ℕ)
   unfolding give octets
-  bytesAfter Follows.Nothing = give []
-  bytesAfter Follows.Hash = octets bits hashBytes
-  bytesAfter Follows.Fail = octets bits failBytes
+  bytes_after Follows.Nothing = give []
+  bytes_after Follows.Hash = octets bits hash_bytes
+  bytes_after Follows.Fail = octets bits fail_bytes
 
   -- the whole node of a record, after the bytes that follow
   unfoldable pub followed : NodeRecord → Follows → Reader Item
-  unfolding ◌>>=◌ give bytesAfter
+  unfolding ◌>>=◌ give bytes_after
   followed node follows = do
-    bytes ← bytesAfter follows
+    bytes ← bytes_after follows
     give (record { node = node; stored = bytes })
 
   -- what a head stands for at node i
   abbrev pub head_of : (i : ℕ) → HeadRead → Check (Item × ℕ)
-  head_of i (HeadRead.Read h next) = atNode i (followed (recordOf h.node) h.follows next)
+  head_of i (HeadRead.Read h next) = at_node i (followed (record_of h.node) h.follows next)
   head_of i (HeadRead.Refused why) = refused why
 
   -- parts of the reader of a combinator, first two children
-  unfoldable pub twoChildren : (kind i : ℕ) → Reader Item
+  unfoldable pub two_children_lem : (kind i : ℕ) → Reader Item
   unfolding ◌>>=◌ child item
-  twoChildren kind i = do
+  two_children_lem kind i = do
     left ← child bits i
     right ← child bits i
     item kind left right []
 
   -- one child
-  unfoldable pub oneChild : (kind i : ℕ) → Reader Item
+  unfoldable pub one_child : (kind i : ℕ) → Reader Item
   unfolding ◌>>=◌ child item
-  oneChild kind i = do
+  one_child kind i = do
     only ← child bits i
     item kind only 0 []
 
   -- iden, unit, fail or a disconnect with one child, after the subcode
   unfoldable pub third : (i held sub : ℕ) → Reader Item
-  unfolding ◌>>=◌ child octets item oneChild
+  unfolding ◌>>=◌ child octets item one_child
   third i held sub = elim (eqb sub 3) [
-    | true ↦ oneChild 11 i
+    | true ↦ one_child 11 i
     | false ↦ elim (eqb sub 2) [
       | true ↦ (do
-        bytes ← octets bits failBytes
+        bytes ← octets bits fail_bytes
         item 10 held 0 bytes)
       | false ↦ item (8 + sub) 0 0 []
     ]
@@ -94,24 +94,24 @@ module _ (bits : List Bit) where
     elim (eqb sub 1) [
       | true ↦ item 12 0 0 []
       | false ↦ (do
-        bytes ← octets bits hashBytes
+        bytes ← octets bits hash_bytes
         item 13 held 0 bytes)
     ]
 
   -- a word of n whose bits begin at a position
-  unfoldable pub wordFrom : (n first : ℕ) → Got Item
+  unfoldable pub word_from : (n first : ℕ) → Got Item
   unfolding ◌>>=◌ next item
-  wordFrom n first = (next bits (2 ^ (n - 1)) >>= λ bs. item 14 n first []) first
+  word_from n first = (next bits (2 ^ (n - 1)) >>= λ bs. item 14 n first []) first
 
   -- the count of nodes, for which a store has room
-  unfoldable pub countIn : (room : ℕ) → Check (ℕ × ℕ)
-  unfolding naturalUpTo refusalAt
-  countIn room = elim (naturalUpTo bits nodeCount 0) [
+  unfoldable pub count_in : (room : ℕ) → Check (ℕ × ℕ)
+  unfolding natural_up_to refusal_at
+  count_in room = elim (natural_up_to bits node_count 0) [
     | got n next ↦ elim (leb n room) [ true ↦ passed (n, next) | false ↦ refused (StoreShort 3) ]
-    | fault e ↦ refused (refusalAt 0 e)
+    | fault e ↦ refused (refusal_at 0 e)
   ]
 
 -- a count that was read, before the first node
-abbrev pub begunOf : NumberRead → Progressed
-begunOf (NumberRead.Number n next) = Progressed.Read (record { nodes = 0; hashes = 0; at = next })
-begunOf (NumberRead.Refused why) = Progressed.Refused why
+abbrev pub begun_of : NumberRead → Progressed
+begun_of (NumberRead.Number n next) = Progressed.Read (record { nodes = 0; hashes = 0; at = next })
+begun_of (NumberRead.Refused why) = Progressed.Refused why

@@ -3,19 +3,19 @@
 // A node's bits are read by value, and only then do its bytes and its record go into the stores.
 // A refusal leaves both stores zero; else they hold the table, and zeros after it.
 ghost use Rattle.std.specs.Prelude.{◌≡◌, [], ◌+◌, ◌*◌, ◌-◌, ◌/◌, ◌<◌, ◌≤◌, length};
-ghost use Rattle.limits.specs.Limits.{dossierBytes, nodeCount, nodeNumbers, wordMost};
+ghost use Rattle.limits.specs.Limits.{dossier_bytes, node_count, node_numbers, word_most};
 ghost use Rattle.refusal.specs.declared.Refusal.TheVariants.{Closing};
 ghost use Rattle.scope.specs.Check.{require};
-ghost use Rattle.scope.specs.Numbers.{streamOf};
-ghost use Rattle.scope.specs.Reading.{refusalAt, naturalUpTo, child, combinator as combinatorAt, word_item, node as nodeAt, nodesFrom};
-ghost use Rattle.scope.specs.Closing.{closes, decode as decodeAll};
-ghost use Rattle.bititer.specs.Answers.{naturalFault, bytesFault, gotBytes, stored, storing};
-ghost use Rattle.bititer.specs.Windows.{naturalEntries};
-ghost use Rattle.common.specs.Answers.{checkOf};
-ghost use Rattle.table.specs.Answers.{recordOf};
+ghost use Rattle.scope.specs.Numbers.{stream_of};
+ghost use Rattle.scope.specs.Reading.{refusal_at, natural_up_to, child, combinator as combinator_at, word_item, node as node_at, nodes_from};
+ghost use Rattle.scope.specs.Closing.{closes, decode as decode_all};
+ghost use Rattle.bititer.specs.Answers.{natural_fault, bytes_fault, got_bytes, stored, storing};
+ghost use Rattle.bititer.specs.Windows.{natural_entries};
+ghost use Rattle.common.specs.Answers.{check_of};
+ghost use Rattle.table.specs.Answers.{record_of};
 ghost use Rattle.decode.specs.Answers.{number_of, size_of, said_of};
-ghost use Rattle.decode.specs.Heads.{atNode, TableMeans, bytesAfter, withOne, twoChildren, plain, third, last, wordFrom, head_of, countIn, begunOf};
-ghost use Rattle.decode.specs.Stores.{recordPut, NodeMeans, Room, StepMeans, ReadMeans, read_all, settled_of, stoppedOf, table_of, JudgedMeans, DecodedMeans, sizesWith, sizesOf, left, leftBy};
+ghost use Rattle.decode.specs.Heads.{at_node, TableMeans, bytes_after, with_one, two_children_lem, plain, third, last, word_from, head_of, count_in, begun_of};
+ghost use Rattle.decode.specs.Stores.{record_put, NodeMeans, Room, StepMeans, ReadMeans, read_all, settled_of, stopped_of, table_of, JudgedMeans, DecodedMeans, sizes_with, sizes_of, left, left_by};
 
 use bititer::{BytesFault, BytesRead, CodeRead, NaturalRead, WindowRead};
 use common::Checked;
@@ -89,7 +89,7 @@ enum Progressed {
 
 // Why the bytes of node i are refused.
 fn bytes_refusal(why: BytesFault, i: u32) -> Refusal
-    ensures { result ≡ refusalAt i (bytesFault why) }
+    ensures { result ≡ refusal_at i (bytes_fault why) }
 {
     match why {
         BytesFault::Ended => Refusal::StreamEnded(i),
@@ -99,7 +99,7 @@ fn bytes_refusal(why: BytesFault, i: u32) -> Refusal
 
 // A natural of node i, at most `most`, length by length.
 fn number_by_lengths(program: &[u8], at: usize, most: u32, i: u32) -> NumberRead
-    ensures { number_of result ≡ atNode i (naturalUpTo (streamOf program.now) most at) }
+    ensures { number_of result ≡ at_node i (natural_up_to (stream_of program.now) most at) }
 {
     let read = bititer::natural_by_lengths(program, at, most);
     match read {
@@ -113,8 +113,8 @@ fn number_by_lengths(program: &[u8], at: usize, most: u32, i: u32) -> NumberRead
 
 // The natural from a position on by the table of naturals: it, or its length, stands whole in a byte.
 fn by_table(naturals: &[u8; 256], program: &[u8], at: usize) -> TableRead
-    requires { naturals.now ≡ naturalEntries }
-    ensures { TableMeans (streamOf program.now) at result }
+    requires { naturals.now ≡ natural_entries }
+    ensures { TableMeans (stream_of program.now) at result }
 {
     let WindowRead::Read(w) = bititer::window(program, at) else {
         return TableRead::Longer;
@@ -135,8 +135,8 @@ fn by_table(naturals: &[u8; 256], program: &[u8], at: usize) -> TableRead
 
 // A natural of node i, at most `most`: by the table, or else length by length.
 fn number(naturals: &[u8; 256], program: &[u8], at: usize, most: u32, i: u32) -> NumberRead
-    requires { naturals.now ≡ naturalEntries }
-    ensures { number_of result ≡ atNode i (naturalUpTo (streamOf program.now) most at) }
+    requires { naturals.now ≡ natural_entries }
+    ensures { number_of result ≡ at_node i (natural_up_to (stream_of program.now) most at) }
 {
     let TableRead::Read(n, next) = by_table(naturals, program, at) else {
         return number_by_lengths(program, at, most, i);
@@ -149,8 +149,8 @@ fn number(naturals: &[u8; 256], program: &[u8], at: usize, most: u32, i: u32) ->
 
 // A child of node i, told by its distance.
 fn child(naturals: &[u8; 256], program: &[u8], i: u32, at: usize) -> NumberRead
-    requires { naturals.now ≡ naturalEntries }
-    ensures { number_of result ≡ atNode i (child (streamOf program.now) i at) }
+    requires { naturals.now ≡ natural_entries }
+    ensures { number_of result ≡ at_node i (child (stream_of program.now) i at) }
 {
     let distance = number(naturals, program, at, i, i);
     let NumberRead::Number(d, next) = distance else {
@@ -176,7 +176,7 @@ fn head(kind: u32, first: u32, second: u32, follows: Follows) -> NodeHead
 
 // A node with the one number that was read.
 fn one_number(kind: u32, read: NumberRead) -> HeadRead
-    ensures { result ≡ withOne kind read }
+    ensures { result ≡ with_one kind read }
 {
     match read {
         NumberRead::Number(n, next) => HeadRead::Read(head(kind, n, 0, Follows::Nothing), next),
@@ -186,8 +186,8 @@ fn one_number(kind: u32, read: NumberRead) -> HeadRead
 
 // A node with two children. The first distance is judged before the second is read.
 fn two_children(naturals: &[u8; 256], program: &[u8], kind: u32, i: u32, at: usize) -> HeadRead
-    requires { naturals.now ≡ naturalEntries }
-    ensures { head_of (streamOf program.now) i result ≡ atNode i (twoChildren (streamOf program.now) kind i at) }
+    requires { naturals.now ≡ natural_entries }
+    ensures { head_of (stream_of program.now) i result ≡ at_node i (two_children_lem (stream_of program.now) kind i at) }
 {
     let left = child(naturals, program, i, at);
     let NumberRead::Number(a, middle) = left else {
@@ -209,8 +209,8 @@ fn third_group(
     sub: u8,
     at: usize,
 ) -> HeadRead
-    requires { naturals.now ≡ naturalEntries }
-    ensures { head_of (streamOf program.now) i result ≡ atNode i (third (streamOf program.now) i held sub at) }
+    requires { naturals.now ≡ natural_entries }
+    ensures { head_of (stream_of program.now) i result ≡ at_node i (third (stream_of program.now) i held sub at) }
 {
     if sub == 3 {
         return one_number(table::DISCONNECT1, child(naturals, program, i, at));
@@ -223,7 +223,7 @@ fn third_group(
 
 // A witness, or a hidden node.
 fn last_group(program: &[u8], i: u32, held: u32, at: usize) -> HeadRead
-    ensures { head_of (streamOf program.now) i result ≡ atNode i (last (streamOf program.now) held at) }
+    ensures { head_of (stream_of program.now) i result ≡ at_node i (last (stream_of program.now) held at) }
 {
     let CodeRead::Read(sub, next) = bititer::bit(program, at) else {
         return HeadRead::Refused(Refusal::StreamEnded(i));
@@ -243,8 +243,8 @@ fn combinator(
     code: u8,
     at: usize,
 ) -> HeadRead
-    requires { naturals.now ≡ naturalEntries }
-    ensures { head_of (streamOf program.now) i result ≡ atNode i (combinatorAt (streamOf program.now) i held code at) }
+    requires { naturals.now ≡ natural_entries }
+    ensures { head_of (stream_of program.now) i result ≡ at_node i (combinator_at (stream_of program.now) i held code at) }
 {
     if 3 <= code {
         return last_group(program, i, held, at);
@@ -263,8 +263,8 @@ fn combinator(
 
 // A word of n whose bits begin at a position.
 fn word_from(program: &[u8], i: u32, n: u32, first: usize) -> HeadRead
-    requires { (1 ≤ n) × (n ≤ wordMost) × (first ≤ 8 * dossierBytes) × (length program.now ≤ dossierBytes) }
-    ensures { head_of (streamOf program.now) i result ≡ atNode i (wordFrom (streamOf program.now) n first) }
+    requires { (1 ≤ n) × (n ≤ word_most) × (first ≤ 8 * dossier_bytes) × (length program.now ≤ dossier_bytes) }
+    ensures { head_of (stream_of program.now) i result ≡ at_node i (word_from (stream_of program.now) n first) }
 {
     let end = first + common::word_bits(n);
     if program.len() < (end + 7) / 8 {
@@ -275,8 +275,8 @@ fn word_from(program: &[u8], i: u32, n: u32, first: usize) -> HeadRead
 
 // A word after its two bits.
 fn word(naturals: &[u8; 256], program: &[u8], i: u32, at: usize) -> HeadRead
-    requires { naturals.now ≡ naturalEntries }
-    ensures { head_of (streamOf program.now) i result ≡ atNode i (word_item (streamOf program.now) at) }
+    requires { naturals.now ≡ natural_entries }
+    ensures { head_of (stream_of program.now) i result ≡ at_node i (word_item (stream_of program.now) at) }
 {
     let size = number(naturals, program, at, limits::WORD_MOST, i);
     let NumberRead::Number(n, first) = size else {
@@ -287,8 +287,8 @@ fn word(naturals: &[u8; 256], program: &[u8], i: u32, at: usize) -> HeadRead
 
 // The head of node i bit by bit, where the hash store holds so many bytes.
 fn head_by_bits(naturals: &[u8; 256], program: &[u8], i: u32, held: u32, at: usize) -> HeadRead
-    requires { naturals.now ≡ naturalEntries }
-    ensures { head_of (streamOf program.now) i result ≡ atNode i (nodeAt (streamOf program.now) i held at) }
+    requires { naturals.now ≡ natural_entries }
+    ensures { head_of (stream_of program.now) i result ≡ at_node i (node_at (stream_of program.now) i held at) }
 {
     let CodeRead::Read(other, second) = bititer::bit(program, at) else {
         return HeadRead::Refused(Refusal::StreamEnded(i));
@@ -310,8 +310,8 @@ fn head_by_bits(naturals: &[u8; 256], program: &[u8], i: u32, held: u32, at: usi
 
 // The head of node i, where the hash store holds so many bytes: a window has the five bits that are the kind of most.
 fn node_head(naturals: &[u8; 256], program: &[u8], i: u32, held: u32, at: usize) -> HeadRead
-    requires { naturals.now ≡ naturalEntries }
-    ensures { head_of (streamOf program.now) i result ≡ atNode i (nodeAt (streamOf program.now) i held at) }
+    requires { naturals.now ≡ natural_entries }
+    ensures { head_of (stream_of program.now) i result ≡ at_node i (node_at (stream_of program.now) i held at) }
 {
     let WindowRead::Read(w) = bititer::window(program, at) else {
         return head_by_bits(naturals, program, i, held, at);
@@ -349,7 +349,7 @@ fn store_bytes(
     held: usize,
 ) -> BytesRead
     requires { held ≤ length hashes.old }
-    ensures { stored (gotBytes result) hashes.new ≡ storing (bytesAfter (streamOf program.now) follows at) hashes.old held }
+    ensures { stored (got_bytes result) hashes.new ≡ storing (bytes_after (stream_of program.now) follows at) hashes.old held }
 {
     match follows {
         Follows::Nothing => BytesRead::Read(at),
@@ -367,8 +367,8 @@ fn read_node(
     held: u32,
     at: usize,
 ) -> HeadRead
-    requires { (naturals.now ≡ naturalEntries) × (held ≤ length hashes.old) }
-    ensures { NodeMeans (streamOf program.now) i held at hashes.old result hashes.new }
+    requires { (naturals.now ≡ natural_entries) × (held ≤ length hashes.old) }
+    ensures { NodeMeans (stream_of program.now) i held at hashes.old result hashes.new }
 {
     let read = node_head(naturals, program, i, held, at);
     let HeadRead::Read(h, middle) = read else {
@@ -384,8 +384,8 @@ fn read_node(
 
 // A record into the node store.
 fn put_record(nodes: &mut [u32], i: u32, r: NodeRecord)
-    requires { nodeNumbers * i + nodeNumbers ≤ length nodes.old }
-    ensures { nodes.new ≡ recordPut nodes.old i (recordOf r) }
+    requires { node_numbers * i + node_numbers ≤ length nodes.old }
+    ensures { nodes.new ≡ record_put nodes.old i (record_of r) }
 {
     let at = limits::NODE_NUMBERS * common::place(i);
     nodes[at] = r.kind;
@@ -402,8 +402,8 @@ fn next_node(
     hashes: &mut [u8],
     done: Progress,
 ) -> Progressed
-    requires { (naturals.now ≡ naturalEntries) × (Room nodes.old hashes.old done) }
-    ensures { StepMeans (streamOf program.now) nodes.old hashes.old done result nodes.new hashes.new }
+    requires { (naturals.now ≡ natural_entries) × (Room nodes.old hashes.old done) }
+    ensures { StepMeans (stream_of program.now) nodes.old hashes.old done result nodes.new hashes.new }
 {
     let i = done.nodes;
     let read = read_node(naturals, program, hashes, i, done.hashes, done.at);
@@ -431,8 +431,8 @@ fn read_nodes(
     count: u32,
     first: usize,
 ) -> Progressed
-    requires { (naturals.now ≡ naturalEntries) × ((1 ≤ count) × (count ≤ nodeCount) × (nodeNumbers * count ≤ length nodes.old)) }
-    ensures { ReadMeans (nodesFrom (streamOf program.now) (length hashes.old) count 0 [] [] first) result
+    requires { (naturals.now ≡ natural_entries) × ((1 ≤ count) × (count ≤ node_count) × (node_numbers * count ≤ length nodes.old)) }
+    ensures { ReadMeans (nodes_from (stream_of program.now) (length hashes.old) count 0 [] [] first) result
         nodes.new hashes.new }
 {
     let mut done = Progress {
@@ -452,8 +452,8 @@ fn read_nodes(
 
 // The count of nodes (3, 4), which the node store has room for (17 at 3).
 fn read_count(naturals: &[u8; 256], program: &[u8], room: usize) -> NumberRead
-    requires { naturals.now ≡ naturalEntries }
-    ensures { number_of result ≡ countIn (streamOf program.now) room }
+    requires { naturals.now ≡ natural_entries }
+    ensures { number_of result ≡ count_in (stream_of program.now) room }
 {
     let count = number(naturals, program, 0, limits::NODE_COUNT as u32, 0);
     let NumberRead::Number(n, next) = count else {
@@ -467,7 +467,7 @@ fn read_count(naturals: &[u8; 256], program: &[u8], room: usize) -> NumberRead
 
 // After the count, before the first node.
 fn begun(count: NumberRead) -> Progressed
-    ensures { result ≡ begunOf count }
+    ensures { result ≡ begun_of count }
 {
     match count {
         NumberRead::Number(_, next) => Progressed::Read(Progress {
@@ -481,7 +481,7 @@ fn begun(count: NumberRead) -> Progressed
 
 // All nodes, into both stores, of a program that is not too long (1).
 fn read_table(program: &[u8], nodes: &mut [u32], hashes: &mut [u8]) -> Progressed
-    ensures { ReadMeans (read_all program.now (length nodes.old / nodeNumbers) (length hashes.old)) result
+    ensures { ReadMeans (read_all program.now (length nodes.old / node_numbers) (length hashes.old)) result
         nodes.new hashes.new }
 {
     if limits::DOSSIER_BYTES < program.len() {
@@ -497,7 +497,7 @@ fn read_table(program: &[u8], nodes: &mut [u32], hashes: &mut [u8]) -> Progresse
 
 // So many records and so many bytes.
 fn sized(nodes: u32, hashes: u32) -> Sizes
-    ensures { result ≡ sizesWith nodes hashes }
+    ensures { result ≡ sizes_with nodes hashes }
 {
     Sizes { nodes, hashes }
 }
@@ -514,7 +514,7 @@ fn settled(check: Checked, sizes: Sizes) -> Decoded
 
 // No whole byte is left after the last node, and the padding is zero (10).
 fn closing(program: &[u8], done: Progress) -> Checked
-    ensures { checkOf result ≡ require (closes (streamOf program.now) done.at) (Closing done.nodes) }
+    ensures { check_of result ≡ require (closes (stream_of program.now) done.at) (Closing done.nodes) }
 {
     if bititer::closes(program, done.at) {
         return Checked::Passed;
@@ -524,7 +524,7 @@ fn closing(program: &[u8], done: Progress) -> Checked
 
 // The walk, and then the closing, of a table that was read.
 fn judged(program: &[u8], nodes: &[u32], hashes: &[u8], done: Progress) -> Decoded
-    requires { (length nodes.now ≡ nodeNumbers * done.nodes) × (1 ≤ done.nodes) × (done.nodes ≤ nodeCount) }
+    requires { (length nodes.now ≡ node_numbers * done.nodes) × (1 ≤ done.nodes) × (done.nodes ≤ node_count) }
     ensures { JudgedMeans program.now (table_of nodes.now hashes.now done) done result }
 {
     let sizes = sized(done.nodes, done.hashes);
@@ -541,7 +541,7 @@ fn judged(program: &[u8], nodes: &[u32], hashes: &[u8], done: Progress) -> Decod
 
 // The sizes that were read, or why reading stopped.
 fn stopped(read: Progressed) -> Decoded
-    ensures { result ≡ stoppedOf read }
+    ensures { result ≡ stopped_of read }
 {
     match read {
         Progressed::Read(done) => Decoded::Table(sized(done.nodes, done.hashes)),
@@ -551,7 +551,7 @@ fn stopped(read: Progressed) -> Decoded
 
 // Reading, walk and closing. The stores hold what was read, and are not cleared yet.
 fn checked_table(program: &[u8], nodes: &mut [u32], hashes: &mut [u8]) -> Decoded
-    ensures { DecodedMeans (decodeAll program.now (length nodes.old / nodeNumbers) (length hashes.old)) result
+    ensures { DecodedMeans (decode_all program.now (length nodes.old / node_numbers) (length hashes.old)) result
         nodes.new hashes.new }
 {
     let read = read_table(program, nodes, hashes);
@@ -568,7 +568,7 @@ fn checked_table(program: &[u8], nodes: &mut [u32], hashes: &mut [u8]) -> Decode
 
 // How much of the stores is kept: the table, or nothing.
 fn sizes_of(answer: Decoded) -> Sizes
-    ensures { result ≡ sizesOf answer }
+    ensures { result ≡ sizes_of answer }
 {
     match answer {
         Decoded::Table(sizes) => sizes,
@@ -579,7 +579,7 @@ fn sizes_of(answer: Decoded) -> Sizes
 // A program's bytes into the lent stores.
 pub fn decode(program: &[u8], nodes: &mut [u32], hashes: &mut [u8]) -> Decoded
     ensures { left (said_of result) nodes.new hashes.new
-        ≡ leftBy (decodeAll program.now (length nodes.old / nodeNumbers) (length hashes.old))
+        ≡ left_by (decode_all program.now (length nodes.old / node_numbers) (length hashes.old))
         nodes.old hashes.old }
 {
     let answer = checked_table(program, nodes, hashes);

@@ -3,34 +3,34 @@ use mathlib.Core.Path.{◌≡◌, refl, sym, ap, ◌∙◌}
 use mathlib.Core.List.{List}
 use Prim.Native.Nat.{ℕ}
 use lib.ListN.{length}
-use Rattle.limits.specs.Limits.{typeCount}
+use Rattle.limits.specs.Limits.{type_count}
 use Rattle.refusal.specs.declared.Refusal.{Refusal}
 use Rattle.scope.specs.Check.{Check, passed, refused, ◌>>=◌}
-use Rattle.scope.specs.Header.{checkHeader, section, sTypes}
-use Rattle.scope.specs.Types.{typeRecords, checkTypes}
+use Rattle.scope.specs.Header.{check_header, section, s_types}
+use Rattle.scope.specs.Types.{type_records, check_types}
 use Rattle.scope.specs.Stages.{counted}
-use Rattle.common.specs.Checks.{then-passes}
-use Rattle.common.specs.Answers.{checkOf}
+use Rattle.common.specs.Checks.{then_passes}
+use Rattle.common.specs.Answers.{check_of}
 use Rattle.common.specs.declared.Checked.{Checked}
 use Rattle.common.specs.declared.Checked.TheVariants as Checked
-use Rattle.types.specs.Table.{countedTypes}
+use Rattle.types.specs.Table.{counted_types}
 use Rattle.dossier.specs.Ends.{front}
-use Rattle.dossier.proofs.Decoded.{types-counted}
+use Rattle.dossier.proofs.Decoded.{types_counted}
 
-module _ (d : List ℕ) (header : Checked) (checks : checkOf header ≡ checkHeader d) where
+module _ (d : List ℕ) (header : Checked) (checks : check_of header ≡ check_header d) where
   -- a wrong header is the answer
-  pub front-refused : (why : Refusal) → header ≡ Checked.Refused why → checkOf header ≡ front d
+  pub front_refused : (why : Refusal) → header ≡ Checked.Refused why → check_of header ≡ front d
   unfolding front ◌>>=◌
-  front-refused why e =
-      let wrong : checkHeader d ≡ refused why = sym checks ∙ ap checkOf e in
-      rw (wrong, ◌>>=◌) (ap checkOf e)
+  front_refused why e =
+      let wrong : check_header d ≡ refused why = sym checks ∙ ap check_of e in
+      rw (wrong, ◌>>=◌) (ap check_of e)
 
   -- and else what the type table's check says, which then has a record and not too many
-  pub front-types : header ≡ Checked.Passed → (typed : Checked) → checkOf typed ≡ countedTypes (section d sTypes) → checkOf typed ≡ front d
-  unfolding front countedTypes
-  front-types e typed h =
-      let right : checkHeader d ≡ passed tt = sym checks ∙ ap checkOf e in
+  pub front_types : header ≡ Checked.Passed → (typed : Checked) → check_of typed ≡ counted_types (section d s_types) → check_of typed ≡ front d
+  unfolding front counted_types
+  front_types e typed h =
+      let right : check_header d ≡ passed tt = sym checks ∙ ap check_of e in
       h
-      ∙ then-passes (counted (length (typeRecords (section d sTypes))) typeCount)
-      (λ some. checkTypes (typeRecords (section d sTypes))) tt (types-counted d right)
-      ∙ sym (then-passes (checkHeader d) (λ header. checkTypes (typeRecords (section d sTypes))) tt right)
+      ∙ then_passes (counted (length (type_records (section d s_types))) type_count)
+      (λ some. check_types (type_records (section d s_types))) tt (types_counted d right)
+      ∙ sym (then_passes (check_header d) (λ header. check_types (type_records (section d s_types))) tt right)

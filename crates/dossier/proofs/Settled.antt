@@ -7,14 +7,14 @@ use native.Mathlib.Omega.{arith}
 use lib.ListN.{length}
 use Rattle.refusal.specs.declared.Answer.{Answer}
 use Rattle.scope.specs.Numbers.{zeros}
-use Rattle.common.specs.Stores.{cleared, all-cleared}
+use Rattle.common.specs.Stores.{cleared, all_cleared}
 use Rattle.dossier.specs.Ends.{keeps, settled}
 
 module _ (said : Answer) (store : List ℕ) where
-  pub settled-kept : true ≡ keeps said → store ≡ settled said store
+  pub settled_kept : true ≡ keeps said → store ≡ settled said store
   unfolding settled
-  settled-kept e = rw (sym e, settled)
+  settled_kept e = rw (sym e, settled)
 
   pub settled-cleared : false ≡ keeps said → cleared store 0 ≡ settled said store
   unfolding settled
-  settled-cleared e = rw (sym e, settled) (all-cleared store)
+  settled-cleared e = rw (sym e, settled) (all_cleared store)

@@ -2,10 +2,10 @@
 // The header and the types are checked (1, 2), the program is decoded (3 to 10, 21), and the run stage does the rest on the decoded table (11 to 19).
 // Where `refusal::keeps_table` says no, the node and hash stores are zero: no table is left.
 ghost use Rattle.std.specs.Prelude.{◌≡◌};
-ghost use Rattle.scope.specs.Header.{checkHeader};
-ghost use Rattle.scope.specs.Run.{leftWith, endedWith, run};
-ghost use Rattle.common.specs.Answers.{checkOf};
-ghost use Rattle.dossier.specs.Ends.{front, keeps, settled, undecodedOf, sectionsRun};
+ghost use Rattle.scope.specs.Header.{check_header};
+ghost use Rattle.scope.specs.Run.{left_with, ended_with, run};
+ghost use Rattle.common.specs.Answers.{check_of};
+ghost use Rattle.dossier.specs.Ends.{front, keeps, settled, undecoded_of, sections_run};
 
 use common::Checked;
 use decode::Decoded;
@@ -26,7 +26,7 @@ const HASHES: usize = 5;
 
 // The header, then the type table: 1 and 2.
 fn check_front(dossier: &[u8]) -> Checked
-    ensures { checkOf result ≡ front dossier.now }
+    ensures { check_of result ≡ front dossier.now }
 {
     let header = header::check_header(dossier);
     let Checked::Passed = header else {
@@ -59,7 +59,7 @@ fn settle(said: Answer, nodes: &mut [u32], hashes: &mut [u8])
 
 // The refusal of decoding.
 fn undecoded(decoded: Decoded) -> Answer
-    ensures { result ≡ undecodedOf decoded }
+    ensures { result ≡ undecoded_of decoded }
 {
     match decoded {
         Decoded::Table(_) => Answer::Value(0),
@@ -76,8 +76,8 @@ fn run_decoded<'a>(
     frames: &mut [u32],
     answer: &mut [u8],
 ) -> Answer
-    ensures { leftWith result cells.new frames.new answer.new
-        ≡ sectionsRun dossier.now nodes.now hashes.now cells.old frames.old answer.old }
+    ensures { left_with result cells.new frames.new answer.new
+        ≡ sections_run dossier.now nodes.now hashes.now cells.old frames.old answer.old }
 {
     bit_machine::run_stage(
         header::section(dossier, TYPES),
@@ -105,7 +105,7 @@ pub fn run(
     frames: &mut [u32],
     answer: &mut [u8],
 ) -> Answer
-    ensures { endedWith result nodes.new hashes.new cells.new frames.new answer.new
+    ensures { ended_with result nodes.new hashes.new cells.new frames.new answer.new
         ≡ run dossier.now nodes.old hashes.old cells.old frames.old answer.old }
 {
     let front = check_front(dossier);

@@ -6,87 +6,87 @@ use mathlib.Core.List.{List, [], ◌∷◌}
 use Prim.Native.Nat.{ℕ, zero, suc, ◌+◌, ◌*◌, ◌-◌, ◌^◌, ◌≤◌, ◌<◌}
 use native.Mathlib.Omega.{arith}
 use lib.Dec.{eqb, leb}
-use lib.ListN.{length, get_or, take as takeL, drop as drop_l}
+use lib.ListN.{length, get_or, take as take_l, drop as drop_l}
 use borrow.Author.Tests.{leb-true}
-use Rattle.limits.specs.Limits.{dossierBytes, wordMost}
+use Rattle.limits.specs.Limits.{dossier_bytes, word_most}
 use Rattle.report.specs.Bits.{bits_of}
 use Rattle.report.specs.Nodes.{Node}
-use Rattle.scope.specs.Numbers.{every, anyBelow, streamOf}
-use Rattle.scope.specs.Nodes.{Kind, kComp, kCase, kPair, kDisconnect, kInjl, kInjr, kTake, kDrop, kIden, kUnit, kFail, kDisconnect1, kWitness, kHidden, kWord, kUnknown, kind_of, NodeRecord, nodeRecords, node_of, nodesOf, nodeAt}
-use Rattle.scope.specs.Equal.{key_of, sameKey}
-use Rattle.scope.specs.Arrows.{arrowRecords, source, target, equalNodes, repeats}
-use Rattle.scope.specs.Stages.{numbersRule, noRecord, recordRule}
-use Rattle.common.specs.Checks.{clash, every-all}
-use Rattle.common.specs.Bits.{stream-within, length-bits}
-use Rattle.common.specs.Nodes.{node_at}
-use Rattle.common.specs.Words.{wordBits, word-has}
-use Rattle.common.specs.Cells.{bitsFrom}
-use Rattle.cells.proofs.Parts.{bits-within}
-use Rattle.equal.specs.Keys.{keyFrom, key_at, equalAt, fresh}
+use Rattle.scope.specs.Numbers.{every, any_below, stream_of}
+use Rattle.scope.specs.Nodes.{Kind, k_comp, k_case, k_pair, k_disconnect, k_injl, k_injr, k_take, k_drop, k_iden, k_unit, k_fail, k_disconnect1, k_witness, k_hidden, k_word, k_unknown, kind_of, NodeRecord, node_records, node_of, nodes_of, node_at}
+use Rattle.scope.specs.Equal.{key_of, same_key}
+use Rattle.scope.specs.Arrows.{arrow_records, source, target, equal_nodes, repeats}
+use Rattle.scope.specs.Stages.{numbers_rule, no_record, record_rule}
+use Rattle.common.specs.Checks.{clash, every_all}
+use Rattle.common.specs.Bits.{stream_within, length_bits}
+use Rattle.common.specs.Nodes.{node_at_lem}
+use Rattle.common.specs.Words.{word_bits, word_has}
+use Rattle.common.specs.Cells.{bits_from}
+use Rattle.cells.proofs.Parts.{bits_within}
+use Rattle.equal.specs.Keys.{key_from, key_at, equal_at, fresh}
 
 -- a word whose numbers keep the rule has its bits in the program
-word-key : (program : List ℕ) (bytes i a b c : ℕ) → length program ≤ dossierBytes → numbersRule (8 * length program) bytes i kWord a b c ≡ true
-    → bitsFrom (bits_of program) b (wordBits a) ≡ takeL (2 ^ (a - 1)) (drop_l b (streamOf program))
-unfolding numbersRule
-word-key program bytes i a b c fits e = go (every (leb 1 a ∷ leb a wordMost ∷ eqb c 0 ∷ [])) refl e
+word_key : (program : List ℕ) (bytes i a b c : ℕ) → length program ≤ dossier_bytes → numbers_rule (8 * length program) bytes i k_word a b c ≡ true
+    → bits_from (bits_of program) b (word_bits a) ≡ take_l (2 ^ (a - 1)) (drop_l b (stream_of program))
+unfolding numbers_rule
+word_key program bytes i a b c fits e = go (every (leb 1 a ∷ leb a word_most ∷ eqb c 0 ∷ [])) refl e
   where
-    go : (ok : Bool) → every (leb 1 a ∷ leb a wordMost ∷ eqb c 0 ∷ []) ≡ ok
+    go : (ok : Bool) → every (leb 1 a ∷ leb a word_most ∷ eqb c 0 ∷ []) ≡ ok
         → elim ok [ true ↦ leb (b + 2 ^ (a - 1)) (8 * length program) | false ↦ false ] ≡ true
-        → bitsFrom (bits_of program) b (wordBits a) ≡ takeL (2 ^ (a - 1)) (drop_l b (streamOf program))
+        → bits_from (bits_of program) b (word_bits a) ≡ take_l (2 ^ (a - 1)) (drop_l b (stream_of program))
     go true p e =
-        let q = every-all (leb 1 a ∷ leb a wordMost ∷ eqb c 0 ∷ []) p in
-        let n = word-has a (leb-true 1 a q.0) (leb-true a wordMost q.1.0) in
+        let q = every_all (leb 1 a ∷ leb a word_most ∷ eqb c 0 ∷ []) p in
+        let n = word_has a (leb-true 1 a q.0) (leb-true a word_most q.1.0) in
         let within = leb-true (b + 2 ^ (a - 1)) (8 * length program) e in
-        ap (bitsFrom (bits_of program) b) n ∙ bits-within (bits_of program) b (2 ^ (a - 1)) (omega (arith, within, length-bits program))
-        ∙ ap (λ (l : List ℕ). takeL (2 ^ (a - 1)) (drop_l b l)) (sym (stream-within program fits))
+        ap (bits_from (bits_of program) b) n ∙ bits_within (bits_of program) b (2 ^ (a - 1)) (omega (arith, within, length_bits program))
+        ∙ ap (λ (l : List ℕ). take_l (2 ^ (a - 1)) (drop_l b l)) (sym (stream_within program fits))
     go false p e = clash (cc)
 
 -- the key of a record is its node's
-kind-key : (program hashes : List ℕ) (i : ℕ) (kind : Kind) (a b c : ℕ) → length program ≤ dossierBytes
-    → numbersRule (8 * length program) (length hashes) i kind a b c ≡ true → keyFrom program hashes kind a b ≡ key_of (node_of (streamOf program) hashes kind a b)
-unfolding keyFrom key_of node_of numbersRule
-kind-key program hashes i kComp a b c fits e = refl
-kind-key program hashes i kCase a b c fits e = refl
-kind-key program hashes i kPair a b c fits e = refl
-kind-key program hashes i kDisconnect a b c fits e = refl
-kind-key program hashes i kInjl a b c fits e = refl
-kind-key program hashes i kInjr a b c fits e = refl
-kind-key program hashes i kTake a b c fits e = refl
-kind-key program hashes i kDrop a b c fits e = refl
-kind-key program hashes i kIden a b c fits e = refl
-kind-key program hashes i kUnit a b c fits e = refl
-kind-key program hashes i kFail a b c fits e = refl
-kind-key program hashes i kDisconnect1 a b c fits e = refl
-kind-key program hashes i kWitness a b c fits e = refl
-kind-key program hashes i kHidden a b c fits e = refl
-kind-key program hashes i kWord a b c fits e = ap (λ (l : List ℕ). 14 ∷ a ∷ l) (word-key program (length hashes) i a b c fits e)
-kind-key program hashes i kUnknown a b c fits e = clash (cc)
+kind_key : (program hashes : List ℕ) (i : ℕ) (kind : Kind) (a b c : ℕ) → length program ≤ dossier_bytes
+    → numbers_rule (8 * length program) (length hashes) i kind a b c ≡ true → key_from program hashes kind a b ≡ key_of (node_of (stream_of program) hashes kind a b)
+unfolding key_from key_of node_of numbers_rule
+kind_key program hashes i k_comp a b c fits e = refl
+kind_key program hashes i k_case a b c fits e = refl
+kind_key program hashes i k_pair a b c fits e = refl
+kind_key program hashes i k_disconnect a b c fits e = refl
+kind_key program hashes i k_injl a b c fits e = refl
+kind_key program hashes i k_injr a b c fits e = refl
+kind_key program hashes i k_take a b c fits e = refl
+kind_key program hashes i k_drop a b c fits e = refl
+kind_key program hashes i k_iden a b c fits e = refl
+kind_key program hashes i k_unit a b c fits e = refl
+kind_key program hashes i k_fail a b c fits e = refl
+kind_key program hashes i k_disconnect1 a b c fits e = refl
+kind_key program hashes i k_witness a b c fits e = refl
+kind_key program hashes i k_hidden a b c fits e = refl
+kind_key program hashes i k_word a b c fits e = ap (λ (l : List ℕ). 14 ∷ a ∷ l) (word_key program (length hashes) i a b c fits e)
+kind_key program hashes i k_unknown a b c fits e = clash (cc)
 
 -- tests that are alike below n
-any-alike : (n : ℕ) (test test' : ℕ → Bool) → ((j : ℕ) → j < n → test j ≡ test' j) → anyBelow n test ≡ anyBelow n test'
-unfolding anyBelow
-any-alike zero test test' h = refl
-any-alike (suc n) test test' h =
-    ap₂ (λ (b c : Bool). elim b [ true ↦ true | false ↦ c ]) (h n (omega arith)) (any-alike n test test' (λ j l. h j (omega arith)))
+any_alike : (n : ℕ) (test test' : ℕ → Bool) → ((j : ℕ) → j < n → test j ≡ test' j) → any_below n test ≡ any_below n test'
+unfolding any_below
+any_alike zero test test' h = refl
+any_alike (suc n) test test' h =
+    ap₂ (λ (b c : Bool). elim b [ true ↦ true | false ↦ c ]) (h n (omega arith)) (any_alike n test test' (λ j l. h j (omega arith)))
 
-module _ (nodes arrows program hashes : List ℕ) (fits : length program ≤ dossierBytes)
-    (kept : (i : ℕ) → i < length (nodeRecords nodes) → recordRule (8 * length program) (length hashes) (nodeRecords nodes) i ≡ true) where
+module _ (nodes arrows program hashes : List ℕ) (fits : length program ≤ dossier_bytes)
+    (kept : (i : ℕ) → i < length (node_records nodes) → record_rule (8 * length program) (length hashes) (node_records nodes) i ≡ true) where
   -- the nodes that the tables stand for
   abbrev ns : List Node
-  ns = nodesOf (streamOf program) hashes (nodeRecords nodes)
+  ns = nodes_of (stream_of program) hashes (node_records nodes)
 
-  key-is : (i : ℕ) → i < length (nodeRecords nodes) → key_at nodes arrows program hashes i ≡ key_of (nodeAt ns i)
-  unfolding key_at recordRule
-  key-is i l =
-      let r : NodeRecord = get_or (nodeRecords nodes) i noRecord in
-      kind-key program hashes i (kind_of r.kind) r.first r.second r.third fits (kept i l)
-      ∙ ap key_of (sym (node_at (streamOf program) hashes (nodeRecords nodes) i))
+  key_is : (i : ℕ) → i < length (node_records nodes) → key_at nodes arrows program hashes i ≡ key_of (node_at ns i)
+  unfolding key_at record_rule
+  key_is i l =
+      let r : NodeRecord = get_or (node_records nodes) i no_record in
+      kind_key program hashes i (kind_of r.kind) r.first r.second r.third fits (kept i l)
+      ∙ ap key_of (sym (node_at_lem (stream_of program) hashes (node_records nodes) i))
 
   -- A NODE IS FRESH EXACTLY IF IT REPEATS NONE
-  pub fresh-is : (i : ℕ) → i < length (nodeRecords nodes) → fresh nodes arrows program hashes i ≡ not (repeats ns (arrowRecords arrows) i)
-  unfolding fresh equalAt repeats equalNodes
-  fresh-is i l =
-      let A = arrowRecords arrows in
-      ap not (any-alike i (λ j. equalAt nodes arrows program hashes j i) (λ j. equalNodes ns A j i)
-      (λ j m. ap₂ (λ (x y : List ℕ). every (sameKey x y ∷ eqb (source A j) (source A i) ∷ eqb (target A j) (target A i) ∷ []))
-      (key-is j (omega arith)) (key-is i l)))
+  pub fresh_is : (i : ℕ) → i < length (node_records nodes) → fresh nodes arrows program hashes i ≡ not (repeats ns (arrow_records arrows) i)
+  unfolding fresh equal_at repeats equal_nodes
+  fresh_is i l =
+      let A = arrow_records arrows in
+      ap not (any_alike i (λ j. equal_at nodes arrows program hashes j i) (λ j. equal_nodes ns A j i)
+      (λ j m. ap₂ (λ (x y : List ℕ). every (same_key x y ∷ eqb (source A j) (source A i) ∷ eqb (target A j) (target A i) ∷ []))
+      (key_is j (omega arith)) (key_is i l)))

@@ -4,5 +4,5 @@ use Rattle.promise.specs.Outcomes.{OneResult}
 use Rattle.equal.proofs.first_repeat.Kinds as first-repeat-kinds
 use Rattle.equal.proofs.first_repeat.Reads as first-repeat-reads
 
-pub first-repeat : OneResult 4 first-repeat-kinds.ps first-repeat-kinds.r first-repeat-reads.Post
-first-repeat κs a s t x y p q = p ∙ sym q
+pub first_repeat_lem : OneResult 4 first-repeat-kinds.ps first-repeat-kinds.r first-repeat-reads.Post
+first_repeat_lem κs a s t x y p q = p ∙ sym q

@@ -2,17 +2,17 @@
 // Each node falls into a bucket by its numbers, its bits and its arrow, and is held against the earlier nodes of its bucket alone. Two arrays
 // lead through the buckets: to the latest node of each, and from each node to the one before it; entries are one more than a node, 0 is none.
 ghost use Rattle.std.specs.Prelude.{◌≡◌, not, List, [], ◌∷◌, ℕ, ◌+◌, ◌*◌, ◌-◌, ◌%◌, ◌^◌, ◌<◌, ◌≤◌, min, length, get_or};
-ghost use Rattle.limits.specs.Limits.{nodeCount};
-ghost use Rattle.report.specs.Bits.{bits_of, numberFrom};
+ghost use Rattle.limits.specs.Limits.{node_count};
+ghost use Rattle.report.specs.Bits.{bits_of, number_from};
 ghost use Rattle.scope.specs.Numbers.{same};
-ghost use Rattle.scope.specs.Nodes.{nodeRecords};
-ghost use Rattle.scope.specs.Equal.{sameKey};
-ghost use Rattle.scope.specs.Arrows.{arrowRecords, target};
-ghost use Rattle.common.specs.Words.{wordBits};
-ghost use Rattle.common.specs.Cells.{bitsFrom};
-ghost use Rattle.table.specs.Answers.{recordOf};
-ghost use Rattle.equal.specs.Keys.{recordKey, equalAt, fresh, firstRepeat};
-ghost use Rattle.equal.specs.Buckets.{buckets, keyNumber, arrowNumber, bucketAt, Last, Chained};
+ghost use Rattle.scope.specs.Nodes.{node_records};
+ghost use Rattle.scope.specs.Equal.{same_key};
+ghost use Rattle.scope.specs.Arrows.{arrow_records, target};
+ghost use Rattle.common.specs.Words.{word_bits};
+ghost use Rattle.common.specs.Cells.{bits_from};
+ghost use Rattle.table.specs.Answers.{record_of};
+ghost use Rattle.equal.specs.Keys.{record_key, equal_at, fresh, first_repeat};
+ghost use Rattle.equal.specs.Buckets.{buckets, key_number, arrow_number, bucket_at, Last, Chained};
 
 use table::NodeRecord;
 
@@ -21,7 +21,7 @@ const BUCKETS: usize = 8_179;
 
 // The arrow of node i as one number; 0 past the end of the table.
 fn arrow_number(arrows: &[u8], i: usize) -> usize
-    ensures { (result ≡ arrowNumber (arrowRecords arrows.now) i) × (target (arrowRecords arrows.now) i < 65536)
+    ensures { (result ≡ arrow_number (arrow_records arrows.now) i) × (target (arrow_records arrows.now) i < 65536)
         × (result < 2 ^ 32) }
 {
     if i < arrows.len() / limits::ARROW_BYTES {
@@ -35,7 +35,7 @@ fn arrow_number(arrows: &[u8], i: usize) -> usize
 // The number whose binary digits are those of another and then n bits from p on, as far as buckets tell it; eight bits at once where there are as many.
 fn bits_number(s: &[u8], p: usize, n: usize, start: usize) -> usize
     requires { (p + n < 2 ^ 40) × (start < 2 ^ 40) }
-    ensures { result ≡ numberFrom start (bitsFrom (bits_of s.now) p n) % buckets }
+    ensures { result ≡ number_from start (bits_from (bits_of s.now) p n) % buckets }
 {
     let mut at = p;
     let mut left = n;
@@ -58,7 +58,7 @@ fn bits_number(s: &[u8], p: usize, n: usize, start: usize) -> usize
 // The same of bytes, each in the place of a digit.
 fn bytes_number(bytes: &[u8], start: usize) -> usize
     requires { start < 2 ^ 40 }
-    ensures { result ≡ numberFrom start bytes.now % buckets }
+    ensures { result ≡ number_from start bytes.now % buckets }
 {
     let mut k: usize = 0;
     let mut number = start;
@@ -72,7 +72,7 @@ fn bytes_number(bytes: &[u8], start: usize) -> usize
 // The number of the key of a record whose kind has no child, or of a disconnect with one.
 fn leaf_number(program: &[u8], hashes: &[u8], r: NodeRecord) -> usize
     requires { 7 < r.kind }
-    ensures { result ≡ keyNumber (recordKey program.now hashes.now (recordOf r)) }
+    ensures { result ≡ key_number (record_key program.now hashes.now (record_of r)) }
 {
     let kind = r.kind;
     match kind {
@@ -94,7 +94,7 @@ fn leaf_number(program: &[u8], hashes: &[u8], r: NodeRecord) -> usize
 
 // The number of a record's key; BUCKETS if it has none.
 fn key_number(program: &[u8], hashes: &[u8], r: NodeRecord) -> usize
-    ensures { result ≡ keyNumber (recordKey program.now hashes.now (recordOf r)) }
+    ensures { result ≡ key_number (record_key program.now hashes.now (record_of r)) }
 {
     if table::DROP < r.kind {
         return leaf_number(program, hashes, r);
@@ -111,7 +111,7 @@ fn key_number(program: &[u8], hashes: &[u8], r: NodeRecord) -> usize
 
 // The bucket of node i; BUCKETS if it has no key.
 fn bucket(nodes: &[u32], arrows: &[u8], program: &[u8], hashes: &[u8], i: usize) -> usize
-    ensures { result ≡ bucketAt nodes.now arrows.now program.now hashes.now i }
+    ensures { result ≡ bucket_at nodes.now arrows.now program.now hashes.now i }
 {
     let number = key_number(program, hashes, table::record_in(nodes, i));
     if number == BUCKETS {
@@ -123,7 +123,7 @@ fn bucket(nodes: &[u32], arrows: &[u8], program: &[u8], hashes: &[u8], i: usize)
 // Whether n bits from p on are those from q on; eight bits at once where there are as many.
 fn same_bits(s: &[u8], p: usize, q: usize, n: usize) -> bool
     requires { (p + n < 2 ^ 40) × (q + n < 2 ^ 40) }
-    ensures { result ≡ same (bitsFrom (bits_of s.now) p n) (bitsFrom (bits_of s.now) q n) }
+    ensures { result ≡ same (bits_from (bits_of s.now) p n) (bits_from (bits_of s.now) q n) }
 {
     let mut k: usize = 0;
     while k < n {
@@ -147,8 +147,8 @@ fn same_bits(s: &[u8], p: usize, q: usize, n: usize) -> bool
 // Whether two records of one kind, which has no child or is a disconnect with one, have the same key.
 fn same_leaf(program: &[u8], hashes: &[u8], r: NodeRecord, s: NodeRecord) -> bool
     requires { (7 < r.kind) × (r.kind ≡ s.kind) }
-    ensures { result ≡ sameKey (recordKey program.now hashes.now (recordOf r))
-        (recordKey program.now hashes.now (recordOf s)) }
+    ensures { result ≡ same_key (record_key program.now hashes.now (record_of r))
+        (record_key program.now hashes.now (record_of s)) }
 {
     let kind = r.kind;
     match kind {
@@ -165,8 +165,8 @@ fn same_leaf(program: &[u8], hashes: &[u8], r: NodeRecord, s: NodeRecord) -> boo
 
 // Whether two words have the same n and the same bits.
 fn same_word(program: &[u8], r: NodeRecord, s: NodeRecord) -> bool
-    ensures { result ≡ same (r.first ∷ bitsFrom (bits_of program.now) r.second (wordBits r.first))
-        (s.first ∷ bitsFrom (bits_of program.now) s.second (wordBits s.first)) }
+    ensures { result ≡ same (r.first ∷ bits_from (bits_of program.now) r.second (word_bits r.first))
+        (s.first ∷ bits_from (bits_of program.now) s.second (word_bits s.first)) }
 {
     if r.first != s.first {
         return false;
@@ -181,8 +181,8 @@ fn same_word(program: &[u8], r: NodeRecord, s: NodeRecord) -> bool
 
 // Whether two records have the same key.
 fn same_key(program: &[u8], hashes: &[u8], r: NodeRecord, s: NodeRecord) -> bool
-    ensures { result ≡ sameKey (recordKey program.now hashes.now (recordOf r))
-        (recordKey program.now hashes.now (recordOf s)) }
+    ensures { result ≡ same_key (record_key program.now hashes.now (record_of r))
+        (record_key program.now hashes.now (record_of s)) }
 {
     if r.kind != s.kind {
         return false;
@@ -205,7 +205,7 @@ fn same_key(program: &[u8], hashes: &[u8], r: NodeRecord, s: NodeRecord) -> bool
 
 // Whether nodes j and i are equal.
 fn equal(nodes: &[u32], arrows: &[u8], program: &[u8], hashes: &[u8], j: usize, i: usize) -> bool
-    ensures { result ≡ equalAt nodes.now arrows.now program.now hashes.now j i }
+    ensures { result ≡ equal_at nodes.now arrows.now program.now hashes.now j i }
 {
     if arrow_number(arrows, j) != arrow_number(arrows, i) {
         return false;
@@ -228,9 +228,9 @@ fn met(
     i: usize,
     last: u16,
 ) -> bool
-    requires { (i < length before.now) × (bucketAt nodes.now arrows.now program.now hashes.now i < buckets)
+    requires { (i < length before.now) × (bucket_at nodes.now arrows.now program.now hashes.now i < buckets)
         × Chained nodes.now arrows.now program.now hashes.now before.now i
-        × Last nodes.now arrows.now program.now hashes.now last i (bucketAt nodes.now arrows.now program.now hashes.now i) }
+        × Last nodes.now arrows.now program.now hashes.now last i (bucket_at nodes.now arrows.now program.now hashes.now i) }
     ensures { not result ≡ fresh nodes.now arrows.now program.now hashes.now i }
 {
     let mut m = last as usize;
@@ -245,7 +245,7 @@ fn met(
 
 // How many nodes are judged: as many as a table may have at most.
 fn judged(nodes: &[u32]) -> usize
-    ensures { result ≡ min (length (nodeRecords nodes.now)) nodeCount }
+    ensures { result ≡ min (length (node_records nodes.now)) node_count }
 {
     let all = nodes.len() / limits::NODE_NUMBERS;
     if all < limits::NODE_COUNT {
@@ -257,7 +257,7 @@ fn judged(nodes: &[u32]) -> usize
 
 // The first node that an earlier one is equal to, of as many as a table may have; their count where there is none.
 pub fn first_repeat(nodes: &[u32], arrows: &[u8], program: &[u8], hashes: &[u8]) -> u32
-    ensures { result ≡ firstRepeat nodes.now arrows.now program.now hashes.now }
+    ensures { result ≡ first_repeat nodes.now arrows.now program.now hashes.now }
 {
     let n = judged(nodes);
     let mut latest = [0u16; BUCKETS];

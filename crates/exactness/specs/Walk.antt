@@ -1,5 +1,5 @@
 -- The walk over a table keeps the nodes done, and while no refusal is met they are just 0, 1, .. below a count:
--- so a walk can keep the count alone. `walkCount` is that walk, `count-step` its one step, and `check-walk-count` the whole walk by it.
+-- so a walk can keep the count alone. `walk_count` is that walk, `count_step` its one step, and `check_walk_count` the whole walk by it.
 use Rattle.std.specs.Prelude.{◌≡◌, Bool, not, take, get_or}
 use Rattle.std.proofs.Math.Path.{refl, sym, ap, subst}
 use Rattle.std.proofs.Common.{◌∙◌, not-suc-le-zero, zero-add}
@@ -16,65 +16,65 @@ use Rattle.refusal.specs.declared.Refusal.{Refusal}
 use Rattle.refusal.specs.declared.Refusal.TheVariants.{CanonicalOrder, HiddenElsewhere}
 use Rattle.report.specs.Table.{entries}
 use Rattle.report.specs.Nodes.{Node}
-use Rattle.report.specs.Canonical.{children, isDone, up_from}
+use Rattle.report.specs.Canonical.{children, is_done, up_from}
 use Rattle.scope.specs.Check.{Check, passed, refused, ◌>>=◌, require}
-use Rattle.scope.specs.Nodes.{no_node, nodeAt}
-use Rattle.scope.specs.Walk.{hiddenAt, allowed, walkEach, walkMake, walkFrom, checkWalk}
+use Rattle.scope.specs.Nodes.{no_node, node_at}
+use Rattle.scope.specs.Walk.{hidden_at, allowed, walk_each, walk_make, walk_from, check_walk}
 use Rattle.common.specs.Tables.{length-entries, entries_at, before_at}
-use Rattle.common.specs.Checks.{clash, require-holds, both-passed}
+use Rattle.common.specs.Checks.{clash, require_holds, both_passed}
 use Rattle.common.specs.Bits.{AllBelow}
 
 -- n numbers from i on
-pub length-upFrom : (i n : ℕ) → length (up_from i n) ≡ n
+pub length-up_from : (i n : ℕ) → length (up_from i n) ≡ n
 unfolding up_from
-length-upFrom i zero = refl
-length-upFrom i (suc n) = ap suc (length-upFrom (suc i) n)
+length-up_from i zero = refl
+length-up_from i (suc n) = ap suc (length-up_from (suc i) n)
 
 -- and one more
-pub upFrom-more : (i n : ℕ) → up_from i n ++ (i + n) ∷ [] ≡ up_from i (suc n)
+pub up_from_more : (i n : ℕ) → up_from i n ++ (i + n) ∷ [] ≡ up_from i (suc n)
 unfolding up_from
-upFrom-more i zero = ap (λ (k : ℕ). k ∷ []) (let e : i + 0 ≡ i = omega arith in e)
-upFrom-more i (suc n) =
-    ap (λ (l : List ℕ). i ∷ l) (ap (λ (k : ℕ). up_from (suc i) n ++ k ∷ []) (let e : i + suc n ≡ suc i + n = omega arith in e) ∙ upFrom-more (suc i) n)
+up_from_more i zero = ap (λ (k : ℕ). k ∷ []) (let e : i + 0 ≡ i = omega arith in e)
+up_from_more i (suc n) =
+    ap (λ (l : List ℕ). i ∷ l) (ap (λ (k : ℕ). up_from (suc i) n ++ k ∷ []) (let e : i + suc n ≡ suc i + n = omega arith in e) ∙ up_from_more (suc i) n)
 
-done-in : (a n i : ℕ) → a ≤ i → i < a + n → isDone i (up_from a n) ≡ true
-unfolding isDone up_from
-done-in a zero i h l = absurd (omega arith)
-done-in a (suc n) i h l = go (eqb i a) refl (done-in (suc a) n i)
+done_in : (a n i : ℕ) → a ≤ i → i < a + n → is_done i (up_from a n) ≡ true
+unfolding is_done up_from
+done_in a zero i h l = absurd (omega arith)
+done_in a (suc n) i h l = go (eqb i a) refl (done_in (suc a) n i)
   where
-    go : (b : Bool) → eqb i a ≡ b → (suc a ≤ i → i < suc a + n → isDone i (up_from (suc a) n) ≡ true)
-        → elim b [ true ↦ true | false ↦ isDone i (up_from (suc a) n) ] ≡ true
+    go : (b : Bool) → eqb i a ≡ b → (suc a ≤ i → i < suc a + n → is_done i (up_from (suc a) n) ≡ true)
+        → elim b [ true ↦ true | false ↦ is_done i (up_from (suc a) n) ] ≡ true
     go true p ih = refl
     go false p ih = ih (let m : (i ≡ a → ⊥) = eqb-false i a p in omega arith) (omega arith)
 
-done-out : (a n i : ℕ) → a + n ≤ i → isDone i (up_from a n) ≡ false
-unfolding isDone up_from
-done-out a zero i h = refl
-done-out a (suc n) i h = rw (ne_eqb i a (omega arith), isDone) (done-out (suc a) n i (omega arith))
+done_out : (a n i : ℕ) → a + n ≤ i → is_done i (up_from a n) ≡ false
+unfolding is_done up_from
+done_out a zero i h = refl
+done_out a (suc n) i h = rw (ne_eqb i a (omega arith), is_done) (done_out (suc a) n i (omega arith))
 
 -- a node is one of those below k exactly if it is below k
-pub done_below : (i k : ℕ) → isDone i (up_from 0 k) ≡ ltb i k
+pub done_below : (i k : ℕ) → is_done i (up_from 0 k) ≡ ltb i k
 done_below i k =
     elim (dec_lt i k) [
-      | yes l ↦ done-in 0 k i (omega arith) (omega arith) ∙ sym (lt-ltb i k l)
-      | no m ↦ done-out 0 k i (omega arith) ∙ sym (le-ltb i k (omega arith))
+      | yes l ↦ done_in 0 k i (omega arith) (omega arith) ∙ sym (lt-ltb i k l)
+      | no m ↦ done_out 0 k i (omega arith) ∙ sym (le-ltb i k (omega arith))
     ]
 
 -- an answer of a walk that began with the nodes below k: a refusal, or the nodes below a count that is no smaller
 pub data Counted (k : ℕ) : Check (List ℕ) → Type 0 where
-  Upto : (m : ℕ) → k ≤ m → Counted k (passed (up_from 0 m))
-  Stopped : (r : Refusal) → Counted k (refused r)
+  of_upto : (m : ℕ) → k ≤ m → Counted k (passed (up_from 0 m))
+  of_stopped : (r : Refusal) → Counted k (refused r)
 
 -- one counted walk after the other
-counted-then : (k : ℕ) (c : Check (List ℕ)) (f : List ℕ → Check (List ℕ)) → Counted k c
+counted_then : (k : ℕ) (c : Check (List ℕ)) (f : List ℕ → Check (List ℕ)) → Counted k c
     → ((m : ℕ) → k ≤ m → Counted m (f (up_from 0 m))) → Counted k (c >>= f)
 unfolding ◌>>=◌
-counted-then k c f (Upto m h) g = later m h (f (up_from 0 m)) (g m h)
+counted_then k c f (of_upto m h) g = later m h (f (up_from 0 m)) (g m h)
   where
     later : (m : ℕ) → k ≤ m → (c : Check (List ℕ)) → Counted m c → Counted k c
-    later m h c (Upto n l) = Upto n (omega arith)
-    later m h c (Stopped r) = Stopped r
-counted-then k c f (Stopped r) g = Stopped r
+    later m h c (of_upto n l) = of_upto n (omega arith)
+    later m h c (of_stopped r) = of_stopped r
+counted_then k c f (of_stopped r) g = of_stopped r
 
 -- what a walk does at node i, once these are done: i must be the next and allowed, and is done
 unfoldable pub arrive : (nodes : List Node) → (i : ℕ) → Node → List ℕ → Check (List ℕ)
@@ -85,9 +85,9 @@ arrive nodes i n d = do
   passed (d ++ i ∷ [])
 
 -- the same by the count
-unfoldable pub arriveCount : (nodes : List Node) → (i : ℕ) → Node → (k : ℕ) → Check ℕ
+unfoldable pub arrive_count : (nodes : List Node) → (i : ℕ) → Node → (k : ℕ) → Check ℕ
 unfolding ◌>>=◌ require allowed
-arriveCount nodes i n k = do
+arrive_count nodes i n k = do
   next ← require (eqb i k) (CanonicalOrder k)
   fine ← allowed nodes i n
   passed (suc k)
@@ -97,29 +97,29 @@ unfoldable pub count : Check (List ℕ) → Check ℕ
 count (passed d) = passed (length d)
 count (refused r) = refused r
 
-count-then : (k : ℕ) (c : Check (List ℕ)) (f : List ℕ → Check (List ℕ)) (g : ℕ → Check ℕ) → Counted k c
+count_then : (k : ℕ) (c : Check (List ℕ)) (f : List ℕ → Check (List ℕ)) (g : ℕ → Check ℕ) → Counted k c
     → ((m : ℕ) → k ≤ m → count (f (up_from 0 m)) ≡ g m) → count (c >>= f) ≡ (count c >>= g)
 unfolding ◌>>=◌ count
-count-then k c f g (Upto m h) e = e m h ∙ ap g (sym (length-upFrom 0 m))
-count-then k c f g (Stopped r) e = refl
+count_then k c f g (of_upto m h) e = e m h ∙ ap g (sym (length-up_from 0 m))
+count_then k c f g (of_stopped r) e = refl
 
 -- the walk from node i with the nodes below k done: how many are done after it
-unfoldable pub walkCount : (nodes : List Node) → (i k : ℕ) → Check ℕ
-unfolding count walkFrom
-walkCount nodes i k = count (walkFrom nodes i (up_from 0 k))
+unfoldable pub walk_count : (nodes : List Node) → (i k : ℕ) → Check ℕ
+unfolding count walk_from
+walk_count nodes i k = count (walk_from nodes i (up_from 0 k))
 
 -- the walks from some nodes, one after the other
-unfoldable pub countEach : (nodes : List Node) → List ℕ → (k : ℕ) → Check ℕ
-unfolding walkCount ◌>>=◌
-countEach nodes [] k = passed k
-countEach nodes (j ∷ js) k = walkCount nodes j k >>= λ m. countEach nodes js m
+unfoldable pub count_each : (nodes : List Node) → List ℕ → (k : ℕ) → Check ℕ
+unfolding walk_count ◌>>=◌
+count_each nodes [] k = passed k
+count_each nodes (j ∷ js) k = walk_count nodes j k >>= λ m. count_each nodes js m
 
 -- the walk from node i, by the counts of its children's walks
-unfoldable pub walkStep : (nodes : List Node) → (i k : ℕ) → Check ℕ
-unfolding countEach arriveCount children nodeAt ◌>>=◌
-walkStep nodes i k = elim (ltb i k) [
+unfoldable pub walk_step : (nodes : List Node) → (i k : ℕ) → Check ℕ
+unfolding count_each arrive_count children node_at ◌>>=◌
+walk_step nodes i k = elim (ltb i k) [
   | true ↦ passed k
-  | false ↦ countEach nodes (children (nodeAt nodes i)) k >>= λ m. arriveCount nodes i (nodeAt nodes i) m
+  | false ↦ count_each nodes (children (node_at nodes i)) k >>= λ m. arrive_count nodes i (node_at nodes i) m
 ]
 
 -- walks, by the node that they start from
@@ -127,160 +127,160 @@ abbrev pub Walks : Type 0
 Walks = List (List ℕ → Check (List ℕ))
 
 -- the walk from node j among these; past them there is nothing to do
-abbrev pub walkIn : Walks → (j : ℕ) → List ℕ → Check (List ℕ)
-walkIn walks j = get_or walks j (λ d. passed d)
+abbrev pub walk_in : Walks → (j : ℕ) → List ℕ → Check (List ℕ)
+walk_in walks j = get_or walks j (λ d. passed d)
 
 module _ (nodes : List Node) where
   -- the walks before node i
-  unfoldable pub walksBefore : (i : ℕ) → Walks
-  walksBefore i = take i (entries (walkMake nodes) nodes)
+  unfoldable pub walks_before : (i : ℕ) → Walks
+  walks_before i = take i (entries (walk_make nodes) nodes)
 
-  pub arrive-counted : (i : ℕ) (n : Node) (m : ℕ) → Counted m (arrive nodes i n (up_from 0 m))
+  pub arrive_counted : (i : ℕ) (n : Node) (m : ℕ) → Counted m (arrive nodes i n (up_from 0 m))
   unfolding arrive require
-  arrive-counted i n m = go (eqb i (length (up_from 0 m))) (allowed nodes i n) refl
+  arrive_counted i n m = go (eqb i (length (up_from 0 m))) (allowed nodes i n) refl
     where
       go : (b : Bool) (c : Check (Unit {0})) → eqb i (length (up_from 0 m)) ≡ b
           → Counted m (require b (CanonicalOrder (length (up_from 0 m))) >>= λ next. c >>= λ fine. passed (up_from 0 m ++ i ∷ []))
       go true (passed x) e =
-          let p : i ≡ m = eqb-true i (length (up_from 0 m)) e ∙ length-upFrom 0 m in
-          let q : up_from 0 m ++ i ∷ [] ≡ up_from 0 (suc m) = ap (λ (j : ℕ). up_from 0 m ++ j ∷ []) (p ∙ sym (zero-add m)) ∙ upFrom-more 0 m in
-          subst (λ (l : List ℕ). Counted m (passed l)) (sym q) (Upto (suc m) (omega arith))
-      go true (refused r) e = Stopped r
-      go false c e = Stopped _
+          let p : i ≡ m = eqb-true i (length (up_from 0 m)) e ∙ length-up_from 0 m in
+          let q : up_from 0 m ++ i ∷ [] ≡ up_from 0 (suc m) = ap (λ (j : ℕ). up_from 0 m ++ j ∷ []) (p ∙ sym (zero-add m)) ∙ up_from_more 0 m in
+          subst (λ (l : List ℕ). Counted m (passed l)) (sym q) (of_upto (suc m) (omega arith))
+      go true (refused r) e = of_stopped r
+      go false c e = of_stopped _
 
-  arrive-count : (i : ℕ) (n : Node) (m : ℕ) → count (arrive nodes i n (up_from 0 m)) ≡ arriveCount nodes i n m
-  unfolding arrive arriveCount require count
-  arrive-count i n m = rw (length-upFrom 0 m, arrive) (go (eqb i m) (allowed nodes i n))
+  arrive-count : (i : ℕ) (n : Node) (m : ℕ) → count (arrive nodes i n (up_from 0 m)) ≡ arrive_count nodes i n m
+  unfolding arrive arrive_count require count
+  arrive-count i n m = rw (length-up_from 0 m, arrive) (go (eqb i m) (allowed nodes i n))
     where
       go : (b : Bool) (c : Check (Unit {0}))
           → count (require b (CanonicalOrder m) >>= λ next. c >>= λ fine. passed (up_from 0 m ++ i ∷ []))
           ≡ (require b (CanonicalOrder m) >>= λ next. c >>= λ fine. passed (suc m))
-      go true (passed x) = ap {B = Check ℕ} passed (omega (arith, length-append (up_from 0 m) (i ∷ []), length-upFrom 0 m))
+      go true (passed x) = ap {B = Check ℕ} passed (omega (arith, length-append (up_from 0 m) (i ∷ []), length-up_from 0 m))
       go true (refused r) = refl
       go false c = refl
 
-  pub each-counted : (walks : Walks) → ((j k : ℕ) → Counted k (walkIn walks j (up_from 0 k))) → (js : List ℕ) (k : ℕ)
-      → Counted k (walkEach nodes walks js (up_from 0 k))
-  unfolding walkEach
-  each-counted walks h [] k = Upto k (omega arith)
-  each-counted walks h (j ∷ js) k = counted-then k _ (walkEach nodes walks js) (h j k) (λ m l. each-counted walks h js m)
+  pub each_counted : (walks : Walks) → ((j k : ℕ) → Counted k (walk_in walks j (up_from 0 k))) → (js : List ℕ) (k : ℕ)
+      → Counted k (walk_each nodes walks js (up_from 0 k))
+  unfolding walk_each
+  each_counted walks h [] k = of_upto k (omega arith)
+  each_counted walks h (j ∷ js) k = counted_then k _ (walk_each nodes walks js) (h j k) (λ m l. each_counted walks h js m)
 
   -- the walk from node i: nothing where it is done, else its children's walks, and then i itself
-  unfoldable pub walkNode : (isDone : Bool) → (i : ℕ) → Walks → Node → List ℕ → Check (List ℕ)
-  walkNode true i walks n d = passed d
-  walkNode false i walks n d = walkEach nodes walks (children n) d >>= arrive nodes i n
+  unfoldable pub walk_node : (is_done : Bool) → (i : ℕ) → Walks → Node → List ℕ → Check (List ℕ)
+  walk_node true i walks n d = passed d
+  walk_node false i walks n d = walk_each nodes walks (children n) d >>= arrive nodes i n
 
-  pub walk-node-counted : (b : Bool) (i : ℕ) (walks : Walks) → ((j k : ℕ) → Counted k (walkIn walks j (up_from 0 k))) → (n : Node) (k : ℕ)
-      → Counted k (walkNode b i walks n (up_from 0 k))
-  unfolding walkNode
-  walk-node-counted true i walks h n k = Upto k (omega arith)
-  walk-node-counted false i walks h n k = counted-then k _ (arrive nodes i n) (each-counted walks h (children n) k) (λ m l. arrive-counted i n m)
+  pub walk_node_counted : (b : Bool) (i : ℕ) (walks : Walks) → ((j k : ℕ) → Counted k (walk_in walks j (up_from 0 k))) → (n : Node) (k : ℕ)
+      → Counted k (walk_node b i walks n (up_from 0 k))
+  unfolding walk_node
+  walk_node_counted true i walks h n k = of_upto k (omega arith)
+  walk_node_counted false i walks h n k = counted_then k _ (arrive nodes i n) (each_counted walks h (children n) k) (λ m l. arrive_counted i n m)
 
-  length_before : (i : ℕ) → i ≤ length nodes → length (walksBefore i) ≡ i
-  unfolding walksBefore
-  length_before i h = length-take-le i (entries (walkMake nodes) nodes) (omega (arith, length-entries (walkMake nodes) nodes))
+  length_before : (i : ℕ) → i ≤ length nodes → length (walks_before i) ≡ i
+  unfolding walks_before
+  length_before i h = length-take-le i (entries (walk_make nodes) nodes) (omega (arith, length-entries (walk_make nodes) nodes))
 
-  make-is-node : (walks : Walks) (n : Node) (d : List ℕ)
-      → walkMake nodes walks n d ≡ walkNode (isDone (length walks) d) (length walks) walks n d
-  unfolding walkMake walkNode arrive
-  make-is-node walks n d = go (isDone (length walks) d)
+  make_is_node : (walks : Walks) (n : Node) (d : List ℕ)
+      → walk_make nodes walks n d ≡ walk_node (is_done (length walks) d) (length walks) walks n d
+  unfolding walk_make walk_node arrive
+  make_is_node walks n d = go (is_done (length walks) d)
     where
-      go : (b : Bool) → elim b [ true ↦ passed d | false ↦ walkEach nodes walks (children n) d >>= arrive nodes (length walks) n ]
-          ≡ walkNode b (length walks) walks n d
+      go : (b : Bool) → elim b [ true ↦ passed d | false ↦ walk_each nodes walks (children n) d >>= arrive nodes (length walks) n ]
+          ≡ walk_node b (length walks) walks n d
       go true = refl
       go false = refl
 
   -- the walk from node i, of the walks before it; past the end there is nothing to do
-  pub walk_at : (i : ℕ) → i < length nodes → (d : List ℕ) → walkFrom nodes i d ≡ walkNode (isDone i d) i (walksBefore i) (nodeAt nodes i) d
-  unfolding walkFrom nodeAt walksBefore
+  pub walk_at : (i : ℕ) → i < length nodes → (d : List ℕ) → walk_from nodes i d ≡ walk_node (is_done i d) i (walks_before i) (node_at nodes i) d
+  unfolding walk_from node_at walks_before
   walk_at i h d =
-      ap (λ (w : List ℕ → Check (List ℕ)). w d) (entries_at (walkMake nodes) nodes i (λ d. passed d) no_node h)
-      ∙ make-is-node (walksBefore i) (nodeAt nodes i) d
-      ∙ ap (λ (l : ℕ). walkNode (isDone l d) l (walksBefore i) (nodeAt nodes i) d) (length_before i (omega arith))
+      ap (λ (w : List ℕ → Check (List ℕ)). w d) (entries_at (walk_make nodes) nodes i (λ d. passed d) no_node h)
+      ∙ make_is_node (walks_before i) (node_at nodes i) d
+      ∙ ap (λ (l : ℕ). walk_node (is_done l d) l (walks_before i) (node_at nodes i) d) (length_before i (omega arith))
 
-  pub walk-past : (i : ℕ) → length nodes ≤ i → (d : List ℕ) → walkFrom nodes i d ≡ passed d
-  unfolding walkFrom
-  walk-past i h d =
+  pub walk_past : (i : ℕ) → length nodes ≤ i → (d : List ℕ) → walk_from nodes i d ≡ passed d
+  unfolding walk_from
+  walk_past i h d =
       ap (λ (w : List ℕ → Check (List ℕ)). w d)
-      (get_or-eq_default (entries (walkMake nodes) nodes) (λ d. passed d) (omega (arith, length-entries (walkMake nodes) nodes)))
+      (get_or-eq_default (entries (walk_make nodes) nodes) (λ d. passed d) (omega (arith, length-entries (walk_make nodes) nodes)))
 
   -- a walk that counts on, from whatever count
   abbrev Counting : (List ℕ → Check (List ℕ)) → Type 0
   Counting walk = (k : ℕ) → Counted k (walk (up_from 0 k))
 
-  counting-upto : (n i : ℕ) → i < n → Counting (walkFrom nodes i)
-  unfolding walkFrom walksBefore
-  counting-upto zero i l k = absurd (not-suc-le-zero l)
-  counting-upto (suc n) i l k =
+  counting_upto : (n i : ℕ) → i < n → Counting (walk_from nodes i)
+  unfolding walk_from walks_before
+  counting_upto zero i l k = absurd (not-suc-le-zero l)
+  counting_upto (suc n) i l k =
       elim (dec_lt i (length nodes)) [
         | yes h ↦ subst (Counted k) (sym (walk_at i h (up_from 0 k)))
-            (walk-node-counted (isDone i (up_from 0 k)) i (walksBefore i)
-            (before_at (walkMake nodes) Counting nodes i (λ d. passed d) (omega arith) (λ k. Upto k (omega arith))
-            (λ j m. counting-upto n j (omega arith)))
-            (nodeAt nodes i) k)
-        | no m ↦ subst (Counted k) (sym (walk-past i (omega arith) (up_from 0 k))) (Upto k (omega arith))
+            (walk_node_counted (is_done i (up_from 0 k)) i (walks_before i)
+            (before_at (walk_make nodes) Counting nodes i (λ d. passed d) (omega arith) (λ k. of_upto k (omega arith))
+            (λ j m. counting_upto n j (omega arith)))
+            (node_at nodes i) k)
+        | no m ↦ subst (Counted k) (sym (walk_past i (omega arith) (up_from 0 k))) (of_upto k (omega arith))
       ]
 
   -- with the nodes below k done, a walk refuses or does all nodes below a count that is no smaller
-  pub walk-counted : (i k : ℕ) → Counted k (walkFrom nodes i (up_from 0 k))
-  walk-counted i k = counting-upto (suc i) i (omega arith) k
+  pub walk_counted : (i k : ℕ) → Counted k (walk_from nodes i (up_from 0 k))
+  walk_counted i k = counting_upto (suc i) i (omega arith) k
 
-  before-counting : (i : ℕ) → i ≤ length nodes → (j k : ℕ) → Counted k (walkIn (walksBefore i) j (up_from 0 k))
-  unfolding walksBefore walkFrom
-  before-counting i h =
-      before_at (walkMake nodes) Counting nodes i (λ d. passed d) h (λ k. Upto k (omega arith)) (λ j m. walk-counted j)
+  before_counting : (i : ℕ) → i ≤ length nodes → (j k : ℕ) → Counted k (walk_in (walks_before i) j (up_from 0 k))
+  unfolding walks_before walk_from
+  before_counting i h =
+      before_at (walk_make nodes) Counting nodes i (λ d. passed d) h (λ k. of_upto k (omega arith)) (λ j m. walk_counted j)
 
   -- so the count tells the list
-  pub walk-is-count : (i k : ℕ) → walkFrom nodes i (up_from 0 k) ≡ (walkCount nodes i k >>= λ m. passed (up_from 0 m))
-  unfolding walkCount count ◌>>=◌
-  walk-is-count i k = go (walkFrom nodes i (up_from 0 k)) (walk-counted i k)
+  pub walk_is_count : (i k : ℕ) → walk_from nodes i (up_from 0 k) ≡ (walk_count nodes i k >>= λ m. passed (up_from 0 m))
+  unfolding walk_count count ◌>>=◌
+  walk_is_count i k = go (walk_from nodes i (up_from 0 k)) (walk_counted i k)
     where
       go : (c : Check (List ℕ)) → Counted k c → c ≡ (count c >>= λ m. passed (up_from 0 m))
-      go c (Upto m h) = ap (λ (j : ℕ). passed (up_from 0 j)) (sym (length-upFrom 0 m))
-      go c (Stopped r) = refl
+      go c (of_upto m h) = ap (λ (j : ℕ). passed (up_from 0 j)) (sym (length-up_from 0 m))
+      go c (of_stopped r) = refl
 
-  each-count : (i : ℕ) → i ≤ length nodes → (js : List ℕ) → AllBelow i js → (k : ℕ)
-      → count (walkEach nodes (walksBefore i) js (up_from 0 k)) ≡ countEach nodes js k
-  unfolding walkEach countEach walksBefore walkFrom count
-  each-count i h [] b k = ap {B = Check ℕ} passed (length-upFrom 0 k)
-  each-count i h (j ∷ js) b k =
-      let e : walkIn (walksBefore i) j ≡ walkFrom nodes j = get_or-take i (entries (walkMake nodes) nodes) j (λ d. passed d) b.0 in
-      ap (λ (w : List ℕ → Check (List ℕ)). count (w (up_from 0 k) >>= walkEach nodes (walksBefore i) js)) e
-      ∙ count-then k (walkFrom nodes j (up_from 0 k)) (walkEach nodes (walksBefore i) js) (countEach nodes js) (walk-counted j k)
-      (λ m l. each-count i h js b.1 m)
+  each_count : (i : ℕ) → i ≤ length nodes → (js : List ℕ) → AllBelow i js → (k : ℕ)
+      → count (walk_each nodes (walks_before i) js (up_from 0 k)) ≡ count_each nodes js k
+  unfolding walk_each count_each walks_before walk_from count
+  each_count i h [] b k = ap {B = Check ℕ} passed (length-up_from 0 k)
+  each_count i h (j ∷ js) b k =
+      let e : walk_in (walks_before i) j ≡ walk_from nodes j = get_or-take i (entries (walk_make nodes) nodes) j (λ d. passed d) b.0 in
+      ap (λ (w : List ℕ → Check (List ℕ)). count (w (up_from 0 k) >>= walk_each nodes (walks_before i) js)) e
+      ∙ count_then k (walk_from nodes j (up_from 0 k)) (walk_each nodes (walks_before i) js) (count_each nodes js) (walk_counted j k)
+      (λ m l. each_count i h js b.1 m)
 
   -- one step of the walk, by the count: a node whose children stand below it
-  pub count-step : (i k : ℕ) → i < length nodes → AllBelow i (children (nodeAt nodes i)) → walkCount nodes i k ≡ walkStep nodes i k
-  unfolding walkCount walkStep walkNode
-  count-step i k h b = ap count (walk_at i h (up_from 0 k)) ∙ rw (done_below i k) (go (ltb i k))
+  pub count_step : (i k : ℕ) → i < length nodes → AllBelow i (children (node_at nodes i)) → walk_count nodes i k ≡ walk_step nodes i k
+  unfolding walk_count walk_step walk_node
+  count_step i k h b = ap count (walk_at i h (up_from 0 k)) ∙ rw (done_below i k) (go (ltb i k))
     where
-      go : (t : Bool) → count (walkNode t i (walksBefore i) (nodeAt nodes i) (up_from 0 k))
-          ≡ elim t [ true ↦ passed k | false ↦ countEach nodes (children (nodeAt nodes i)) k >>= λ m. arriveCount nodes i (nodeAt nodes i) m ]
-      go true = ap {B = Check ℕ} passed (length-upFrom 0 k)
+      go : (t : Bool) → count (walk_node t i (walks_before i) (node_at nodes i) (up_from 0 k))
+          ≡ elim t [ true ↦ passed k | false ↦ count_each nodes (children (node_at nodes i)) k >>= λ m. arrive_count nodes i (node_at nodes i) m ]
+      go true = ap {B = Check ℕ} passed (length-up_from 0 k)
       go false =
-          count-then k (walkEach nodes (walksBefore i) (children (nodeAt nodes i)) (up_from 0 k)) (arrive nodes i (nodeAt nodes i))
-          (arriveCount nodes i (nodeAt nodes i))
-          (each-counted (walksBefore i) (before-counting i (omega arith)) (children (nodeAt nodes i)) k) (λ m l. arrive-count i (nodeAt nodes i) m)
-          ∙ ap (λ (c : Check ℕ). c >>= arriveCount nodes i (nodeAt nodes i)) (each-count i (omega arith) (children (nodeAt nodes i)) b k)
+          count_then k (walk_each nodes (walks_before i) (children (node_at nodes i)) (up_from 0 k)) (arrive nodes i (node_at nodes i))
+          (arrive_count nodes i (node_at nodes i))
+          (each_counted (walks_before i) (before_counting i (omega arith)) (children (node_at nodes i)) k) (λ m l. arrive-count i (node_at nodes i) m)
+          ∙ ap (λ (c : Check ℕ). c >>= arrive_count nodes i (node_at nodes i)) (each_count i (omega arith) (children (node_at nodes i)) b k)
 
   -- the whole walk, by the count
-  pub check-walk-count : checkWalk nodes
-      ≡ (walkCount nodes (length nodes - 1) 0 >>= λ all. require (not (hiddenAt nodes (length nodes - 1))) (HiddenElsewhere (length nodes - 1)))
-  unfolding checkWalk walkCount count ◌>>=◌ up_from
-  check-walk-count = go (walkFrom nodes (length nodes - 1) [])
+  pub check_walk_count : check_walk nodes
+      ≡ (walk_count nodes (length nodes - 1) 0 >>= λ all. require (not (hidden_at nodes (length nodes - 1))) (HiddenElsewhere (length nodes - 1)))
+  unfolding check_walk walk_count count ◌>>=◌ up_from
+  check_walk_count = go (walk_from nodes (length nodes - 1) [])
     where
       go : (c : Check (List ℕ))
-          → (c >>= λ all. require (not (hiddenAt nodes (length nodes - 1))) (HiddenElsewhere (length nodes - 1)))
-          ≡ (count c >>= λ all. require (not (hiddenAt nodes (length nodes - 1))) (HiddenElsewhere (length nodes - 1)))
+          → (c >>= λ all. require (not (hidden_at nodes (length nodes - 1))) (HiddenElsewhere (length nodes - 1)))
+          ≡ (count c >>= λ all. require (not (hidden_at nodes (length nodes - 1))) (HiddenElsewhere (length nodes - 1)))
       go (passed d) = refl
       go (refused r) = refl
 
-  arrive-count-passed : (i : ℕ) (n : Node) (k m : ℕ) → arriveCount nodes i n k ≡ passed m → (i ≡ k) × (m ≡ suc i) × (allowed nodes i n ≡ passed tt)
-  unfolding arriveCount
-  arrive-count-passed i n k m e =
-      let p = both-passed (require (eqb i k) (CanonicalOrder k)) (λ next. allowed nodes i n >>= λ fine. passed (suc k)) m e in
-      let q = both-passed (allowed nodes i n) (λ fine. passed (suc k)) m p.2 in
-      let same : i ≡ k = eqb-true i k (require-holds (eqb i k) (CanonicalOrder k) p.0 p.1) in
+  arrive_count_passed : (i : ℕ) (n : Node) (k m : ℕ) → arrive_count nodes i n k ≡ passed m → (i ≡ k) × (m ≡ suc i) × (allowed nodes i n ≡ passed tt)
+  unfolding arrive_count
+  arrive_count_passed i n k m e =
+      let p = both_passed (require (eqb i k) (CanonicalOrder k)) (λ next. allowed nodes i n >>= λ fine. passed (suc k)) m e in
+      let q = both_passed (allowed nodes i n) (λ fine. passed (suc k)) m p.2 in
+      let same : i ≡ k = eqb-true i k (require_holds (eqb i k) (CanonicalOrder k) p.0 p.1) in
       let last : suc k ≡ m = (let e = q.2 in cc) in
       (same, omega arith, q.1)
 
@@ -289,39 +289,39 @@ module _ (nodes : List Node) where
       → (i ≡ k) × (m ≡ suc i) × (allowed nodes i n ≡ passed tt)
   unfolding count
   arrive-passed i n k m e =
-      arrive-count-passed i n k m (sym (arrive-count i n k) ∙ ap count e ∙ ap {B = Check ℕ} passed (length-upFrom 0 m))
+      arrive_count_passed i n k m (sym (arrive-count i n k) ∙ ap count e ∙ ap {B = Check ℕ} passed (length-up_from 0 m))
 
-  pub arrive-passes : (n : Node) (k : ℕ) → allowed nodes k n ≡ passed tt → arrive nodes k n (up_from 0 k) ≡ passed (up_from 0 (suc k))
+  pub arrive_passes : (n : Node) (k : ℕ) → allowed nodes k n ≡ passed tt → arrive nodes k n (up_from 0 k) ≡ passed (up_from 0 (suc k))
   unfolding arrive require
-  arrive-passes n k e =
-      rw (length-upFrom 0 k, eq-eqb k k refl, e)
-      (ap {B = Check (List ℕ)} passed (ap (λ (j : ℕ). up_from 0 k ++ j ∷ []) (sym (zero-add k)) ∙ upFrom-more 0 k))
+  arrive_passes n k e =
+      rw (length-up_from 0 k, eq-eqb k k refl, e)
+      (ap {B = Check (List ℕ)} passed (ap (λ (j : ℕ). up_from 0 k ++ j ∷ []) (sym (zero-add k)) ∙ up_from_more 0 k))
 
   -- a walk that passed has done some nodes below a count
-  pub upto-count : (k : ℕ) (c : Check (List ℕ)) (d : List ℕ) → Counted k c → c ≡ passed d → (m : ℕ) × (k ≤ m) × (d ≡ up_from 0 m)
-  upto-count k c d (Upto m h) e = (m, h, (let p : d ≡ up_from 0 m = cc in p))
-  upto-count k c d (Stopped r) e = clash (cc)
+  pub upto_count : (k : ℕ) (c : Check (List ℕ)) (d : List ℕ) → Counted k c → c ≡ passed d → (m : ℕ) × (k ≤ m) × (d ≡ up_from 0 m)
+  upto_count k c d (of_upto m h) e = (m, h, (let p : d ≡ up_from 0 m = cc in p))
+  upto_count k c d (of_stopped r) e = clash (cc)
 
   -- those below the larger of k and i + 1
-  pub walk-passed : (i k m : ℕ) → i < length nodes → walkFrom nodes i (up_from 0 k) ≡ passed (up_from 0 m) → m ≡ max k (suc i)
-  unfolding walkNode
-  walk-passed i k m h e =
-      let tested = ap (λ (b : Bool). walkNode b i (walksBefore i) (nodeAt nodes i) (up_from 0 k)) (sym (done_below i k)) in
+  pub walk_passed : (i k m : ℕ) → i < length nodes → walk_from nodes i (up_from 0 k) ≡ passed (up_from 0 m) → m ≡ max k (suc i)
+  unfolding walk_node
+  walk_passed i k m h e =
+      let tested = ap (λ (b : Bool). walk_node b i (walks_before i) (node_at nodes i) (up_from 0 k)) (sym (done_below i k)) in
       go (ltb i k) refl (tested ∙ sym (walk_at i h (up_from 0 k)) ∙ e)
     where
-      go : (t : Bool) → ltb i k ≡ t → walkNode t i (walksBefore i) (nodeAt nodes i) (up_from 0 k) ≡ passed (up_from 0 m) → m ≡ max k (suc i)
+      go : (t : Bool) → ltb i k ≡ t → walk_node t i (walks_before i) (node_at nodes i) (up_from 0 k) ≡ passed (up_from 0 m) → m ≡ max k (suc i)
       go true p e =
           let l : i < k = ltb-true i k p in
           let q : up_from 0 k ≡ up_from 0 m = cc in
-          omega (arith, ap length q, length-upFrom 0 k, length-upFrom 0 m)
+          omega (arith, ap length q, length-up_from 0 k, length-up_from 0 m)
       go false p e =
           let l : k ≤ i = ltb-false i k p in
-          let q = both-passed (walkEach nodes (walksBefore i) (children (nodeAt nodes i)) (up_from 0 k)) (arrive nodes i (nodeAt nodes i))
+          let q = both_passed (walk_each nodes (walks_before i) (children (node_at nodes i)) (up_from 0 k)) (arrive nodes i (node_at nodes i))
           (up_from 0 m) e in
-          let c = upto-count k _ q.0 (each-counted (walksBefore i) (before-counting i (omega arith)) (children (nodeAt nodes i)) k) q.1 in
-          let r = arrive-passed i (nodeAt nodes i) c.0 m (ap (arrive nodes i (nodeAt nodes i)) (sym c.2) ∙ q.2) in
+          let c = upto_count k _ q.0 (each_counted (walks_before i) (before_counting i (omega arith)) (children (node_at nodes i)) k) q.1 in
+          let r = arrive-passed i (node_at nodes i) c.0 m (ap (arrive nodes i (node_at nodes i)) (sym c.2) ∙ q.2) in
           omega arith
 
-  pub count-passed : (i k m : ℕ) → i < length nodes → walkCount nodes i k ≡ passed m → m ≡ max k (suc i)
+  pub count_passed : (i k m : ℕ) → i < length nodes → walk_count nodes i k ≡ passed m → m ≡ max k (suc i)
   unfolding ◌>>=◌
-  count-passed i k m h e = walk-passed i k m h (walk-is-count i k ∙ ap (λ (c : Check ℕ). c >>= λ m. passed (up_from 0 m)) e)
+  count_passed i k m h e = walk_passed i k m h (walk_is_count i k ∙ ap (λ (c : Check ℕ). c >>= λ m. passed (up_from 0 m)) e)

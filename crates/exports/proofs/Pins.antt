@@ -19,29 +19,29 @@ use Rattle.exports.proofs.drevaloci_run_tables.Reads as run-tables-reads
 use Rattle.exports.proofs.drevaloci_walk.Kinds as walk-kinds
 use Rattle.exports.proofs.drevaloci_walk.Reads as walk-reads
 
-pub drevaloci-run : OneOutcome 7 run-kinds.ps run-kinds.r run-reads.Post
-drevaloci-run κs a s t v w p q =
+pub drevaloci_run : OneOutcome 7 run-kinds.ps run-kinds.r run-reads.Post
+drevaloci_run κs a s t v w p q =
     let e =
     p
     ∙ sym q in (λ i. (e i).code, λ i. tt & (e i).nodes & (e i).hashes & (e i).cells & (e i).frames & (e i).answer & (e i).place & tt)
 
-pub drevaloci-decode : OneOutcome 5 decode-kinds.ps decode-kinds.r decode-reads.Post
-drevaloci-decode κs a s t v w p q = let e = p ∙ sym q in (λ i. (e i).code, λ i. tt & (e i).nodes & (e i).hashes & (e i).place & (e i).bytes & tt)
+pub drevaloci_decode : OneOutcome 5 decode-kinds.ps decode-kinds.r decode-reads.Post
+drevaloci_decode κs a s t v w p q = let e = p ∙ sym q in (λ i. (e i).code, λ i. tt & (e i).nodes & (e i).hashes & (e i).place & (e i).bytes & tt)
 
-pub drevaloci-walk : OneOutcome 4 walk-kinds.ps walk-kinds.r walk-reads.Post
-drevaloci-walk κs a s t v w p q = let e = p ∙ sym q in (λ i. (e i).code, λ i. tt & tt & tt & (e i).place & tt)
+pub drevaloci_walk : OneOutcome 4 walk-kinds.ps walk-kinds.r walk-reads.Post
+drevaloci_walk κs a s t v w p q = let e = p ∙ sym q in (λ i. (e i).code, λ i. tt & tt & tt & (e i).place & tt)
 
-pub drevaloci-arrows : OneOutcome 6 arrows-kinds.ps arrows-kinds.r arrows-reads.Post
-drevaloci-arrows κs a s t v w p q = let e = p ∙ sym q in (λ i. (e i).code, λ i. tt & tt & tt & tt & tt & (e i).place & tt)
+pub drevaloci_arrows : OneOutcome 6 arrows-kinds.ps arrows-kinds.r arrows-reads.Post
+drevaloci_arrows κs a s t v w p q = let e = p ∙ sym q in (λ i. (e i).code, λ i. tt & tt & tt & tt & tt & (e i).place & tt)
 
-pub drevaloci-hashes : OneOutcome 7 hashes-kinds.ps hashes-kinds.r hashes-reads.Post
-drevaloci-hashes κs a s t v w p q = let e = p ∙ sym q in (λ i. (e i).code, λ i. tt & tt & tt & tt & tt & tt & (e i).place & tt)
+pub drevaloci_hashes : OneOutcome 7 hashes-kinds.ps hashes-kinds.r hashes-reads.Post
+drevaloci_hashes κs a s t v w p q = let e = p ∙ sym q in (λ i. (e i).code, λ i. tt & tt & tt & tt & tt & tt & (e i).place & tt)
 
-pub drevaloci-bounds : OneOutcome 8 bounds-kinds.ps bounds-kinds.r bounds-reads.Post
-drevaloci-bounds κs a s t v w p q = let e = p ∙ sym q in (λ i. (e i).code, λ i. tt & tt & tt & tt & tt & (e i).cells & (e i).frames & (e i).cost & tt)
+pub drevaloci_bounds : OneOutcome 8 bounds-kinds.ps bounds-kinds.r bounds-reads.Post
+drevaloci_bounds κs a s t v w p q = let e = p ∙ sym q in (λ i. (e i).code, λ i. tt & tt & tt & tt & tt & (e i).cells & (e i).frames & (e i).cost & tt)
 
-pub drevaloci-run-tables : OneOutcome 5 run-tables-kinds.ps run-tables-kinds.r run-tables-reads.Post
-drevaloci-run-tables κs a s t v w p q =
+pub drevaloci_run_tables : OneOutcome 5 run-tables-kinds.ps run-tables-kinds.r run-tables-reads.Post
+drevaloci_run_tables κs a s t v w p q =
     let e =
     p
     ∙ sym q in (
@@ -49,5 +49,5 @@ drevaloci-run-tables κs a s t v w p q =
       λ i. tt & tt & tt & tt & tt & tt & tt & tt & tt & tt & (e i).cells & (e i).frames & (e i).answer & (e i).place & tt,
     )
 
-pub drevaloci-natural : OneOutcome 3 natural-kinds.ps natural-kinds.r natural-reads.Post
-drevaloci-natural κs a s t v w p q = let e = p ∙ sym q in (λ i. (e i).code, λ i. tt & tt & tt & (e i).value & (e i).next & tt)
+pub drevaloci_natural : OneOutcome 3 natural-kinds.ps natural-kinds.r natural-reads.Post
+drevaloci_natural κs a s t v w p q = let e = p ∙ sym q in (λ i. (e i).code, λ i. tt & tt & tt & (e i).value & (e i).next & tt)

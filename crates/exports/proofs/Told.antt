@@ -8,15 +8,15 @@ use Rattle.refusal.specs.declared.Answer.{Answer}
 use Rattle.refusal.specs.Numbers.{number_of, place_of}
 use Rattle.scope.specs.Check.{Check, passed, refused}
 use Rattle.scope.specs.Reading.{NodeTable, Got, got, fault}
-use Rattle.scope.specs.Closing.{nodesLeft, hashesLeft}
+use Rattle.scope.specs.Closing.{nodes_left, hashes_left}
 use Rattle.scope.specs.Bounds.{Bound}
-use Rattle.scope.specs.Run.{Left, leftWith, Ended, endedWith}
+use Rattle.scope.specs.Run.{Left, left_with, Ended, ended_with}
 use Rattle.common.specs.Checks.{clash}
-use Rattle.bititer.specs.Answers.{naturalFault, gotNatural}
+use Rattle.bititer.specs.Answers.{natural_fault, got_natural}
 use Rattle.bititer.specs.declared.NaturalFault.{NaturalFault}
 use Rattle.bititer.specs.declared.NaturalRead.{NaturalRead}
 use Rattle.bititer.specs.declared.NaturalRead.TheVariants as NaturalRead
-use Rattle.common.specs.Answers.{checkOf, answer_of}
+use Rattle.common.specs.Answers.{check_of, answer_of}
 use Rattle.common.specs.declared.Checked.{Checked}
 use Rattle.common.specs.declared.Checked.TheVariants as Checked
 use Rattle.decode.specs.declared.Sizes.{Sizes}
@@ -24,32 +24,32 @@ use Rattle.decode.specs.declared.Decoded.{Decoded}
 use Rattle.decode.specs.declared.Decoded.TheVariants as Decoded
 use Rattle.decode.specs.Answers.{said_of}
 use Rattle.decode.specs.Stores as Stores
-use Rattle.decode.specs.Stores.{tableSizes, leftBy}
-use Rattle.analysis.specs.Limits.{boundedOf}
+use Rattle.decode.specs.Stores.{table_sizes, left_by}
+use Rattle.analysis.specs.Limits.{bounded_of}
 use Rattle.analysis.specs.declared.BoundsAnswer.{BoundsAnswer}
 use Rattle.analysis.specs.declared.BoundsAnswer.TheVariants as BoundsAnswer
-use Rattle.exports.specs.Codes.{answerCode, answerTold, judged, judgedBy, Decoding, decoding, decodingBy, bounding, boundingBy, staged, stagedBy, finished, finishedBy, read, faultCode, read_by}
+use Rattle.exports.specs.Codes.{answer_code, answer_told, judged, judged_by, Decoding, decoding, decoding_by, bounding, bounding_by, staged, staged_by, finished, finished_by, read, fault_code, read_by}
 
 -- a stage that checks
-pub check-told : (x : Checked) (c : Check (Unit {0})) → checkOf x ≡ c → (said : Answer) → said ≡ answer_of x → (code place : ℕ)
-    → code ≡ answerCode said → place ≡ answerTold said
-    → judged code place ≡ judgedBy c
-unfolding judgedBy
-check-told x c e said q code place ec ep =
-    ap₂ judged (ec ∙ ap answerCode q) (ep ∙ ap answerTold q) ∙ as-check x ∙ ap judgedBy e
+pub check_told : (x : Checked) (c : Check (Unit {0})) → check_of x ≡ c → (said : Answer) → said ≡ answer_of x → (code place : ℕ)
+    → code ≡ answer_code said → place ≡ answer_told said
+    → judged code place ≡ judged_by c
+unfolding judged_by
+check_told x c e said q code place ec ep =
+    ap₂ judged (ec ∙ ap answer_code q) (ep ∙ ap answer_told q) ∙ as_check x ∙ ap judged_by e
   where
-    as-check : (x : Checked) → judged (answerCode (answer_of x)) (answerTold (answer_of x)) ≡ judgedBy (checkOf x)
-    as-check Checked.Passed = refl
-    as-check (Checked.Refused why) = refl
+    as_check : (x : Checked) → judged (answer_code (answer_of x)) (answer_told (answer_of x)) ≡ judged_by (check_of x)
+    as_check Checked.Passed = refl
+    as_check (Checked.Refused why) = refl
 
 -- decoding
-module _ (r : Decoded) (c : Check NodeTable) (n h nodes hashes : List ℕ) (left : Stores.left (said_of r) n h ≡ leftBy c nodes hashes) where
-  pub table-told : (sizes : Sizes) → r ≡ Decoded.Table sizes → decoding 0 sizes.nodes sizes.hashes n h ≡ decodingBy c nodes hashes
-  unfolding decodingBy leftBy tableSizes
-  table-told sizes e = go c (ap (λ (r : Decoded). Stores.left (said_of r) n h) (sym e) ∙ left)
+module _ (r : Decoded) (c : Check NodeTable) (n h nodes hashes : List ℕ) (left : Stores.left (said_of r) n h ≡ left_by c nodes hashes) where
+  pub table_told : (sizes : Sizes) → r ≡ Decoded.Table sizes → decoding 0 sizes.nodes sizes.hashes n h ≡ decoding_by c nodes hashes
+  unfolding decoding_by left_by table_sizes
+  table_told sizes e = go c (ap (λ (r : Decoded). Stores.left (said_of r) n h) (sym e) ∙ left)
     where
-      go : (c : Check NodeTable) → Stores.left (passed sizes) n h ≡ leftBy c nodes hashes
-          → decoding 0 sizes.nodes sizes.hashes n h ≡ decodingBy c nodes hashes
+      go : (c : Check NodeTable) → Stores.left (passed sizes) n h ≡ left_by c nodes hashes
+          → decoding 0 sizes.nodes sizes.hashes n h ≡ decoding_by c nodes hashes
       go (refused w) f = clash (let y = ap (λ (l : Stores.Left). l.says) f in cc)
       go (passed t) f =
           let says : ◌≡◌ {A = Check Sizes} (passed sizes) (passed (record { nodes = length t.records; hashes = length t.hashes })) =
@@ -59,13 +59,13 @@ module _ (r : Decoded) (c : Check NodeTable) (n h nodes hashes : List ℕ) (left
           ∙ ap₂ (λ (n h : List ℕ). decoding 0 (length t.records) (length t.hashes) n h) (ap (λ (l : Stores.Left). l.nodes) f)
           (ap (λ (l : Stores.Left). l.hashes) f)
 
-  pub refusal-told : (why : Refusal) → r ≡ Decoded.Refused why → (code place : ℕ) → code ≡ number_of why → place ≡ place_of why
-      → decoding code place 0 n h ≡ decodingBy c nodes hashes
-  unfolding decodingBy leftBy tableSizes
-  refusal-told why e code place ec ep = ap₂ (λ (x y : ℕ). decoding x y 0 n h) ec ep ∙ go c (ap (λ (r : Decoded). Stores.left (said_of r) n h) (sym e) ∙ left)
+  pub refusal_told : (why : Refusal) → r ≡ Decoded.Refused why → (code place : ℕ) → code ≡ number_of why → place ≡ place_of why
+      → decoding code place 0 n h ≡ decoding_by c nodes hashes
+  unfolding decoding_by left_by table_sizes
+  refusal_told why e code place ec ep = ap₂ (λ (x y : ℕ). decoding x y 0 n h) ec ep ∙ go c (ap (λ (r : Decoded). Stores.left (said_of r) n h) (sym e) ∙ left)
     where
-      go : (c : Check NodeTable) → Stores.left (refused why) n h ≡ leftBy c nodes hashes
-          → decoding (number_of why) (place_of why) 0 n h ≡ decodingBy c nodes hashes
+      go : (c : Check NodeTable) → Stores.left (refused why) n h ≡ left_by c nodes hashes
+          → decoding (number_of why) (place_of why) 0 n h ≡ decoding_by c nodes hashes
       go (passed t) f = clash (let y = ap (λ (l : Stores.Left). l.says) f in cc)
       go (refused w) f =
           let says : ◌≡◌ {A = Check Sizes} (refused why) (refused w) = ap (λ (l : Stores.Left). l.says) f in
@@ -74,33 +74,33 @@ module _ (r : Decoded) (c : Check NodeTable) (n h nodes hashes : List ℕ) (left
           ∙ ap₂ (λ (n h : List ℕ). decoding (number_of w) (place_of w) 0 n h) (ap (λ (l : Stores.Left). l.nodes) f) (ap (λ (l : Stores.Left). l.hashes) f)
 
 -- bounds
-module _ (r : BoundsAnswer) (c : Check Bound) (e : boundedOf r ≡ c) where
-  pub bounds-told : (cells frames cost : ℕ) → r ≡ BoundsAnswer.Bounded cells frames cost → bounding 0 cells frames cost ≡ boundingBy c
-  unfolding boundingBy
-  bounds-told cells frames cost q = ap boundingBy (ap boundedOf (sym q) ∙ e)
+module _ (r : BoundsAnswer) (c : Check Bound) (e : bounded_of r ≡ c) where
+  pub bounds_told : (cells frames cost : ℕ) → r ≡ BoundsAnswer.Bounded cells frames cost → bounding 0 cells frames cost ≡ bounding_by c
+  unfolding bounding_by
+  bounds_told cells frames cost q = ap bounding_by (ap bounded_of (sym q) ∙ e)
 
-  pub unbounded-told : (why : Refusal) → r ≡ BoundsAnswer.Refused why → (code place : ℕ) → code ≡ number_of why → place ≡ place_of why
-      → bounding code place 0 0 ≡ boundingBy c
-  unfolding boundingBy
-  unbounded-told why q code place ec ep = ap₂ (λ (x y : ℕ). bounding x y 0 0) ec ep ∙ ap boundingBy (ap boundedOf (sym q) ∙ e)
+  pub unbounded_told : (why : Refusal) → r ≡ BoundsAnswer.Refused why → (code place : ℕ) → code ≡ number_of why → place ≡ place_of why
+      → bounding code place 0 0 ≡ bounding_by c
+  unfolding bounding_by
+  unbounded_told why q code place ec ep = ap₂ (λ (x y : ℕ). bounding x y 0 0) ec ep ∙ ap bounding_by (ap bounded_of (sym q) ∙ e)
 
 -- a natural
-module _ (r : NaturalRead) (at : ℕ) (g : Got ℕ) (e : gotNatural at r ≡ g) where
-  pub natural-told : (n bits : ℕ) → r ≡ NaturalRead.Read n bits → read 0 n (at + bits) ≡ read_by g
+module _ (r : NaturalRead) (at : ℕ) (g : Got ℕ) (e : got_natural at r ≡ g) where
+  pub natural_told : (n bits : ℕ) → r ≡ NaturalRead.Read n bits → read 0 n (at + bits) ≡ read_by g
   unfolding read_by
-  natural-told n bits q = ap read_by (ap (gotNatural at) (sym q) ∙ e)
+  natural_told n bits q = ap read_by (ap (got_natural at) (sym q) ∙ e)
 
-  pub fault-told : (why : NaturalFault) → r ≡ NaturalRead.Fault why → (code : ℕ) → code ≡ faultCode (naturalFault why) → read code 0 0 ≡ read_by g
+  pub fault_told : (why : NaturalFault) → r ≡ NaturalRead.Fault why → (code : ℕ) → code ≡ fault_code (natural_fault why) → read code 0 0 ≡ read_by g
   unfolding read_by
-  fault-told why q code ec = ap (λ (x : ℕ). read x 0 0) ec ∙ ap read_by (ap (gotNatural at) (sym q) ∙ e)
+  fault_told why q code ec = ap (λ (x : ℕ). read x 0 0) ec ∙ ap read_by (ap (got_natural at) (sym q) ∙ e)
 
 -- the run stage, and the whole job
-pub stage-told : (left : Left) (said : Answer) (cells frames answer : List ℕ) → leftWith said cells frames answer ≡ left
-    → (code place : ℕ) → code ≡ answerCode said → place ≡ answerTold said → staged code place cells frames answer ≡ stagedBy left
-unfolding stagedBy leftWith
-stage-told left said cells frames answer e code place ec ep = ap₂ (λ (x y : ℕ). staged x y cells frames answer) ec ep ∙ ap stagedBy e
+pub stage_told : (left : Left) (said : Answer) (cells frames answer : List ℕ) → left_with said cells frames answer ≡ left
+    → (code place : ℕ) → code ≡ answer_code said → place ≡ answer_told said → staged code place cells frames answer ≡ staged_by left
+unfolding staged_by left_with
+stage_told left said cells frames answer e code place ec ep = ap₂ (λ (x y : ℕ). staged x y cells frames answer) ec ep ∙ ap staged_by e
 
-pub job-told : (end : Ended) (said : Answer) (nodes hashes cells frames answer : List ℕ) → endedWith said nodes hashes cells frames answer ≡ end
-    → (code place : ℕ) → code ≡ answerCode said → place ≡ answerTold said → finished code place nodes hashes cells frames answer ≡ finishedBy end
-unfolding finishedBy endedWith
-job-told end said nodes hashes cells frames answer e code place ec ep = ap₂ (λ (x y : ℕ). finished x y nodes hashes cells frames answer) ec ep ∙ ap finishedBy e
+pub job_told : (end : Ended) (said : Answer) (nodes hashes cells frames answer : List ℕ) → ended_with said nodes hashes cells frames answer ≡ end
+    → (code place : ℕ) → code ≡ answer_code said → place ≡ answer_told said → finished code place nodes hashes cells frames answer ≡ finished_by end
+unfolding finished_by ended_with
+job_told end said nodes hashes cells frames answer e code place ec ep = ap₂ (λ (x y : ℕ). finished x y nodes hashes cells frames answer) ec ep ∙ ap finished_by e

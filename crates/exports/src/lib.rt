@@ -2,15 +2,15 @@
 // Each answers 0, or the number of its refusal. Beside it, through `place`, stands a refusal's place, or the count that an output or a table has.
 // A slice is passed as a pointer and then a length in elements. Each call promises what the call that it wraps promises.
 ghost use Rattle.std.specs.Prelude.{◌≡◌, length, ◌/◌};
-ghost use Rattle.limits.specs.Limits.{nodeNumbers};
-ghost use Rattle.scope.specs.Numbers.{streamOf};
-ghost use Rattle.scope.specs.Reading.{naturalUpTo};
+ghost use Rattle.limits.specs.Limits.{node_numbers};
+ghost use Rattle.scope.specs.Numbers.{stream_of};
+ghost use Rattle.scope.specs.Reading.{natural_up_to};
 ghost use Rattle.scope.specs.Closing.{decode};
 ghost use Rattle.scope.specs.Run.{run};
-ghost use Rattle.scope.specs.Stages.{walkStage, arrowStage, hashStage, runStage};
-ghost use Rattle.analysis.specs.Limits.{stageBounds};
-ghost use Rattle.exports.specs.Codes.{answerCode, answerTold, judged, judgedBy, decoding, decodingBy, bounding, boundingBy, staged, stagedBy, finished, finishedBy, read, faultCode, read_by};
-ghost use Rattle.bititer.specs.Answers.{naturalFault};
+ghost use Rattle.scope.specs.Stages.{walk_stage, arrow_stage, hash_stage, run_stage};
+ghost use Rattle.analysis.specs.Limits.{stage_bounds};
+ghost use Rattle.exports.specs.Codes.{answer_code, answer_told, judged, judged_by, decoding, decoding_by, bounding, bounding_by, staged, staged_by, finished, finished_by, read, fault_code, read_by};
+ghost use Rattle.bititer.specs.Answers.{natural_fault};
 
 use analysis::BoundsAnswer;
 use bititer::{NaturalFault, NaturalRead};
@@ -19,7 +19,7 @@ use refusal::Answer;
 
 // The number of an answer, 0 for an output; and its place, or an output's count of bits.
 fn answer_code(said: Answer) -> u32
-    ensures { result ≡ answerCode said }
+    ensures { result ≡ answer_code said }
 {
     match said {
         Answer::Value(_) => 0,
@@ -28,7 +28,7 @@ fn answer_code(said: Answer) -> u32
 }
 
 fn answer_told(said: Answer) -> u32
-    ensures { result ≡ answerTold said }
+    ensures { result ≡ answer_told said }
 {
     match said {
         Answer::Value(count) => count,
@@ -38,7 +38,7 @@ fn answer_told(said: Answer) -> u32
 
 // The number of a fault of reading a natural.
 fn fault_code(why: NaturalFault) -> u32
-    ensures { result ≡ faultCode (naturalFault why) }
+    ensures { result ≡ fault_code (natural_fault why) }
 {
     refusal::number(bititer::natural_refusal(why, 0))
 }
@@ -55,7 +55,7 @@ pub extern "C" fn drevaloci_run(
     place: &mut u32,
 ) -> u32
     ensures { finished result place.new nodes.new hashes.new cells.new frames.new answer.new
-        ≡ finishedBy (run dossier.now nodes.old hashes.old cells.old frames.old
+        ≡ finished_by (run dossier.now nodes.old hashes.old cells.old frames.old
         answer.old) }
 {
     let said = dossier::run(dossier, nodes, hashes, cells, frames, answer);
@@ -73,7 +73,7 @@ pub extern "C" fn drevaloci_decode(
     bytes: &mut u32,
 ) -> u32
     ensures { decoding result place.new bytes.new nodes.new hashes.new
-        ≡ decodingBy (decode program.now (length nodes.old / nodeNumbers) (length hashes.old))
+        ≡ decoding_by (decode program.now (length nodes.old / node_numbers) (length hashes.old))
         nodes.old hashes.old }
 {
     let said = decode::decode(program, nodes, hashes);
@@ -99,7 +99,7 @@ pub extern "C" fn drevaloci_walk(
     nodes: &[u32],
     place: &mut u32,
 ) -> u32
-    ensures { judged result place.new ≡ judgedBy (walkStage program.now hashes.now nodes.now) }
+    ensures { judged result place.new ≡ judged_by (walk_stage program.now hashes.now nodes.now) }
 {
     let walked = common::answer_of(table::walk_stage(program, hashes, nodes));
     *place = answer_told(walked);
@@ -117,7 +117,7 @@ pub extern "C" fn drevaloci_arrows(
     place: &mut u32,
 ) -> u32
     ensures { judged result place.new
-        ≡ judgedBy (arrowStage types.now nodes.now arrows.now program.now hashes.now) }
+        ≡ judged_by (arrow_stage types.now nodes.now arrows.now program.now hashes.now) }
 {
     let said = common::answer_of(stages::arrow_stage(types, nodes, arrows, program, hashes));
     *place = answer_told(said);
@@ -136,7 +136,7 @@ pub extern "C" fn drevaloci_hashes(
     place: &mut u32,
 ) -> u32
     ensures { judged result place.new
-        ≡ judgedBy (hashStage types.now nodes.now arrows.now program.now hashes.now
+        ≡ judged_by (hash_stage types.now nodes.now arrows.now program.now hashes.now
         given.now) }
 {
     let said = common::answer_of(stages::hash_stage(types, nodes, arrows, program, hashes, given));
@@ -157,7 +157,7 @@ pub extern "C" fn drevaloci_bounds(
     cost: &mut u32,
 ) -> u32
     ensures { bounding result cells.new frames.new cost.new
-        ≡ boundingBy (stageBounds types.now nodes.now arrows.now program.now hashes.now) }
+        ≡ bounding_by (stage_bounds types.now nodes.now arrows.now program.now hashes.now) }
 {
     let said = analysis::bounds_stage(types, nodes, arrows, program, hashes);
     match said {
@@ -195,7 +195,7 @@ pub extern "C" fn drevaloci_run_tables<'a>(
     place: &mut u32,
 ) -> u32
     ensures { staged result place.new cells.new frames.new answer.new
-        ≡ stagedBy (runStage types.now nodes.now arrows.now program.now hashes.now given.now
+        ≡ staged_by (run_stage types.now nodes.now arrows.now program.now hashes.now given.now
         witness.now witness_bits input.now input_bits cells.old frames.old answer.old) }
 {
     let said = bit_machine::run_stage(
@@ -226,7 +226,7 @@ pub extern "C" fn drevaloci_natural(
     value: &mut u32,
     next: &mut usize,
 ) -> u32
-    ensures { read result value.new next.new ≡ read_by (naturalUpTo (streamOf bytes.now) bound at) }
+    ensures { read result value.new next.new ≡ read_by (natural_up_to (stream_of bytes.now) bound at) }
 {
     let said = bititer::natural(bytes, at, bound);
     match said {

@@ -50,8 +50,8 @@ forwarded κs a s t x y p q = told s t (p ∙ sym q)
 pub backed : OneResult 0 backed-kinds.ps backed-kinds.r backed-reads.Post
 backed κs a s t x y p q = told s t (p ∙ sym q)
 
-pub at-start : OneResult 0 at-start-kinds.ps at-start-kinds.r at-start-reads.Post
-at-start κs a s t x y p q = told s t (p ∙ sym q)
+pub at_start : OneResult 0 at-start-kinds.ps at-start-kinds.r at-start-reads.Post
+at_start κs a s t x y p q = told s t (p ∙ sym q)
 
 -- the clause of a move in place is the fact that what is left stands for the moved frame, and two that are left so are the same
 abbrev OneMove : {M : Type 1} (𝓤 : Ura M) → (clause : SProp 𝓤) → (moved : Machine.Frame) → (left other : Frame) → Type 2
@@ -72,11 +72,11 @@ module _ {M : Type 1} {𝓤 : Ura M} (𝓛 : Logic 𝓤) (at_mem : Memory → SP
       → OneMove 𝓤 ((reset-call.clauses 𝓛 at_mem run κs a).ensures tt tt x) (Machine.reset (frame_of a.0.now)) x.0.now y.0.now
   reset a x y = (refl, λ p q. told x.0.now y.0.now (p ∙ sym q))
 
-pub cursor-after : OneResult 0 cursor-after-kinds.ps cursor-after-kinds.r cursor-after-reads.Post
-cursor-after κs a s t x y p q = p ∙ sym q
+pub cursor_after : OneResult 0 cursor-after-kinds.ps cursor-after-kinds.r cursor-after-reads.Post
+cursor_after κs a s t x y p q = p ∙ sym q
 
-pub record-at : OneResult 1 record-at-kinds.ps record-at-kinds.r record-at-reads.Post
-record-at κs a s t x y p q = told s t (p ∙ sym q)
+pub record_at_lem : OneResult 1 record-at-kinds.ps record-at-kinds.r record-at-reads.Post
+record_at_lem κs a s t x y p q = told s t (p ∙ sym q)
 
 pub put_record : OneOutcome 1 put-record-kinds.ps put-record-kinds.r put-record-reads.Post
 put_record κs a s t v w p q = let e = p ∙ sym q in (λ i. tt, λ i. e i & tt & tt & tt)

@@ -2,7 +2,7 @@
 -- A cursor that is moved back past 0 needs no word: the requirements' difference is then 0.
 use Rattle.std.specs.Prelude.{ℕ, min}
 use Rattle.scope.specs.Machine as Machine
-use Rattle.scope.specs.Machine.{frame, cursorAt}
+use Rattle.scope.specs.Machine.{frame, cursor_at}
 use Rattle.frame.specs.declared.Frame.{Frame}
 
 abbrev pub frame_of : Frame → Machine.Frame
@@ -17,4 +17,4 @@ largest = 4294967295
 
 -- the frame with its cursor held at the largest number
 abbrev pub held : Machine.Frame → Machine.Frame
-held f = cursorAt (min f.cursor largest) f
+held f = cursor_at (min f.cursor largest) f

@@ -2,10 +2,10 @@
 // A cursor moves by value, or in place where the frame is lent, and a frame is read from and written to its record in a lent store.
 // Every move is defined: a cursor that would pass the largest number is held there, and one that would pass 0 is held at 0.
 ghost use Rattle.std.specs.Prelude.{◌≡◌, ◌+◌, ◌-◌, min, get_or, set};
-ghost use Rattle.scope.specs.Machine.{frameFrom, forward, backward, reset};
-ghost use Rattle.layout.specs.Mach.{noFrame, recordsOf};
+ghost use Rattle.scope.specs.Machine.{frame_from, forward, backward, reset};
+ghost use Rattle.layout.specs.Mach.{no_frame, records_of};
 ghost use Rattle.frame.specs.Cursor.{frame_of, largest, held};
-ghost use Rattle.frame.specs.Store.{withRecords};
+ghost use Rattle.frame.specs.Store.{with_records};
 
 // Where the cursor stands, where the frame starts and how many cells it has.
 #[derive(Drop)]
@@ -39,7 +39,7 @@ fn cursor_back(cursor: u32, n: u32) -> u32
 impl Frame {
     // A frame of so many cells from a place on, its cursor at its start.
     pub fn new(start: u32, len: u32) -> Self
-        ensures { frame_of result ≡ frameFrom start len }
+        ensures { frame_of result ≡ frame_from start len }
     {
         Frame {
             cursor: start,
@@ -50,7 +50,7 @@ impl Frame {
 
     // What a free record holds: zeros.
     pub fn none() -> Self
-        ensures { frame_of result ≡ noFrame }
+        ensures { frame_of result ≡ no_frame }
     {
         Frame::new(0, 0)
     }
@@ -103,7 +103,7 @@ pub fn reset(f: &mut Frame)
 
 // The cursor of a new frame after a move on and a move back, both in place.
 pub fn cursor_after(start: u32, len: u32, on: u32, back: u32) -> u32
-    ensures { result ≡ (backward back (held (forward on (frameFrom start len)))).cursor }
+    ensures { result ≡ (backward back (held (forward on (frame_from start len)))).cursor }
 {
     let mut f = Frame::new(start, len);
     forward(&mut f, on);
@@ -113,7 +113,7 @@ pub fn cursor_after(start: u32, len: u32, on: u32, back: u32) -> u32
 
 // The frame of record k of a frame store; zeros past the last record.
 pub fn record_at(frames: &[u32], k: usize) -> Frame
-    ensures { frame_of result ≡ get_or (recordsOf frames.now) k noFrame }
+    ensures { frame_of result ≡ get_or (records_of frames.now) k no_frame }
 {
     if frames.len() / limits::FRAME_NUMBERS <= k {
         return Frame::none();
@@ -128,7 +128,7 @@ pub fn record_at(frames: &[u32], k: usize) -> Frame
 
 // Record k of a frame store set to a frame; nothing past the last record.
 pub fn put_record(frames: &mut [u32], k: usize, f: Frame)
-    ensures { frames.new ≡ withRecords (set (recordsOf frames.old) k (frame_of f)) frames.old }
+    ensures { frames.new ≡ with_records (set (records_of frames.old) k (frame_of f)) frames.old }
 {
     if frames.len() / limits::FRAME_NUMBERS <= k {
         return;

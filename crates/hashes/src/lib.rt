@@ -3,16 +3,16 @@
 // ones, which follow the disconnects with two children in node order. Any other node has none; where there is no hash the part is empty.
 ghost use Rattle.std.specs.Prelude.{◌≡◌, not, [], ◌++◌, ◌+◌, ◌*◌, ◌^◌, ◌<◌, ◌≤◌, length, take, drop};
 ghost use Rattle.promise.specs.Parts.{part_of};
-ghost use Rattle.limits.specs.Limits.{nodeCount, hashBytes};
+ghost use Rattle.limits.specs.Limits.{node_count, hash_bytes};
 ghost use Rattle.refusal.specs.declared.Refusal.TheVariants.{Hash};
 ghost use Rattle.scope.specs.Check.{each};
-ghost use Rattle.scope.specs.Nodes.{nodeRecords};
-ghost use Rattle.scope.specs.Hashes.{rights, countPlace};
-ghost use Rattle.common.specs.Answers.{checkOf};
-ghost use Rattle.table.specs.Answers.{recordOf};
-ghost use Rattle.table.specs.Lent.{lentNodes};
-ghost use Rattle.hashes.specs.Branch.{wholePart, entryPart, suppliedPart, branchPart};
-ghost use Rattle.hashes.specs.Hashes.{rightOf, pushed, unlikeAt, clashAt, countedHashes};
+ghost use Rattle.scope.specs.Nodes.{node_records};
+ghost use Rattle.scope.specs.Hashes.{rights, count_place};
+ghost use Rattle.common.specs.Answers.{check_of};
+ghost use Rattle.table.specs.Answers.{record_of};
+ghost use Rattle.table.specs.Lent.{lent_nodes};
+ghost use Rattle.hashes.specs.Branch.{whole_part, entry_part, supplied_part, branch_part};
+ghost use Rattle.hashes.specs.Hashes.{right_of, pushed, unlike_at, clash_at, counted_hashes};
 
 use common::Checked;
 use refusal::Refusal;
@@ -20,7 +20,7 @@ use table::NodeRecord;
 
 // The 32 bytes from a place on; empty where they are not all there.
 fn hash_at(bytes: &[u8], at: usize) -> &[u8]
-    ensures { part_of result ≡ wholePart (part_of bytes.entry) at (take hashBytes (drop at bytes.now)) }
+    ensures { part_of result ≡ whole_part (part_of bytes.entry) at (take hash_bytes (drop at bytes.now)) }
 {
     let hash = common::part(bytes, at, limits::HASH_BYTES);
     if hash.len() == limits::HASH_BYTES {
@@ -31,7 +31,7 @@ fn hash_at(bytes: &[u8], at: usize) -> &[u8]
 
 // Entry e of the supplied hashes; empty where it is not all there.
 fn entry_at(given: &[u8], e: usize) -> &[u8]
-    ensures { part_of result ≡ entryPart (part_of given.entry) e }
+    ensures { part_of result ≡ entry_part (part_of given.entry) e }
 {
     if given.len() / limits::HASH_BYTES <= e {
         return common::part(given, 0, 0);
@@ -41,7 +41,7 @@ fn entry_at(given: &[u8], e: usize) -> &[u8]
 
 // The first supplied hash that is for node j; empty where there is none.
 fn supplied<'a>(nodes: &[u32], given: &'a [u8], j: usize) -> &'a [u8]
-    ensures { part_of result ≡ suppliedPart (part_of given.entry) j 0 (rights (lentNodes [] nodes.now)) }
+    ensures { part_of result ≡ supplied_part (part_of given.entry) j 0 (rights (lent_nodes [] nodes.now)) }
 {
     let count = nodes.len() / limits::NODE_NUMBERS;
     let mut i: usize = 0;
@@ -61,7 +61,7 @@ fn supplied<'a>(nodes: &[u32], given: &'a [u8], j: usize) -> &'a [u8]
 
 // The hash of the branch at node j; empty for one that has no hash.
 pub fn branch_hash<'a>(nodes: &[u32], hashes: &'a [u8], given: &'a [u8], j: usize) -> &'a [u8]
-    ensures { part_of result ≡ branchPart nodes.now (part_of hashes.entry) (part_of given.entry) j }
+    ensures { part_of result ≡ branch_part nodes.now (part_of hashes.entry) (part_of given.entry) j }
 {
     let r = table::record_in(nodes, j);
     if r.kind == table::HIDDEN {
@@ -72,7 +72,7 @@ pub fn branch_hash<'a>(nodes: &[u32], hashes: &'a [u8], given: &'a [u8], j: usiz
 
 // A count as a place: the last place stands for every count above it.
 fn place_of(count: usize) -> u32
-    ensures { result ≡ countPlace count }
+    ensures { result ≡ count_place count }
 {
     if count <= u32::MAX as usize {
         count as u32
@@ -83,9 +83,9 @@ fn place_of(count: usize) -> u32
 
 // Puts the right child of a disconnect with two children after the first `count` ones, and answers how many there are then.
 fn push_right(r: NodeRecord, children: &mut [u32; limits::NODE_COUNT], count: usize) -> usize
-    requires { (count < nodeCount) × (length children.old ≡ nodeCount) }
-    ensures { (result ≡ count + length (rightOf (recordOf r)))
-        × (children.new ≡ pushed (rightOf (recordOf r)) children.old count) }
+    requires { (count < node_count) × (length children.old ≡ node_count) }
+    ensures { (result ≡ count + length (right_of (record_of r)))
+        × (children.new ≡ pushed (right_of (record_of r)) children.old count) }
 {
     if r.kind != table::DISCONNECT {
         return count;
@@ -96,9 +96,9 @@ fn push_right(r: NodeRecord, children: &mut [u32; limits::NODE_COUNT], count: us
 
 // Puts the right children of the disconnects, in node order, at the front of an array, and answers how many there are.
 fn rights_of(nodes: &[u32], children: &mut [u32; limits::NODE_COUNT]) -> usize
-    requires { (length (nodeRecords nodes.now) ≤ nodeCount) × (length children.old ≡ nodeCount) }
-    ensures { (result ≡ length (rights (lentNodes [] nodes.now)))
-        × (children.new ≡ rights (lentNodes [] nodes.now) ++ drop result children.old) }
+    requires { (length (node_records nodes.now) ≤ node_count) × (length children.old ≡ node_count) }
+    ensures { (result ≡ length (rights (lent_nodes [] nodes.now)))
+        × (children.new ≡ rights (lent_nodes [] nodes.now) ++ drop result children.old) }
 {
     let n = (nodes.len() / limits::NODE_NUMBERS) as u32;
     let mut i: u32 = 0;
@@ -113,8 +113,8 @@ fn rights_of(nodes: &[u32], children: &mut [u32; limits::NODE_COUNT]) -> usize
 
 // Whether entries d and e are for one child and unlike.
 fn unlike(given: &[u8], children: &[u32], d: usize, e: usize) -> bool
-    requires { (d < e) × (e < length children.now) × (hashBytes * length children.now ≤ length given.now) }
-    ensures { result ≡ unlikeAt children.now given.now e d }
+    requires { (d < e) × (e < length children.now) × (hash_bytes * length children.now ≤ length given.now) }
+    ensures { result ≡ unlike_at children.now given.now e d }
 {
     if children[d] != children[e] {
         return false;
@@ -124,8 +124,8 @@ fn unlike(given: &[u8], children: &[u32], d: usize, e: usize) -> bool
 
 // Whether entry e is unlike an earlier one of its child.
 fn clashes(given: &[u8], children: &[u32], e: usize) -> bool
-    requires { (e < length children.now) × (hashBytes * length children.now ≤ length given.now) }
-    ensures { result ≡ clashAt children.now given.now e }
+    requires { (e < length children.now) × (hash_bytes * length children.now ≤ length given.now) }
+    ensures { result ≡ clash_at children.now given.now e }
 {
     let mut d = e;
     while 0 < d {
@@ -139,8 +139,8 @@ fn clashes(given: &[u8], children: &[u32], e: usize) -> bool
 
 // No entry is unlike an earlier one of its child.
 fn none_clashes(given: &[u8], children: &[u32]) -> Checked
-    requires { (length children.now ≤ nodeCount) × (hashBytes * length children.now ≤ length given.now) }
-    ensures { checkOf result ≡ each (length children.now) (λ e. not (clashAt children.now given.now e)) Hash }
+    requires { (length children.now ≤ node_count) × (hash_bytes * length children.now ≤ length given.now) }
+    ensures { check_of result ≡ each (length children.now) (λ e. not (clash_at children.now given.now e)) Hash }
 {
     let count = children.len();
     let mut e: usize = 0;
@@ -155,7 +155,7 @@ fn none_clashes(given: &[u8], children: &[u32]) -> Checked
 
 // The supplied hashes of a lent node table, after its count (4): 13 for their count, then at the first entry unlike an earlier one of its child.
 pub fn check_hashes(nodes: &[u32], given: &[u8]) -> Checked
-    ensures { checkOf result ≡ countedHashes nodes.now given.now }
+    ensures { check_of result ≡ counted_hashes nodes.now given.now }
 {
     let some = table::check_count(nodes);
     let Checked::Passed = some else {

@@ -2,7 +2,7 @@
 use mathlib.Core.Path.{sym, ◌∙◌}
 use Rattle.promise.specs.Outcomes.{OneResult, OneSeen}
 use Rattle.promise.specs.Parts.{part_of}
-use Rattle.common.specs.Answers.{check-tells}
+use Rattle.common.specs.Answers.{check_tells}
 use Rattle.header.proofs.check_header.Kinds as check-header-kinds
 use Rattle.header.proofs.check_header.Reads as check-header-reads
 use Rattle.header.proofs.count.Kinds as count-kinds
@@ -12,8 +12,8 @@ use Rattle.header.proofs.opened.Reads as opened-reads
 use Rattle.header.proofs.section.Kinds as section-kinds
 use Rattle.header.proofs.section.Reads as section-reads
 
-pub check-header : OneResult 1 check-header-kinds.ps check-header-kinds.r check-header-reads.Post
-check-header κs a s t x y p q = check-tells s t (p ∙ sym q)
+pub check_header_lem : OneResult 1 check-header-kinds.ps check-header-kinds.r check-header-reads.Post
+check_header_lem κs a s t x y p q = check_tells s t (p ∙ sym q)
 
 pub count : OneResult 1 count-kinds.ps count-kinds.r count-reads.Post
 count κs a s t x y p q = p ∙ sym q

@@ -3,28 +3,28 @@ use Rattle.std.specs.Prelude.{◌≡◌, refl, List, [], ℕ}
 use Rattle.std.proofs.Common.{ap, ◌∙◌}
 use Rattle.promise.specs.Parts.{Part, cut}
 use Rattle.scope.specs.Check.{Check, passed, refused}
-use Rattle.scope.specs.Header.{size, start, checkHeader, section, opened}
+use Rattle.scope.specs.Header.{size, start, check_header, section, opened}
 
-abbrev pub sectionPart : (dossier : Part) → (k : ℕ) → Part
-sectionPart dossier k = cut dossier (start dossier.bytes k) (size dossier.bytes k)
+abbrev pub section_part : (dossier : Part) → (k : ℕ) → Part
+section_part dossier k = cut dossier (start dossier.bytes k) (size dossier.bytes k)
 
 -- where the header is refused, the empty part at the dossier's start
-abbrev pub openedBy : Check (Unit {0}) → (dossier : Part) → (k : ℕ) → Part
-openedBy (passed x) dossier k = sectionPart dossier k
-openedBy (refused r) dossier k = cut dossier 0 0
+abbrev pub opened_by : Check (Unit {0}) → (dossier : Part) → (k : ℕ) → Part
+opened_by (passed x) dossier k = section_part dossier k
+opened_by (refused r) dossier k = cut dossier 0 0
 
-abbrev pub openedPart : (dossier : Part) → (k : ℕ) → Part
-openedPart dossier k = openedBy (checkHeader dossier.bytes) dossier k
+abbrev pub opened_part : (dossier : Part) → (k : ℕ) → Part
+opened_part dossier k = opened_by (check_header dossier.bytes) dossier k
 
 -- what such a part holds
-pub section-holds : (part dossier : Part) (k : ℕ) → part ≡ sectionPart dossier k → part.bytes ≡ section dossier.bytes k
+pub section_holds : (part dossier : Part) (k : ℕ) → part ≡ section_part dossier k → part.bytes ≡ section dossier.bytes k
 unfolding section
-section-holds part dossier k e = ap (λ (p : Part). p.bytes) e
+section_holds part dossier k e = ap (λ (p : Part). p.bytes) e
 
-pub opened-holds : (part dossier : Part) (k : ℕ) → part ≡ openedPart dossier k → part.bytes ≡ opened dossier.bytes k
+pub opened_holds : (part dossier : Part) (k : ℕ) → part ≡ opened_part dossier k → part.bytes ≡ opened dossier.bytes k
 unfolding opened section
-opened-holds part dossier k e = ap (λ (p : Part). p.bytes) e ∙ go (checkHeader dossier.bytes)
+opened_holds part dossier k e = ap (λ (p : Part). p.bytes) e ∙ go (check_header dossier.bytes)
   where
-    go : (x : Check (Unit {0})) → (openedBy x dossier k).bytes ≡ elim x [ passed y ↦ section dossier.bytes k | refused r ↦ [] ]
+    go : (x : Check (Unit {0})) → (opened_by x dossier k).bytes ≡ elim x [ passed y ↦ section dossier.bytes k | refused r ↦ [] ]
     go (passed y) = refl
     go (refused r) = refl

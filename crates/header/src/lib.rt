@@ -2,12 +2,12 @@
 // A section's bytes are reckoned in 64 bits, so that no count makes a size or an end wrap.
 // Places go by the sections: each has to start where the one before it ends, which the check carries along.
 ghost use Rattle.std.specs.Prelude.{◌≡◌, ◌+◌, ◌*◌, ◌^◌, ◌≤◌, ◌<◌, length};
-ghost use Rattle.limits.specs.Limits.{dossierBytes};
-ghost use Rattle.scope.specs.Check.{firstFailing};
-ghost use Rattle.scope.specs.Header.{number, count, size, start, headerRule, checkHeader};
+ghost use Rattle.limits.specs.Limits.{dossier_bytes};
+ghost use Rattle.scope.specs.Check.{first_failing};
+ghost use Rattle.scope.specs.Header.{number, count, size, start, header_rule, check_header};
 ghost use Rattle.promise.specs.Parts.{part_of};
-ghost use Rattle.common.specs.Answers.{checkOf};
-ghost use Rattle.header.specs.Sections.{sectionPart, openedPart};
+ghost use Rattle.common.specs.Answers.{check_of};
+ghost use Rattle.header.specs.Sections.{section_part, opened_part};
 
 use common::Checked;
 use refusal::Refusal;
@@ -60,8 +60,8 @@ fn size(dossier: &[u8], k: usize) -> u64
 
 // The first number against its rule; where there is none, how many numbers there are.
 fn first_wrong(dossier: &[u8]) -> usize
-    requires { length dossier.now ≤ dossierBytes }
-    ensures { result ≡ firstFailing (headerRule dossier.now) 14 0 }
+    requires { length dossier.now ≤ dossier_bytes }
+    ensures { result ≡ first_failing (header_rule dossier.now) 14 0 }
 {
     if number(dossier, 0) != 1 {
         return 0;
@@ -98,7 +98,7 @@ fn first_wrong(dossier: &[u8]) -> usize
 
 // Whether a dossier's header keeps its rules; else the first wrong number, at its byte position.
 pub fn check_header(dossier: &[u8]) -> Checked
-    ensures { checkOf result ≡ checkHeader dossier.now }
+    ensures { check_of result ≡ check_header dossier.now }
 {
     if dossier.len() < limits::HEADER_BYTES {
         return Checked::Refused(Refusal::Header(0));
@@ -130,7 +130,7 @@ fn start(dossier: &[u8], k: usize) -> u64
 
 // Section k of a dossier whose header was checked; of any other, what of it lies within the dossier.
 pub fn section(dossier: &[u8], k: usize) -> &[u8]
-    ensures { part_of result ≡ sectionPart (part_of dossier.entry) k }
+    ensures { part_of result ≡ section_part (part_of dossier.entry) k }
 {
     if SECTIONS <= k {
         return common::part(dossier, start(dossier, SECTIONS) as usize, 0);
@@ -144,7 +144,7 @@ pub fn section(dossier: &[u8], k: usize) -> &[u8]
 
 // Section k, as that part of the dossier; empty where the header is refused or there is no such section.
 pub fn opened(dossier: &[u8], k: usize) -> &[u8]
-    ensures { part_of result ≡ openedPart (part_of dossier.entry) k }
+    ensures { part_of result ≡ opened_part (part_of dossier.entry) k }
 {
     let Checked::Passed = check_header(dossier) else {
         return common::part(dossier, 0, 0);

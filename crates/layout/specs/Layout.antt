@@ -8,7 +8,7 @@ use Rattle.report.specs.Values.{Cells}
 use Rattle.scope.specs.Numbers.{tabulate}
 use Rattle.scope.specs.Machine.{Frame, State}
 use Rattle.common.specs.Lists.{set-append-add}
-use Rattle.layout.specs.Mach.{Mach, mach, noFrame}
+use Rattle.layout.specs.Mach.{Mach, mach, no_frame}
 
 -- a state by its four parts
 abbrev pub state_of : Cells → (reads writes : List Frame) → ℕ → State
@@ -21,7 +21,7 @@ stacked (f ∷ fs) l = stacked fs (f ∷ l)
 
 -- the records of two stacks with so many free records between them: write frames upwards, read frames downwards from the end
 abbrev pub arranged : (free : ℕ) → (writes reads : List Frame) → List Frame
-arranged free ws rs = stacked ws (replicate free noFrame ++ rs)
+arranged free ws rs = stacked ws (replicate free no_frame ++ rs)
 
 -- a state in a list of `lent` cells and of `most` records
 abbrev pub layout : (lent most : ℕ) → State → Mach
@@ -35,11 +35,11 @@ stacked-length : (ws l : List Frame) → length (stacked ws l) ≡ length ws + l
 stacked-length [] l = sym (zero-add (length l))
 stacked-length (f ∷ ws) l = let z : length (stacked ws (f ∷ l)) ≡ length ws + length (f ∷ l) = stacked-length ws (f ∷ l) in omega arith
 
-stacked-get : (ws l : List Frame) (k : ℕ) → get_or (stacked ws l) (length ws + k) noFrame ≡ get_or l k noFrame
-stacked-get [] l k = rw zero-add
-stacked-get (f ∷ ws) l k =
+stacked_get : (ws l : List Frame) (k : ℕ) → get_or (stacked ws l) (length ws + k) no_frame ≡ get_or l k no_frame
+stacked_get [] l k = rw zero-add
+stacked_get (f ∷ ws) l k =
     let e : suc (length ws) + k ≡ length ws + suc k = omega arith in
-    rw e (stacked-get ws (f ∷ l) (suc k))
+    rw e (stacked_get ws (f ∷ l) (suc k))
 
 stacked-set : (ws l : List Frame) (k : ℕ) (g : Frame) → set (stacked ws l) (length ws + k) g ≡ stacked ws (set l k g)
 stacked-set [] l k g = rw zero-add
@@ -47,72 +47,72 @@ stacked-set (f ∷ ws) l k g =
     let e : suc (length ws) + k ≡ length ws + suc k = omega arith in
     rw e (stacked-set ws (f ∷ l) (suc k) g)
 
-free-length : (z : ℕ) (rs : List Frame) → length (replicate z noFrame ++ rs) ≡ z + length rs
-free-length z rs = omega (arith, length-append (replicate z noFrame) rs, length-replicate z noFrame)
+free_length : (z : ℕ) (rs : List Frame) → length (replicate z no_frame ++ rs) ≡ z + length rs
+free_length z rs = omega (arith, length-append (replicate z no_frame) rs, length-replicate z no_frame)
 
-free-get : (z : ℕ) (rs : List Frame) (k : ℕ) → get_or (replicate z noFrame ++ rs) (z + k) noFrame ≡ get_or rs k noFrame
-free-get z rs k =
-    ap (λ n. get_or (replicate z noFrame ++ rs) (n + k) noFrame) (sym (length-replicate z noFrame)) ∙ get_or-append-add (replicate z noFrame) rs k noFrame
+free_get : (z : ℕ) (rs : List Frame) (k : ℕ) → get_or (replicate z no_frame ++ rs) (z + k) no_frame ≡ get_or rs k no_frame
+free_get z rs k =
+    ap (λ n. get_or (replicate z no_frame ++ rs) (n + k) no_frame) (sym (length-replicate z no_frame)) ∙ get_or-append-add (replicate z no_frame) rs k no_frame
 
-free-set : (z : ℕ) (rs : List Frame) (k : ℕ) (g : Frame) → set (replicate z noFrame ++ rs) (z + k) g ≡ replicate z noFrame ++ set rs k g
-free-set z rs k g =
-    ap (λ n. set (replicate z noFrame ++ rs) (n + k) g) (sym (length-replicate z noFrame)) ∙ set-append-add (replicate z noFrame) rs k g
+free_set : (z : ℕ) (rs : List Frame) (k : ℕ) (g : Frame) → set (replicate z no_frame ++ rs) (z + k) g ≡ replicate z no_frame ++ set rs k g
+free_set z rs k g =
+    ap (λ n. set (replicate z no_frame ++ rs) (n + k) g) (sym (length-replicate z no_frame)) ∙ set-append-add (replicate z no_frame) rs k g
 
 -- a free record more, behind the free ones or before them
-free_more : (z : ℕ) (rs : List Frame) → replicate z noFrame ++ noFrame ∷ rs ≡ noFrame ∷ (replicate z noFrame ++ rs)
+free_more : (z : ℕ) (rs : List Frame) → replicate z no_frame ++ no_frame ∷ rs ≡ no_frame ∷ (replicate z no_frame ++ rs)
 free_more zero rs = refl
-free_more (suc z) rs = ap (λ l. noFrame ∷ l) (free_more z rs)
+free_more (suc z) rs = ap (λ l. no_frame ∷ l) (free_more z rs)
 
 -- as many records as frames and free ones
 pub arranged-length : (z : ℕ) (ws rs : List Frame) → length (arranged z ws rs) ≡ length ws + (z + length rs)
-arranged-length z ws rs = stacked-length ws (replicate z noFrame ++ rs) ∙ ap (λ k. length ws + k) (free-length z rs)
+arranged-length z ws rs = stacked-length ws (replicate z no_frame ++ rs) ∙ ap (λ k. length ws + k) (free_length z rs)
 
 -- the active frames stand where the machine looks, and are set there
 module _ (z : ℕ) (f : Frame) (ws rs : List Frame) where
-  write-place : length (f ∷ ws) - 1 ≡ length ws + 0
-  write-place = omega arith
+  write_place_lem : length (f ∷ ws) - 1 ≡ length ws + 0
+  write_place_lem = omega arith
 
-  pub write-get : get_or (arranged z (f ∷ ws) rs) (length (f ∷ ws) - 1) noFrame ≡ f
-  write-get = rw write-place (stacked-get ws (f ∷ (replicate z noFrame ++ rs)) 0)
+  pub write_get : get_or (arranged z (f ∷ ws) rs) (length (f ∷ ws) - 1) no_frame ≡ f
+  write_get = rw write_place_lem (stacked_get ws (f ∷ (replicate z no_frame ++ rs)) 0)
 
-  pub write-set : (g : Frame) → set (arranged z (f ∷ ws) rs) (length (f ∷ ws) - 1) g ≡ arranged z (g ∷ ws) rs
-  write-set g = rw write-place (stacked-set ws (f ∷ (replicate z noFrame ++ rs)) 0 g)
+  pub write_set : (g : Frame) → set (arranged z (f ∷ ws) rs) (length (f ∷ ws) - 1) g ≡ arranged z (g ∷ ws) rs
+  write_set g = rw write_place_lem (stacked-set ws (f ∷ (replicate z no_frame ++ rs)) 0 g)
 
-  read-place : length (arranged z ws (f ∷ rs)) - length (f ∷ rs) ≡ length ws + (z + 0)
-  read-place = omega (arith, arranged-length z ws (f ∷ rs))
+  read_place_lem : length (arranged z ws (f ∷ rs)) - length (f ∷ rs) ≡ length ws + (z + 0)
+  read_place_lem = omega (arith, arranged-length z ws (f ∷ rs))
 
-  pub read-get : get_or (arranged z ws (f ∷ rs)) (length (arranged z ws (f ∷ rs)) - length (f ∷ rs)) noFrame ≡ f
-  read-get = rw read-place (stacked-get ws (replicate z noFrame ++ f ∷ rs) (z + 0) ∙ free-get z (f ∷ rs) 0)
+  pub read_get : get_or (arranged z ws (f ∷ rs)) (length (arranged z ws (f ∷ rs)) - length (f ∷ rs)) no_frame ≡ f
+  read_get = rw read_place_lem (stacked_get ws (replicate z no_frame ++ f ∷ rs) (z + 0) ∙ free_get z (f ∷ rs) 0)
 
   pub read_set : (g : Frame) → set (arranged z ws (f ∷ rs)) (length (arranged z ws (f ∷ rs)) - length (f ∷ rs)) g ≡ arranged z ws (g ∷ rs)
-  read_set g = rw read-place (stacked-set ws (replicate z noFrame ++ f ∷ rs) (z + 0) g ∙ ap (λ l. stacked ws l) (free-set z (f ∷ rs) 0 g))
+  read_set g = rw read_place_lem (stacked-set ws (replicate z no_frame ++ f ∷ rs) (z + 0) g ∙ ap (λ l. stacked ws l) (free_set z (f ∷ rs) 0 g))
 
   -- a frame in the first free record
-  pub push-set : set (arranged (suc z) ws rs) (length ws) f ≡ arranged z (f ∷ ws) rs
-  push-set = ap (λ k. set (arranged (suc z) ws rs) k f) (sym (add-zero (length ws))) ∙ stacked-set ws (noFrame ∷ (replicate z noFrame ++ rs)) 0 f
+  pub push_set : set (arranged (suc z) ws rs) (length ws) f ≡ arranged z (f ∷ ws) rs
+  push_set = ap (λ k. set (arranged (suc z) ws rs) k f) (sym (add-zero (length ws))) ∙ stacked-set ws (no_frame ∷ (replicate z no_frame ++ rs)) 0 f
 
   -- the active write frame's record free, and a frame in the last free record
-  pub move-set : (g : Frame)
-      → set (set (arranged z (f ∷ ws) rs) (length (f ∷ ws) - 1) noFrame) (length (arranged z (f ∷ ws) rs) - (length rs + 1)) g ≡ arranged z ws (g ∷ rs)
-  move-set g =
+  pub move_set : (g : Frame)
+      → set (set (arranged z (f ∷ ws) rs) (length (f ∷ ws) - 1) no_frame) (length (arranged z (f ∷ ws) rs) - (length rs + 1)) g ≡ arranged z ws (g ∷ rs)
+  move_set g =
       let place : length (arranged z (f ∷ ws) rs) - (length rs + 1) ≡ length ws + (z + 0) = omega (arith, arranged-length z (f ∷ ws) rs) in
-      ap (λ k. set (set (arranged z (f ∷ ws) rs) (length (f ∷ ws) - 1) noFrame) k g) place
-      ∙ ap (λ l. set l (length ws + (z + 0)) g) (write-set noFrame ∙ ap (λ l. stacked ws l) (sym (free_more z rs)))
-      ∙ stacked-set ws (replicate z noFrame ++ noFrame ∷ rs) (z + 0) g
-      ∙ ap (λ l. stacked ws l) (free-set z (noFrame ∷ rs) 0 g)
+      ap (λ k. set (set (arranged z (f ∷ ws) rs) (length (f ∷ ws) - 1) no_frame) k g) place
+      ∙ ap (λ l. set l (length ws + (z + 0)) g) (write_set no_frame ∙ ap (λ l. stacked ws l) (sym (free_more z rs)))
+      ∙ stacked-set ws (replicate z no_frame ++ no_frame ∷ rs) (z + 0) g
+      ∙ ap (λ l. stacked ws l) (free_set z (no_frame ∷ rs) 0 g)
 
   -- the active read frame's record free
-  pub drop-set : set (arranged z ws (f ∷ rs)) (length (arranged z ws (f ∷ rs)) - length (f ∷ rs)) noFrame ≡ arranged (suc z) ws rs
-  drop-set = read_set noFrame ∙ ap (λ l. stacked ws l) (free_more z rs)
+  pub drop_set : set (arranged z ws (f ∷ rs)) (length (arranged z ws (f ∷ rs)) - length (f ∷ rs)) no_frame ≡ arranged (suc z) ws rs
+  drop_set = read_set no_frame ∙ ap (λ l. stacked ws l) (free_more z rs)
 
 -- no frame at all: every record is free
-pub arranged-none : (z : ℕ) → arranged z [] [] ≡ replicate z noFrame
-arranged-none z = append-nil (replicate z noFrame)
+pub arranged_none : (z : ℕ) → arranged z [] [] ≡ replicate z no_frame
+arranged_none z = append-nil (replicate z no_frame)
 
 -- a record between the two stacks is free
-pub arranged-free : (z : ℕ) (ws rs : List Frame) (k : ℕ) → length ws ≤ k → k < length ws + z → get_or (arranged z ws rs) k noFrame ≡ noFrame
-arranged-free z ws rs k low high =
+pub arranged_free : (z : ℕ) (ws rs : List Frame) (k : ℕ) → length ws ≤ k → k < length ws + z → get_or (arranged z ws rs) k no_frame ≡ no_frame
+arranged_free z ws rs k low high =
     let j : ℕ = k - length ws in
     let e : k ≡ length ws + j = omega arith in
-    ap (λ k. get_or (arranged z ws rs) k noFrame) e ∙ stacked-get ws (replicate z noFrame ++ rs) j
-    ∙ get_or-append (replicate z noFrame) rs noFrame j (omega (arith, length-replicate z noFrame)) ∙ get_or-replicate z j noFrame noFrame (omega arith)
+    ap (λ k. get_or (arranged z ws rs) k no_frame) e ∙ stacked_get ws (replicate z no_frame ++ rs) j
+    ∙ get_or-append (replicate z no_frame) rs no_frame j (omega (arith, length-replicate z no_frame)) ∙ get_or-replicate z j no_frame no_frame (omega arith)

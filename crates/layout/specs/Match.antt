@@ -13,11 +13,11 @@ use Rattle.layout.specs.Layout.{layout}
 use Rattle.layout.specs.Follow.{Goes, Fits, KeptFrom, Follows, Rule, unmoved}
 
 -- an outcome, its state laid out
-unfoldable pub laidOut : (lent most : ℕ) → Step → Outcome
-laidOut lent most (done s) = done (layout lent most s)
-laidOut lent most (failed p s) = failed p (layout lent most s)
-laidOut lent most (pruned p s) = pruned p (layout lent most s)
-laidOut lent most stuck = stuck
+unfoldable pub laid_out : (lent most : ℕ) → Step → Outcome
+laid_out lent most (done s) = done (layout lent most s)
+laid_out lent most (failed p s) = failed p (layout lent most s)
+laid_out lent most (pruned p s) = pruned p (layout lent most s)
+laid_out lent most stuck = stuck
 
 -- a state that a run reaches from cells c: it fits, and no cell from the bound on was changed
 pub record Reached (size most : ℕ) (c : Cells) (s : State) : Type 0 where
@@ -33,7 +33,7 @@ Ends size most c stuck = ⊥
 
 -- the store machine's outcome r is the layout of the outcome o
 pub record Matches (lent size most : ℕ) (c : Cells) (o : Step) (r : Outcome) : Type 0 where
-  pub same : r ≡ laidOut lent most o
+  pub same : r ≡ laid_out lent most o
   pub ends : Ends size most c o
 
 -- what goes on, goes at its first step and after it
@@ -71,63 +71,63 @@ pub record DoneAt (lent size most : ℕ) (o : Step) (m : Mach) : Type 0 where
   pub fits : Fits size most state
 
 module _ (lent size most : ℕ) where
-  reached-from : (c d : Cells) (s : State) → KeptFrom size c d → Reached size most d s → Reached size most c s
-  reached-from c d s k r = record { fits = r.fits; kept = λ p l. r.kept p l ∙ k p l }
+  reached_from : (c d : Cells) (s : State) → KeptFrom size c d → Reached size most d s → Reached size most c s
+  reached_from c d s k r = record { fits = r.fits; kept = λ p l. r.kept p l ∙ k p l }
 
-  ends-from : (c d : Cells) (o : Step) → KeptFrom size c d → Ends size most d o → Ends size most c o
-  ends-from c d (done s) k r = reached-from c d s k r
-  ends-from c d (failed p s) k r = reached-from c d s k r
-  ends-from c d (pruned p s) k r = reached-from c d s k r
-  ends-from c d stuck k r = r
+  ends_from : (c d : Cells) (o : Step) → KeptFrom size c d → Ends size most d o → Ends size most c o
+  ends_from c d (done s) k r = reached_from c d s k r
+  ends_from c d (failed p s) k r = reached_from c d s k r
+  ends_from c d (pruned p s) k r = reached_from c d s k r
+  ends_from c d stuck k r = r
 
   -- the same from earlier cells
-  pub matches-from : (c d : Cells) (o : Step) (r : Outcome) → KeptFrom size c d → Matches lent size most d o r → Matches lent size most c o r
-  matches-from c d o r k h = record { same = h.same; ends = ends-from c d o k h.ends }
+  pub matches_from : (c d : Cells) (o : Step) (r : Outcome) → KeptFrom size c d → Matches lent size most d o r → Matches lent size most c o r
+  matches_from c d o r k h = record { same = h.same; ends = ends_from c d o k h.ends }
 
   -- a state as it is
-  pub matches-here : (s : State) → Fits size most s → Matches lent size most s.cells (done s) (done (layout lent most s))
-  unfolding laidOut
-  matches-here s h = record { same = refl; ends = record { fits = h; kept = λ p l. refl } }
+  pub matches_here : (s : State) → Fits size most s → Matches lent size most s.cells (done s) (done (layout lent most s))
+  unfolding laid_out
+  matches_here s h = record { same = refl; ends = record { fits = h; kept = λ p l. refl } }
 
   -- a last rule
-  pub matches-rule : {s : State} {o : Step} {m : Mach} {Ok : Type 0} → Follows lent size most s o m Ok → Matches lent size most s.cells o (done m)
-  unfolding laidOut
-  matches-rule {s} f = record {
-    same = ap done f.same ∙ sym (ap (λ o. laidOut lent most o) f.does);
+  pub matches_rule : {s : State} {o : Step} {m : Mach} {Ok : Type 0} → Follows lent size most s o m Ok → Matches lent size most s.cells o (done m)
+  unfolding laid_out
+  matches_rule {s} f = record {
+    same = ap done f.same ∙ sym (ap (λ o. laid_out lent most o) f.does);
     ends = subst (λ o. Ends size most s.cells o) (sym f.does) (record { fits = f.fits; kept = f.kept });
   }
 
   -- a rule, and what follows it
-  pub matches-after : (s : State) (o : Step) (m : Mach) (Ok : Type 0) (f : Follows lent size most s o m Ok) (k : State → Step) (K : Mach → Outcome)
+  pub matches_after : (s : State) (o : Step) (m : Mach) (Ok : Type 0) (f : Follows lent size most s o m Ok) (k : State → Step) (K : Mach → Outcome)
       → Matches lent size most f.to.cells (k f.to) (K (layout lent most f.to)) → Matches lent size most s.cells (o >>= k) (K m)
   unfolding ◌>>=◌
-  matches-after s o m Ok f k K h =
+  matches_after s o m Ok f k K h =
       let e : (o >>= k) ≡ k f.to = ap (λ o. o >>= k) f.does in
-      let g = matches-from s.cells f.to.cells (k f.to) (K (layout lent most f.to)) f.kept h in
+      let g = matches_from s.cells f.to.cells (k f.to) (K (layout lent most f.to)) f.kept h in
       record {
-        same = ap K f.same ∙ g.same ∙ sym (ap (λ o. laidOut lent most o) e);
+        same = ap K f.same ∙ g.same ∙ sym (ap (λ o. laid_out lent most o) e);
         ends = subst (λ o. Ends size most s.cells o) (sym e) g.ends;
       }
 
   -- a run, and what follows it
-  pub matches-then : (c : Cells) (o : Step) (r : Outcome) → Matches lent size most c o r → (k : State → Step) (K : Mach → Outcome)
+  pub matches_then : (c : Cells) (o : Step) (r : Outcome) → Matches lent size most c o r → (k : State → Step) (K : Mach → Outcome)
       → ((s : State) → o ≡ done s → Fits size most s → Matches lent size most s.cells (k s) (K (layout lent most s)))
       → Matches lent size most c (o >>= k) (r >>= K)
-  unfolding ◌>>=◌ laidOut
-  matches-then c (done s) r h k K f =
-      let g = matches-from c s.cells (k s) (K (layout lent most s)) h.ends.kept (f s refl h.ends.fits) in
+  unfolding ◌>>=◌ laid_out
+  matches_then c (done s) r h k K f =
+      let g = matches_from c s.cells (k s) (K (layout lent most s)) h.ends.kept (f s refl h.ends.fits) in
       record { same = ap (λ r. r >>= K) h.same ∙ g.same; ends = g.ends }
-  matches-then c (failed p s) r h k K f = record { same = ap (λ r. r >>= K) h.same; ends = h.ends }
-  matches-then c (pruned p s) r h k K f = record { same = ap (λ r. r >>= K) h.same; ends = h.ends }
-  matches-then c stuck r h k K f = absurd h.ends
+  matches_then c (failed p s) r h k K f = record { same = ap (λ r. r >>= K) h.same; ends = h.ends }
+  matches_then c (pruned p s) r h k K f = record { same = ap (λ r. r >>= K) h.same; ends = h.ends }
+  matches_then c stuck r h k K f = absurd h.ends
 
   -- a store machine that is done, is so with the layout of a state
-  pub matches-done : (c : Cells) (o : Step) (r : Outcome) → Matches lent size most c o r → (m : Mach) → r ≡ done m → DoneAt lent size most o m
-  unfolding laidOut
-  matches-done c (done s) r h m e = let a = h.same in record { state = s; is = refl; lies = cc; fits = h.ends.fits }
-  matches-done c (failed p s) r h m e = let a = h.same in let x : ◌≡◌ {A = ℕ} 0 1 = cc in absurd (omega arith)
-  matches-done c (pruned p s) r h m e = let a = h.same in let x : ◌≡◌ {A = ℕ} 0 1 = cc in absurd (omega arith)
-  matches-done c stuck r h m e = absurd h.ends
+  pub matches_done : (c : Cells) (o : Step) (r : Outcome) → Matches lent size most c o r → (m : Mach) → r ≡ done m → DoneAt lent size most o m
+  unfolding laid_out
+  matches_done c (done s) r h m e = let a = h.same in record { state = s; is = refl; lies = cc; fits = h.ends.fits }
+  matches_done c (failed p s) r h m e = let a = h.same in let x : ◌≡◌ {A = ℕ} 0 1 = cc in absurd (omega arith)
+  matches_done c (pruned p s) r h m e = let a = h.same in let x : ◌≡◌ {A = ℕ} 0 1 = cc in absurd (omega arith)
+  matches_done c stuck r h m e = absurd h.ends
 
   -- a rule with its needs put otherwise
   pub needing : {s : State} {o : Step} {m : Mach} {Ok Ok' : Type 0} → Follows lent size most s o m Ok → (Ok → Ok') → Follows lent size most s o m Ok'
@@ -138,13 +138,13 @@ module _ (lent size most : ℕ) where
   capped P c h = subst P (sym (length-tabulate c lent)) h
 
   -- no rule, and two rules one after the other
-  pub nothing-follows : (le : size ≤ lent) → Rule lent size most le (λ s. done s) (λ m. m) (λ m. Unit {0})
-  nothing-follows le s h g = unmoved lent size most le s h tt
+  pub nothing_follows : (le : size ≤ lent) → Rule lent size most le (λ s. done s) (λ m. m) (λ m. Unit {0})
+  nothing_follows le s h g = unmoved lent size most le s h tt
 
-  pub then-follows : (le : size ≤ lent) (F G : State → Step) (f g : Mach → Mach) (P Q : Mach → Type 0) → Rule lent size most le F f P
+  pub then_follows : (le : size ≤ lent) (F G : State → Step) (f g : Mach → Mach) (P Q : Mach → Type 0) → Rule lent size most le F f P
       → Rule lent size most le G g Q → Rule lent size most le (λ s. (F s >>= λ s. G s)) (λ m. g (f m)) (λ m. P m × Q (f m))
   unfolding ◌>>=◌
-  then-follows le F G f g P Q a b s h go =
+  then_follows le F G f g P Q a b s h go =
       let x = a s h (goes_first (F s) (λ s. G s) go) in
       let y = b x.to x.fits (goes_then (F s) (λ s. G s) x.to x.does go) in
       record {

@@ -4,126 +4,126 @@
 use Rattle.std.specs.Prelude.{◌≡◌, refl, List, [], ◌∷◌, ℕ, zero, suc, ◌+◌, ◌-◌, length, get_or, set, replicate}
 use Rattle.std.proofs.lemmas.List.Edits.{sets}
 use Rattle.report.specs.Bits.{Bit}
-use Rattle.scope.specs.Machine.{Frame, frameFrom, forward, backward, reset}
-use Rattle.common.specs.Cells.{copyBits}
-use Rattle.layout.specs.Mach.{Mach, mach, noFrame, writePlace, read_place, activeWrite, activeRead}
+use Rattle.scope.specs.Machine.{Frame, frame_from, forward, backward, reset}
+use Rattle.common.specs.Cells.{copy_bits}
+use Rattle.layout.specs.Mach.{Mach, mach, no_frame, write_place, read_place, active_write, active_read}
 
 -- the records with the cursor of the active write frame moved, or with that of the active read frame
-abbrev pub writeMoved : (Frame → Frame) → Mach → List Frame
-writeMoved move m = set m.records (writePlace m) (move (activeWrite m))
+abbrev pub write_moved : (Frame → Frame) → Mach → List Frame
+write_moved move m = set m.records (write_place m) (move (active_write m))
 
-abbrev pub readMoved : (Frame → Frame) → Mach → List Frame
-readMoved move m = set m.records (read_place m) (move (activeRead m))
+abbrev pub read_moved : (Frame → Frame) → Mach → List Frame
+read_moved move m = set m.records (read_place m) (move (active_read m))
 
 -- a write frame of n cells above all frames; its cells keep their old bits
 unfoldable pub pushed : ℕ → Mach → Mach
 pushed n m =
-    mach m.bits (set m.records m.writeFrames (frameFrom m.next n)) (m.writeFrames + 1) m.readFrames (m.next + n)
+    mach m.bits (set m.records m.write_frames (frame_from m.next n)) (m.write_frames + 1) m.read_frames (m.next + n)
 
 -- the active write frame becomes the active read frame, its cursor at its start
 unfoldable pub moved : Mach → Mach
 moved m =
     mach m.bits
-    (set (set m.records (writePlace m) noFrame) (length m.records - (m.readFrames + 1)) (reset (activeWrite m)))
-    (m.writeFrames - 1) (m.readFrames + 1) m.next
+    (set (set m.records (write_place m) no_frame) (length m.records - (m.read_frames + 1)) (reset (active_write m)))
+    (m.write_frames - 1) (m.read_frames + 1) m.next
 
 -- the active read frame, which is the uppermost, goes
 unfoldable pub dropped : Mach → Mach
-dropped m = mach m.bits (set m.records (read_place m) noFrame) m.writeFrames (m.readFrames - 1) (activeRead m).start
+dropped m = mach m.bits (set m.records (read_place m) no_frame) m.write_frames (m.read_frames - 1) (active_read m).start
 
 -- a bit at the write cursor, which goes one cell on
-unfoldable pub bitWritten : Bit → Mach → Mach
-bitWritten b m =
-    mach (set m.bits (activeWrite m).cursor b) (writeMoved (forward 1) m) m.writeFrames m.readFrames m.next
+unfoldable pub bit_written : Bit → Mach → Mach
+bit_written b m =
+    mach (set m.bits (active_write m).cursor b) (write_moved (forward 1) m) m.write_frames m.read_frames m.next
 
 -- bits from the write cursor on, which goes behind them
-unfoldable pub bitsWritten : List Bit → Mach → Mach
-bitsWritten [] m = m
-bitsWritten (b ∷ bs) m =
-    mach (sets m.bits (activeWrite m).cursor (b ∷ bs)) (writeMoved (forward (length (b ∷ bs))) m) m.writeFrames
-    m.readFrames m.next
+unfoldable pub bits_written : List Bit → Mach → Mach
+bits_written [] m = m
+bits_written (b ∷ bs) m =
+    mach (sets m.bits (active_write m).cursor (b ∷ bs)) (write_moved (forward (length (b ∷ bs))) m) m.write_frames
+    m.read_frames m.next
 
 -- the write cursor n cells on, which keep their old bits
 unfoldable pub skipped : ℕ → Mach → Mach
 skipped zero m = m
-skipped (suc n) m = mach m.bits (writeMoved (forward (suc n)) m) m.writeFrames m.readFrames m.next
+skipped (suc n) m = mach m.bits (write_moved (forward (suc n)) m) m.write_frames m.read_frames m.next
 
 -- n cells from the read cursor on to the write cursor, which goes behind them
 unfoldable pub copied : ℕ → Mach → Mach
 copied zero m = m
 copied (suc n) m =
-    mach (copyBits m.bits (activeRead m).cursor (activeWrite m).cursor (suc n)) (writeMoved (forward (suc n)) m)
-    m.writeFrames m.readFrames m.next
+    mach (copy_bits m.bits (active_read m).cursor (active_write m).cursor (suc n)) (write_moved (forward (suc n)) m)
+    m.write_frames m.read_frames m.next
 
 -- the read cursor n cells on, and n cells back
 unfoldable pub forwarded : ℕ → Mach → Mach
 forwarded zero m = m
-forwarded (suc n) m = mach m.bits (readMoved (forward (suc n)) m) m.writeFrames m.readFrames m.next
+forwarded (suc n) m = mach m.bits (read_moved (forward (suc n)) m) m.write_frames m.read_frames m.next
 
 unfoldable pub backed : ℕ → Mach → Mach
 backed zero m = m
-backed (suc n) m = mach m.bits (readMoved (backward (suc n)) m) m.writeFrames m.readFrames m.next
+backed (suc n) m = mach m.bits (read_moved (backward (suc n)) m) m.write_frames m.read_frames m.next
 
 -- the bit at the read cursor
 abbrev pub peeked : Mach → Bit
-peeked m = get_or m.bits (activeRead m).cursor 0
+peeked m = get_or m.bits (active_read m).cursor 0
 
 -- no frame, and every record free: the last step of a run
-unfoldable pub allFree : Mach → Mach
-allFree m = mach m.bits (replicate (length m.records) noFrame) 0 0 0
+unfoldable pub all_free : Mach → Mach
+all_free m = mach m.bits (replicate (length m.records) no_frame) 0 0 0
 
 -- rules for 0 cells, and for more
-pub skipped-zero : (n : ℕ) (m : Mach) → n ≡ 0 → skipped n m ≡ m
+pub skipped_zero : (n : ℕ) (m : Mach) → n ≡ 0 → skipped n m ≡ m
 unfolding skipped
-skipped-zero n m e = rw e
+skipped_zero n m e = rw e
 
-pub skipped-some : (n : ℕ) (m : Mach) → (n ≡ 0 → ⊥)
-    → skipped n m ≡ mach m.bits (writeMoved (forward n) m) m.writeFrames m.readFrames m.next
+pub skipped_some : (n : ℕ) (m : Mach) → (n ≡ 0 → ⊥)
+    → skipped n m ≡ mach m.bits (write_moved (forward n) m) m.write_frames m.read_frames m.next
 unfolding skipped
-skipped-some zero m h = absurd (h refl)
-skipped-some (suc n) m h = refl
+skipped_some zero m h = absurd (h refl)
+skipped_some (suc n) m h = refl
 
-pub forwarded-zero : (n : ℕ) (m : Mach) → n ≡ 0 → forwarded n m ≡ m
+pub forwarded_zero : (n : ℕ) (m : Mach) → n ≡ 0 → forwarded n m ≡ m
 unfolding forwarded
-forwarded-zero n m e = rw e
+forwarded_zero n m e = rw e
 
-pub forwarded-some : (n : ℕ) (m : Mach) → (n ≡ 0 → ⊥)
-    → forwarded n m ≡ mach m.bits (readMoved (forward n) m) m.writeFrames m.readFrames m.next
+pub forwarded_some : (n : ℕ) (m : Mach) → (n ≡ 0 → ⊥)
+    → forwarded n m ≡ mach m.bits (read_moved (forward n) m) m.write_frames m.read_frames m.next
 unfolding forwarded
-forwarded-some zero m h = absurd (h refl)
-forwarded-some (suc n) m h = refl
+forwarded_some zero m h = absurd (h refl)
+forwarded_some (suc n) m h = refl
 
-pub backed-zero : (n : ℕ) (m : Mach) → n ≡ 0 → backed n m ≡ m
+pub backed_zero : (n : ℕ) (m : Mach) → n ≡ 0 → backed n m ≡ m
 unfolding backed
-backed-zero n m e = rw e
+backed_zero n m e = rw e
 
-pub backed-some : (n : ℕ) (m : Mach) → (n ≡ 0 → ⊥)
-    → backed n m ≡ mach m.bits (readMoved (backward n) m) m.writeFrames m.readFrames m.next
+pub backed_some : (n : ℕ) (m : Mach) → (n ≡ 0 → ⊥)
+    → backed n m ≡ mach m.bits (read_moved (backward n) m) m.write_frames m.read_frames m.next
 unfolding backed
-backed-some zero m h = absurd (h refl)
-backed-some (suc n) m h = refl
+backed_some zero m h = absurd (h refl)
+backed_some (suc n) m h = refl
 
-pub copied-zero : (n : ℕ) (m : Mach) → n ≡ 0 → copied n m ≡ m
+pub copied_zero : (n : ℕ) (m : Mach) → n ≡ 0 → copied n m ≡ m
 unfolding copied
-copied-zero n m e = rw e
+copied_zero n m e = rw e
 
 pub copied_some : (n : ℕ) (m : Mach) → (n ≡ 0 → ⊥)
     → copied n m
-    ≡ mach (copyBits m.bits (activeRead m).cursor (activeWrite m).cursor n) (writeMoved (forward n) m) m.writeFrames
-    m.readFrames m.next
+    ≡ mach (copy_bits m.bits (active_read m).cursor (active_write m).cursor n) (write_moved (forward n) m) m.write_frames
+    m.read_frames m.next
 unfolding copied
 copied_some zero m h = absurd (h refl)
 copied_some (suc n) m h = refl
 
-pub bitsWritten-some : (bs : List Bit) (m : Mach) → (length bs ≡ 0 → ⊥)
-    → bitsWritten bs m
-    ≡ mach (sets m.bits (activeWrite m).cursor bs) (writeMoved (forward (length bs)) m) m.writeFrames m.readFrames
+pub bits_written_some : (bs : List Bit) (m : Mach) → (length bs ≡ 0 → ⊥)
+    → bits_written bs m
+    ≡ mach (sets m.bits (active_write m).cursor bs) (write_moved (forward (length bs)) m) m.write_frames m.read_frames
     m.next
-unfolding bitsWritten
-bitsWritten-some [] m h = absurd (h refl)
-bitsWritten-some (b ∷ bs) m h = refl
+unfolding bits_written
+bits_written_some [] m h = absurd (h refl)
+bits_written_some (b ∷ bs) m h = refl
 
 -- one bit is a list of one
-pub bitWritten-list : (b : Bit) (m : Mach) → bitWritten b m ≡ bitsWritten (b ∷ []) m
-unfolding bitWritten bitsWritten
-bitWritten-list b m = refl
+pub bit_written_list : (b : Bit) (m : Mach) → bit_written b m ≡ bits_written (b ∷ []) m
+unfolding bit_written bits_written
+bit_written_list b m = refl

@@ -3,50 +3,50 @@
 use Rattle.std.specs.Prelude.{◌≡◌, List, ℕ, ◌+◌, ◌*◌, ◌^◌, ◌<◌, ◌≤◌, length}
 use Rattle.std.proofs.Common.{arith}
 use Rattle.report.specs.Bits.{Bit, bits_of}
-use Rattle.report.specs.Types.{Ty, width, padL, padR, word_ty}
+use Rattle.report.specs.Types.{Ty, width, pad_l, pad_r, word_ty}
 use Rattle.report.specs.Values.{Val, padded}
 use Rattle.report.specs.Terms.{Term, iden, comp, unit, injl, injr, case, pair, take, drop, assertl, assertr, fail, witness, word, disconnect, bad}
 use Rattle.report.specs.Meaning.{done}
 use Rattle.scope.specs.Machine.{Frame}
-use Rattle.common.specs.Bits.{length-bits}
-use Rattle.layout.specs.Mach.{Mach, mach, activeWrite, activeRead}
-use Rattle.layout.specs.Rules.{pushed, moved, dropped, bitWritten, bitsWritten, skipped, copied, forwarded, peeked}
-use Rattle.layout.specs.Exec.{Outcome, Around, pairing, composing, disconnecting, first_of, second_of, runTerm, withInput, withOutput}
+use Rattle.common.specs.Bits.{length_bits}
+use Rattle.layout.specs.Mach.{Mach, mach, active_write, active_read}
+use Rattle.layout.specs.Rules.{pushed, moved, dropped, bit_written, bits_written, skipped, copied, forwarded, peeked}
+use Rattle.layout.specs.Exec.{Outcome, Around, pairing, composing, disconnecting, first_of, second_of, run_term, with_input, with_output}
 
 -- A rule's needs take the number of cells, `cap`, by itself: a function that is not lent the cells states them over no cells.
 
 -- room for a frame of n cells
 pub record PushOk (cap n : ℕ) (m : Mach) : Type 0 where
-  pub room : m.writeFrames + m.readFrames < length m.records
+  pub room : m.write_frames + m.read_frames < length m.records
   pub fits : m.next + n ≤ cap
 
 -- a write frame stands and can be moved
 pub record MoveOk (m : Mach) : Type 0 where
-  pub some : 0 < m.writeFrames
-  pub held : m.writeFrames + m.readFrames ≤ length m.records
+  pub some : 0 < m.write_frames
+  pub held : m.write_frames + m.read_frames ≤ length m.records
 
 -- a read frame stands
 pub record DropOk (m : Mach) : Type 0 where
-  pub some : 0 < m.readFrames
-  pub held : m.readFrames ≤ length m.records
+  pub some : 0 < m.read_frames
+  pub held : m.read_frames ≤ length m.records
 
 -- a write frame stands, and n cells from its cursor on
 pub record WriteOk (cap n : ℕ) (m : Mach) : Type 0 where
-  pub some : 0 < m.writeFrames
-  pub held : m.writeFrames ≤ length m.records
-  pub fits : (activeWrite m).cursor + n ≤ cap
+  pub some : 0 < m.write_frames
+  pub held : m.write_frames ≤ length m.records
+  pub fits : (active_write m).cursor + n ≤ cap
 
 -- a read frame stands, and n cells from its cursor on
 pub record ReadOk (cap n : ℕ) (m : Mach) : Type 0 where
-  pub some : 0 < m.readFrames
-  pub held : m.readFrames ≤ length m.records
-  pub fits : (activeRead m).cursor + n ≤ cap
+  pub some : 0 < m.read_frames
+  pub held : m.read_frames ≤ length m.records
+  pub fits : (active_read m).cursor + n ≤ cap
 
 -- a read frame stands, and its cursor can go n cells back
 pub record BackOk (n : ℕ) (m : Mach) : Type 0 where
-  pub some : 0 < m.readFrames
-  pub held : m.readFrames ≤ length m.records
-  pub least : n ≤ (activeRead m).cursor
+  pub some : 0 < m.read_frames
+  pub held : m.read_frames ≤ length m.records
+  pub least : n ≤ (active_read m).cursor
 
 -- n cells can be copied from the read cursor on to the write cursor
 pub record CopyOk (cap n : ℕ) (m : Mach) : Type 0 where
@@ -57,9 +57,9 @@ pub record CopyOk (cap n : ℕ) (m : Mach) : Type 0 where
 pub record HandOk (hash : List Bit) (source target : ℕ) (m : Mach) : Type 0 where
   pub push : PushOk (length m.bits) (width (word_ty 8) + source) m
   pub write : 0 < length hash → WriteOk (length m.bits) (length hash) (pushed (width (word_ty 8) + source) m)
-  pub copy : 0 < source → CopyOk (length m.bits) source (bitsWritten hash (pushed (width (word_ty 8) + source) m))
-  pub move : MoveOk (copied source (bitsWritten hash (pushed (width (word_ty 8) + source) m)))
-  pub last : PushOk (length m.bits) target (moved (copied source (bitsWritten hash (pushed (width (word_ty 8) + source) m))))
+  pub copy : 0 < source → CopyOk (length m.bits) source (bits_written hash (pushed (width (word_ty 8) + source) m))
+  pub move : MoveOk (copied source (bits_written hash (pushed (width (word_ty 8) + source) m)))
+  pub last : PushOk (length m.bits) target (moved (copied source (bits_written hash (pushed (width (word_ty 8) + source) m))))
 
 -- between the children of a disconnect: what the left child made is moved, and its first part copied and passed over
 pub record KeepOk (kept : ℕ) (m : Mach) : Type 0 where
@@ -84,11 +84,11 @@ ThirdOk (composing n) m = DropOk m
 ThirdOk (disconnecting h a b c) m = DropOk m × DropOk (dropped m)
 
 -- a child, by what its run needs and by its run
-module _ (SafeChild : Mach → Type 0) (runChild : Mach → Outcome) where
+module _ (SafeChild : Mach → Type 0) (run_child : Mach → Outcome) where
   -- a child on m, then the read cursor n cells back
   pub record ReturnOk (n : ℕ) (m : Mach) : Type 0 where
     pub body : SafeChild m
-    pub home : (m2 : Mach) → runChild m ≡ done m2 → 0 < n → BackOk n m2
+    pub home : (m2 : Mach) → run_child m ≡ done m2 → 0 < n → BackOk n m2
 
   -- a child with the read cursor n cells on
   pub record UnderOk (n : ℕ) (m : Mach) : Type 0 where
@@ -98,20 +98,20 @@ module _ (SafeChild : Mach → Type 0) (runChild : Mach → Outcome) where
   -- a child behind a tag and n cells of padding
   pub record TagOk (b : Bit) (n : ℕ) (m : Mach) : Type 0 where
     pub write : WriteOk (length m.bits) 1 m
-    pub skip : 0 < n → WriteOk (length m.bits) n (bitWritten b m)
-    pub child : ReturnOk 0 (skipped n (bitWritten b m))
+    pub skip : 0 < n → WriteOk (length m.bits) n (bit_written b m)
+    pub child : ReturnOk 0 (skipped n (bit_written b m))
 
 -- what follows a left child that left m2
-pub record AfterLeft (k : Around) (SafeRight : Mach → Type 0) (runRight : Mach → Outcome) (m2 : Mach) : Type 0 where
+pub record AfterLeft (k : Around) (SafeRight : Mach → Type 0) (run_right : Mach → Outcome) (m2 : Mach) : Type 0 where
   pub second : SecondOk k m2
   pub right : SafeRight (second_of k m2)
-  pub third : (m4 : Mach) → runRight (second_of k m2) ≡ done m4 → ThirdOk k m4
+  pub third : (m4 : Mach) → run_right (second_of k m2) ≡ done m4 → ThirdOk k m4
 
 -- two children
-pub record AroundOk (k : Around) (SafeLeft SafeRight : Mach → Type 0) (runLeft runRight : Mach → Outcome) (m : Mach) : Type 0 where
+pub record AroundOk (k : Around) (SafeLeft SafeRight : Mach → Type 0) (run_left run_right : Mach → Outcome) (m : Mach) : Type 0 where
   pub first : FirstOk k m
   pub left : SafeLeft (first_of k m)
-  pub then : (m2 : Mach) → runLeft (first_of k m) ≡ done m2 → AfterLeft k SafeRight runRight m2
+  pub then : (m2 : Mach) → run_left (first_of k m) ≡ done m2 → AfterLeft k SafeRight run_right m2
 
 -- a branch: the bit at the read cursor can be read, and what it picks is safe
 pub record BranchOk (Left Right : Type 0) (m : Mach) : Type 0 where
@@ -122,58 +122,58 @@ pub record BranchOk (Left Right : Type 0) (m : Mach) : Type 0 where
 -- the run of a term stays within the cells and the records, and never lacks a frame
 unfoldable pub Safe : Term → Mach → Type 0
 Safe (iden A) m = 0 < width A → CopyOk (length m.bits) (width A) m
-Safe (comp B s t) m = AroundOk (composing (width B)) (λ z. Safe s z) (λ z. Safe t z) (λ z. runTerm s z) (λ z. runTerm t z) m
+Safe (comp B s t) m = AroundOk (composing (width B)) (λ z. Safe s z) (λ z. Safe t z) (λ z. run_term s z) (λ z. run_term t z) m
 Safe unit m = Unit {0}
-Safe (injl B C t) m = TagOk (λ z. Safe t z) (λ z. runTerm t z) 0 (padL B C) m
-Safe (injr B C t) m = TagOk (λ z. Safe t z) (λ z. runTerm t z) 1 (padR B C) m
+Safe (injl B C t) m = TagOk (λ z. Safe t z) (λ z. run_term t z) 0 (pad_l B C) m
+Safe (injr B C t) m = TagOk (λ z. Safe t z) (λ z. run_term t z) 1 (pad_r B C) m
 Safe (case A B s t) m =
-    BranchOk (UnderOk (λ z. Safe s z) (λ z. runTerm s z) (1 + padL A B) m) (UnderOk (λ z. Safe t z) (λ z. runTerm t z) (1 + padR A B) m) m
-Safe (pair B s t) m = AroundOk pairing (λ z. Safe s z) (λ z. Safe t z) (λ z. runTerm s z) (λ z. runTerm t z) m
-Safe (take t) m = UnderOk (λ z. Safe t z) (λ z. runTerm t z) 0 m
-Safe (drop A t) m = UnderOk (λ z. Safe t z) (λ z. runTerm t z) (width A) m
-Safe (assertl p A B s) m = BranchOk (UnderOk (λ z. Safe s z) (λ z. runTerm s z) (1 + padL A B) m) (Unit {0}) m
-Safe (assertr p A B t) m = BranchOk (Unit {0}) (UnderOk (λ z. Safe t z) (λ z. runTerm t z) (1 + padR A B) m) m
+    BranchOk (UnderOk (λ z. Safe s z) (λ z. run_term s z) (1 + pad_l A B) m) (UnderOk (λ z. Safe t z) (λ z. run_term t z) (1 + pad_r A B) m) m
+Safe (pair B s t) m = AroundOk pairing (λ z. Safe s z) (λ z. Safe t z) (λ z. run_term s z) (λ z. run_term t z) m
+Safe (take t) m = UnderOk (λ z. Safe t z) (λ z. run_term t z) 0 m
+Safe (drop A t) m = UnderOk (λ z. Safe t z) (λ z. run_term t z) (width A) m
+Safe (assertl p A B s) m = BranchOk (UnderOk (λ z. Safe s z) (λ z. run_term s z) (1 + pad_l A B) m) (Unit {0}) m
+Safe (assertr p A B t) m = BranchOk (Unit {0}) (UnderOk (λ z. Safe t z) (λ z. run_term t z) (1 + pad_r A B) m) m
 Safe (fail p) m = Unit {0}
 Safe (witness A v) m = 0 < length (padded A v) → WriteOk (length m.bits) (length (padded A v)) m
 Safe (word A v) m = 0 < length (padded A v) → WriteOk (length m.bits) (length (padded A v)) m
 Safe (disconnect A B C h s t) m =
-    AroundOk (disconnecting (padded (word_ty 8) h) (width A) (width B) (width C)) (λ z. Safe s z) (λ z. Safe t z) (λ z. runTerm s z) (λ z. runTerm t z) m
+    AroundOk (disconnecting (padded (word_ty 8) h) (width A) (width B) (width C)) (λ z. Safe s z) (λ z. Safe t z) (λ z. run_term s z) (λ z. run_term t z) m
 Safe bad m = ⊥
 
 -- an input of n cells can be written and its frame moved, where n is not 0
 pub record InputOk (n : ℕ) (bits : List Bit) (m : Mach) : Type 0 where
   pub push : PushOk (length m.bits) n m
   pub write : 0 < length bits → WriteOk (length m.bits) (length bits) (pushed n m)
-  pub move : MoveOk (bitsWritten bits (pushed n m))
+  pub move : MoveOk (bits_written bits (pushed n m))
 
 -- a whole run does so, with the frames of its input and its output
 pub record WholeOk (t : Term) (A B : Ty) (v : Val) (m : Mach) : Type 0 where
   pub input : 0 < width A → InputOk (width A) (padded A v) m
-  pub output : 0 < width B → PushOk (length m.bits) (width B) (withInput (width A) (padded A v) m)
-  pub term : Safe t (withOutput (width B) (withInput (width A) (padded A v) m))
+  pub output : 0 < width B → PushOk (length m.bits) (width B) (with_input (width A) (padded A v) m)
+  pub term : Safe t (with_output (width B) (with_input (width A) (padded A v) m))
 
 -- the same needs over other cells and for a larger cap, as a function that is not lent the cells asks for them
 module _ {b : List ℕ} {rs : List Frame} {w r x : ℕ} (other : List ℕ) where
-  pub push-over : {cap more n : ℕ} → cap ≤ more → PushOk cap n (mach b rs w r x) → PushOk more n (mach other rs w r x)
-  push-over le h = record { room = h.room; fits = let z = h.fits in omega arith }
+  pub push_over : {cap more n : ℕ} → cap ≤ more → PushOk cap n (mach b rs w r x) → PushOk more n (mach other rs w r x)
+  push_over le h = record { room = h.room; fits = let z = h.fits in omega arith }
 
-  pub write-over : {cap more n : ℕ} → cap ≤ more → WriteOk cap n (mach b rs w r x) → WriteOk more n (mach other rs w r x)
-  write-over le h = record { some = h.some; held = h.held; fits = let z = h.fits in omega arith }
+  pub write_over : {cap more n : ℕ} → cap ≤ more → WriteOk cap n (mach b rs w r x) → WriteOk more n (mach other rs w r x)
+  write_over le h = record { some = h.some; held = h.held; fits = let z = h.fits in omega arith }
 
-  pub read-over : {cap more n : ℕ} → cap ≤ more → ReadOk cap n (mach b rs w r x) → ReadOk more n (mach other rs w r x)
-  read-over le h = record { some = h.some; held = h.held; fits = let z = h.fits in omega arith }
+  pub read_over : {cap more n : ℕ} → cap ≤ more → ReadOk cap n (mach b rs w r x) → ReadOk more n (mach other rs w r x)
+  read_over le h = record { some = h.some; held = h.held; fits = let z = h.fits in omega arith }
 
-  pub copy-over : {cap more n : ℕ} → cap ≤ more → CopyOk cap n (mach b rs w r x) → CopyOk more n (mach other rs w r x)
-  copy-over le h = record { from = read-over le h.from; to = write-over le h.to }
+  pub copy_over : {cap more n : ℕ} → cap ≤ more → CopyOk cap n (mach b rs w r x) → CopyOk more n (mach other rs w r x)
+  copy_over le h = record { from = read_over le h.from; to = write_over le h.to }
 
-  pub move-over : MoveOk (mach b rs w r x) → MoveOk (mach other rs w r x)
-  move-over h = record { some = h.some; held = h.held }
+  pub move_over : MoveOk (mach b rs w r x) → MoveOk (mach other rs w r x)
+  move_over h = record { some = h.some; held = h.held }
 
-  pub drop-over : DropOk (mach b rs w r x) → DropOk (mach other rs w r x)
-  drop-over h = record { some = h.some; held = h.held }
+  pub drop_over : DropOk (mach b rs w r x) → DropOk (mach other rs w r x)
+  drop_over h = record { some = h.some; held = h.held }
 
-  pub back-over : {n : ℕ} → BackOk n (mach b rs w r x) → BackOk n (mach other rs w r x)
-  back-over h = record { some = h.some; held = h.held; least = h.least }
+  pub back_over : {n : ℕ} → BackOk n (mach b rs w r x) → BackOk n (mach other rs w r x)
+  back_over h = record { some = h.some; held = h.held; least = h.least }
 
 -- the stores lent, in bytes and in numbers, are so small that no place in them and no sum up to their end passes 32 bits
 pub record Fed (bytes numbers : List ℕ) : Type 0 where
@@ -181,23 +181,23 @@ pub record Fed (bytes numbers : List ℕ) : Type 0 where
   pub frames : length numbers ≤ 2 ^ 31
 
 -- stores of the same sizes
-pub fed-kept : {cells cells' frames frames' : List ℕ} → Fed cells frames → length cells' ≡ length cells → length frames' ≡ length frames → Fed cells' frames'
-fed-kept h e g =
+pub fed_kept : {cells cells' frames frames' : List ℕ} → Fed cells frames → length cells' ≡ length cells → length frames' ≡ length frames → Fed cells' frames'
+fed_kept h e g =
     let a = h.cells in
     let b = h.frames in
     record { cells = omega arith; frames = omega arith }
 
 -- the bits of the lent cells are not more than a 32-bit number counts
-pub fed-bits : {cells frames : List ℕ} → Fed cells frames → length (bits_of cells) ≤ 2 ^ 31
-fed-bits {cells} h = let a = h.cells in omega (arith, length-bits cells)
+pub fed_bits : {cells frames : List ℕ} → Fed cells frames → length (bits_of cells) ≤ 2 ^ 31
+fed_bits {cells} h = let a = h.cells in omega (arith, length_bits cells)
 
 -- no sum that a rule makes passes 32 bits
 module _ {cells frames : List ℕ} {n : ℕ} {m : Mach} (h : Fed cells frames) where
-  pub write-small : WriteOk (length (bits_of cells)) n m → (activeWrite m).cursor + n < 2 ^ 32
-  write-small w = let a = w.fits in omega (arith, fed-bits h)
+  pub write_small : WriteOk (length (bits_of cells)) n m → (active_write m).cursor + n < 2 ^ 32
+  write_small w = let a = w.fits in omega (arith, fed_bits h)
 
-  pub read_small : ReadOk (length (bits_of cells)) n m → (activeRead m).cursor + n < 2 ^ 32
-  read_small r = let a = r.fits in omega (arith, fed-bits h)
+  pub read_small : ReadOk (length (bits_of cells)) n m → (active_read m).cursor + n < 2 ^ 32
+  read_small r = let a = r.fits in omega (arith, fed_bits h)
 
-  pub push-small : PushOk (length (bits_of cells)) n m → m.next + n < 2 ^ 32
-  push-small p = let a = p.fits in omega (arith, fed-bits h)
+  pub push_small : PushOk (length (bits_of cells)) n m → m.next + n < 2 ^ 32
+  push_small p = let a = p.fits in omega (arith, fed_bits h)

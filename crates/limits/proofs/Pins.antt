@@ -4,5 +4,5 @@ use Rattle.promise.specs.Outcomes.{OneResult}
 use Rattle.limits.proofs.every_limit.Kinds as every-limit-kinds
 use Rattle.limits.proofs.every_limit.Reads as every-limit-reads
 
-pub every-limit : OneResult 0 every-limit-kinds.ps every-limit-kinds.r every-limit-reads.Post
-every-limit κs a s t x y p q = p ∙ sym q
+pub every_limit_lem : OneResult 0 every-limit-kinds.ps every-limit-kinds.r every-limit-reads.Post
+every_limit_lem κs a s t x y p q = p ∙ sym q

@@ -3,67 +3,67 @@
 use Rattle.std.specs.Prelude.{List, [], ◌∷◌, ℕ}
 
 -- the most bytes of a dossier
-abbrev pub dossierBytes : ℕ
-dossierBytes = 49152
+abbrev pub dossier_bytes : ℕ
+dossier_bytes = 49152
 
 -- the most records of a type table; the least is one
-abbrev pub typeCount : ℕ
-typeCount = 1024
+abbrev pub type_count : ℕ
+type_count = 1024
 
 -- the most nodes of a program
-abbrev pub nodeCount : ℕ
-nodeCount = 4096
+abbrev pub node_count : ℕ
+node_count = 4096
 
 -- the largest width of a type, in cells
-abbrev pub typeWidth : ℕ
-typeWidth = 32768
+abbrev pub type_width : ℕ
+type_width = 32768
 
 -- the most cells in all, and the most frames in all
-abbrev pub cellCount : ℕ
-cellCount = 262144
+abbrev pub cell_count : ℕ
+cell_count = 262144
 
-abbrev pub frameCount : ℕ
-frameCount = 1024
+abbrev pub frame_count : ℕ
+frame_count = 1024
 
 -- the most that a program may cost, and what a node costs by itself
-abbrev pub costLimit : ℕ
-costLimit = 50000000
+abbrev pub cost_limit : ℕ
+cost_limit = 50000000
 
-abbrev pub nodeCost : ℕ
-nodeCost = 100
+abbrev pub node_cost : ℕ
+node_cost = 100
 
 -- the largest length inside a natural's code, and the largest natural that begins a word
-abbrev pub naturalLength : ℕ
-naturalLength = 31
+abbrev pub natural_length : ℕ
+natural_length = 31
 
-abbrev pub wordMost : ℕ
-wordMost = 32
+abbrev pub word_most : ℕ
+word_most = 32
 
 -- bytes of the header, of a type record, of an arrow, of a hash, of a fail node
-abbrev pub headerBytes : ℕ
-headerBytes = 56
+abbrev pub header_bytes : ℕ
+header_bytes = 56
 
 abbrev pub type_bytes : ℕ
 type_bytes = 5
 
-abbrev pub arrowBytes : ℕ
-arrowBytes = 4
+abbrev pub arrow_bytes : ℕ
+arrow_bytes = 4
 
-abbrev pub hashBytes : ℕ
-hashBytes = 32
+abbrev pub hash_bytes : ℕ
+hash_bytes = 32
 
-abbrev pub failBytes : ℕ
-failBytes = 64
+abbrev pub fail_bytes : ℕ
+fail_bytes = 64
 
 -- numbers of a node's record and of a frame's
-abbrev pub nodeNumbers : ℕ
-nodeNumbers = 4
+abbrev pub node_numbers : ℕ
+node_numbers = 4
 
-abbrev pub frameNumbers : ℕ
-frameNumbers = 3
+abbrev pub frame_numbers : ℕ
+frame_numbers = 3
 
 -- all of them, which the constants of the code are held to
-abbrev pub everyLimit : List ℕ
-everyLimit =
-    dossierBytes ∷ typeCount ∷ nodeCount ∷ typeWidth ∷ cellCount ∷ frameCount ∷ costLimit ∷ nodeCost ∷ naturalLength ∷ wordMost
-    ∷ headerBytes ∷ type_bytes ∷ arrowBytes ∷ hashBytes ∷ failBytes ∷ nodeNumbers ∷ frameNumbers ∷ []
+abbrev pub every_limit : List ℕ
+every_limit =
+    dossier_bytes ∷ type_count ∷ node_count ∷ type_width ∷ cell_count ∷ frame_count ∷ cost_limit ∷ node_cost ∷ natural_length ∷ word_most
+    ∷ header_bytes ∷ type_bytes ∷ arrow_bytes ∷ hash_bytes ∷ fail_bytes ∷ node_numbers ∷ frame_numbers ∷ []

@@ -1,7 +1,7 @@
 // The limits of the requirements and the sizes of records, each named once.
 // Code names these constants, definitions and proofs the names of specs/Limits; `limits` shows that the two lists are the same.
 ghost use Rattle.std.specs.Prelude.{◌≡◌};
-ghost use Rattle.limits.specs.Limits.{everyLimit};
+ghost use Rattle.limits.specs.Limits.{every_limit};
 
 pub const DOSSIER_BYTES: usize = 49_152;
 
@@ -39,7 +39,7 @@ pub const FRAME_NUMBERS: usize = 3;
 
 // Every limit and size, in the order of the definitions.
 pub fn every_limit() -> [u32; 17]
-    ensures { result ≡ everyLimit }
+    ensures { result ≡ every_limit }
 {
     [
         DOSSIER_BYTES as u32,

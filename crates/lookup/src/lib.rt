@@ -2,9 +2,9 @@
 // and what is done around its two children. Each answers on every input: past the end of a table stands an arrow of record 0 to record 0,
 // a type of width 0, a node of no kind.
 ghost use Rattle.std.specs.Prelude.{◌≡◌, get_or};
-ghost use Rattle.scope.specs.Types.{typeRecords};
-ghost use Rattle.scope.specs.Arrows.{arrowRecords, source, target};
-ghost use Rattle.lookup.specs.Lookup.{sourceWidth, targetWidth, keptWidth, paddingOf, paddingIn, aroundIn};
+ghost use Rattle.scope.specs.Types.{type_records};
+ghost use Rattle.scope.specs.Arrows.{arrow_records, source, target};
+ghost use Rattle.lookup.specs.Lookup.{source_width, target_width, kept_width, padding_of, padding_in, around_in};
 
 // How many cells of padding follow the tag of a sum's left part, and of its right part.
 #[derive(Drop)]
@@ -24,7 +24,7 @@ pub enum Around {
 
 // The type of node i's source.
 pub fn source_at(arrows: &[u8], i: u32) -> usize
-    ensures { result ≡ source (arrowRecords arrows.now) i }
+    ensures { result ≡ source (arrow_records arrows.now) i }
 {
     let arrow = arrow::arrow_at(arrows, i);
     arrow.source
@@ -32,7 +32,7 @@ pub fn source_at(arrows: &[u8], i: u32) -> usize
 
 // The type of node i's target.
 pub fn target_at(arrows: &[u8], i: u32) -> usize
-    ensures { result ≡ target (arrowRecords arrows.now) i }
+    ensures { result ≡ target (arrow_records arrows.now) i }
 {
     let arrow = arrow::arrow_at(arrows, i);
     arrow.target
@@ -40,28 +40,28 @@ pub fn target_at(arrows: &[u8], i: u32) -> usize
 
 // The width of node i's source.
 pub fn source_width(arrows: &[u8], widths: &[u32], i: u32) -> u32
-    ensures { result ≡ sourceWidth widths.now (arrowRecords arrows.now) i }
+    ensures { result ≡ source_width widths.now (arrow_records arrows.now) i }
 {
     types::width_at(widths, source_at(arrows, i))
 }
 
 // The width of node i's target.
 pub fn target_width(arrows: &[u8], widths: &[u32], i: u32) -> u32
-    ensures { result ≡ targetWidth widths.now (arrowRecords arrows.now) i }
+    ensures { result ≡ target_width widths.now (arrow_records arrows.now) i }
 {
     types::width_at(widths, target_at(arrows, i))
 }
 
 // The width of what node i, a disconnect, keeps of its left child's target: of the left part of its own target.
 pub fn kept_width(types: &[u8], widths: &[u32], arrows: &[u8], i: u32) -> u32
-    ensures { result ≡ keptWidth (typeRecords types.now) widths.now (arrowRecords arrows.now) i }
+    ensures { result ≡ kept_width (type_records types.now) widths.now (arrow_records arrows.now) i }
 {
     types::left_width(types, widths, target_at(arrows, i))
 }
 
 // The paddings of parts of these widths.
 fn padding_of(left: u32, right: u32) -> Padding
-    ensures { result ≡ paddingOf left right }
+    ensures { result ≡ padding_of left right }
 {
     if left < right {
         Padding {
@@ -78,7 +78,7 @@ fn padding_of(left: u32, right: u32) -> Padding
 
 // The paddings of the sum that type k is.
 pub fn padding_at(types: &[u8], widths: &[u32], k: usize) -> Padding
-    ensures { result ≡ paddingIn types.now widths.now k }
+    ensures { result ≡ padding_in types.now widths.now k }
 {
     let left = types::left_width(types, widths, k);
     let right = types::width_at(widths, types::right_of(types, k));
@@ -94,7 +94,7 @@ pub fn position_at(positions: &[u32], i: u32) -> u32
 
 // What is done around the children of node i, which is a comp, a pair or a disconnect.
 pub fn around_at(types: &[u8], widths: &[u32], nodes: &[u32], arrows: &[u8], i: u32) -> Around
-    ensures { result ≡ aroundIn types.now widths.now nodes.now arrows.now i }
+    ensures { result ≡ around_in types.now widths.now nodes.now arrows.now i }
 {
     let record = table::record_at(nodes, i);
     if record.kind == table::PAIR {

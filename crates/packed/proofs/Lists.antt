@@ -1,57 +1,57 @@
 -- Laws on packed lists of numbers, and on the stores that are held against them or that they are laid over.
 use Rattle.std.proofs.Common.{◌≡◌, ℕ, zero, suc, ◌+◌, ◌<◌, ◌≤◌, Bool, true, false, eqb, ltb, List, [], ◌∷◌, ◌++◌, length, get_or, take, drop, set, sym, refl, ap, ◌∙◌, ap₂, add-one, arith, length-drop, take-append-drop, drop_of_length-le, drop-cons, take-suc-set, drop-set-lt, le-ltb, lt-ltb, eq-eqb, ne_eqb}
 use lib.Seq.{append_snoc}
-use Rattle.packed.specs.Lists.{byFirst, firstNumber, afterNumber, unpackedPast, unpacked, head_or, tail, none, holdsNumbers, laid}
+use Rattle.packed.specs.Lists.{by_first, first_number, after_number, unpacked_past, unpacked, head_or, tail, none, holds_numbers, laid}
 
 -- the three kinds of a number, by its first byte
 module _ {X : Type 0} (first : ℕ) (one two four : X) where
-  pub in_one : first < 254 → byFirst first one two four ≡ one
-  unfolding byFirst
-  in_one h = rw (byFirst, lt-ltb first 254 h)
+  pub in_one : first < 254 → by_first first one two four ≡ one
+  unfolding by_first
+  in_one h = rw (by_first, lt-ltb first 254 h)
 
-  pub in_two : first ≡ 254 → byFirst first one two four ≡ two
-  unfolding byFirst
-  in_two e = rw (byFirst, le-ltb first 254 (omega arith), eq-eqb first 254 e)
+  pub in_two : first ≡ 254 → by_first first one two four ≡ two
+  unfolding by_first
+  in_two e = rw (by_first, le-ltb first 254 (omega arith), eq-eqb first 254 e)
 
-  pub in_four : 254 ≤ first → (first ≡ 254 → ⊥) → byFirst first one two four ≡ four
-  unfolding byFirst
-  in_four h n = rw (byFirst, le-ltb first 254 h, ne_eqb first 254 n)
+  pub in_four : 254 ≤ first → (first ≡ 254 → ⊥) → by_first first one two four ≡ four
+  unfolding by_first
+  in_four h n = rw (by_first, le-ltb first 254 h, ne_eqb first 254 n)
 
 -- bytes of a number that is taken are passed over
-passed : (n : ℕ) (v : List ℕ) → unpackedPast n v ≡ unpackedPast 0 (drop n v)
-unfolding unpackedPast
+passed : (n : ℕ) (v : List ℕ) → unpacked_past n v ≡ unpacked_past 0 (drop n v)
+unfolding unpacked_past
 passed zero v = refl
 passed (suc n) [] = refl
 passed (suc n) (b ∷ v) = passed n v
 
 -- the numbers of a list that has a byte are its first and those after it
-pub unpack : (v : List ℕ) → (length v ≡ 0 → ⊥) → unpacked v ≡ firstNumber v ∷ unpacked (afterNumber v)
-unfolding unpackedPast afterNumber byFirst
+pub unpack : (v : List ℕ) → (length v ≡ 0 → ⊥) → unpacked v ≡ first_number v ∷ unpacked (after_number v)
+unfolding unpacked_past after_number by_first
 unpack [] n = absurd (n refl)
-unpack (b ∷ v) n = ap (λ (ns : List ℕ). firstNumber (b ∷ v) ∷ ns) (go (ltb b 254) (eqb b 254))
+unpack (b ∷ v) n = ap (λ (ns : List ℕ). first_number (b ∷ v) ∷ ns) (go (ltb b 254) (eqb b 254))
   where
     go : (p q : Bool)
-        → unpackedPast (elim p [ true ↦ 0 | false ↦ elim q [ true ↦ 2 | false ↦ 4 ] ]) v
-        ≡ unpackedPast 0 (elim p [ true ↦ drop 1 (b ∷ v) | false ↦ elim q [ true ↦ drop 3 (b ∷ v) | false ↦ drop 5 (b ∷ v) ] ])
+        → unpacked_past (elim p [ true ↦ 0 | false ↦ elim q [ true ↦ 2 | false ↦ 4 ] ]) v
+        ≡ unpacked_past 0 (elim p [ true ↦ drop 1 (b ∷ v) | false ↦ elim q [ true ↦ drop 3 (b ∷ v) | false ↦ drop 5 (b ∷ v) ] ])
     go true q = refl
     go false true = passed 2 v
     go false false = passed 4 v
 
-pub first_of : (v : List ℕ) (rest : ℕ) → (length v ≡ 0 → ⊥) → head_or rest (unpacked v) ≡ firstNumber v
+pub first_of : (v : List ℕ) (rest : ℕ) → (length v ≡ 0 → ⊥) → head_or rest (unpacked v) ≡ first_number v
 unfolding head_or
 first_of v rest n = ap (head_or rest) (unpack v n)
 
-pub first-of-none : (v : List ℕ) (rest : ℕ) → length v ≡ 0 → head_or rest (unpacked v) ≡ rest
-unfolding head_or unpackedPast
-first-of-none [] rest e = refl
-first-of-none (b ∷ v) rest e = absurd (omega arith)
+pub first_of_none : (v : List ℕ) (rest : ℕ) → length v ≡ 0 → head_or rest (unpacked v) ≡ rest
+unfolding head_or unpacked_past
+first_of_none [] rest e = refl
+first_of_none (b ∷ v) rest e = absurd (omega arith)
 
 -- a number that was taken off the list stands before those of the rest
-pub taken-off : (v w : List ℕ) (n : ℕ) → (length v ≡ 0 → ⊥) → n ≡ head_or 0 (unpacked v) → w ≡ afterNumber v → unpacked v ≡ n ∷ unpacked w
-taken-off v w n h e f = unpack v h ∙ sym (ap₂ (λ (x : ℕ) (xs : List ℕ). x ∷ unpacked xs) (e ∙ first_of v 0 h) f)
+pub taken_off : (v w : List ℕ) (n : ℕ) → (length v ≡ 0 → ⊥) → n ≡ head_or 0 (unpacked v) → w ≡ after_number v → unpacked v ≡ n ∷ unpacked w
+taken_off v w n h e f = unpack v h ∙ sym (ap₂ (λ (x : ℕ) (xs : List ℕ). x ∷ unpacked xs) (e ∙ first_of v 0 h) f)
 
-pub fewer : (v w : List ℕ) → 0 < length v → w ≡ afterNumber v → length w < length v
-unfolding afterNumber byFirst
+pub fewer : (v w : List ℕ) → 0 < length v → w ≡ after_number v → length w < length v
+unfolding after_number by_first
 fewer v w h e = rw e (go (ltb (get_or v 0 0) 254) (eqb (get_or v 0 0) 254))
   where
     go : (p q : Bool) → length {A = ℕ} (elim p [ true ↦ drop 1 v | false ↦ elim q [ true ↦ drop 3 v | false ↦ drop 5 v ] ]) < length v
@@ -59,57 +59,57 @@ fewer v w h e = rw e (go (ltb (get_or v 0 0) 254) (eqb (get_or v 0 0) 254))
     go false true = rw length-drop (omega arith)
     go false false = rw length-drop (omega arith)
 
-pub after-of : (v : List ℕ) → unpacked (afterNumber v) ≡ tail (unpacked v)
-unfolding tail unpackedPast afterNumber byFirst
-after-of [] = refl
-after-of (b ∷ v) = sym (ap tail (unpack (b ∷ v) (λ (e : suc (length v) ≡ 0). absurd (omega arith))))
+pub after_of : (v : List ℕ) → unpacked (after_number v) ≡ tail (unpacked v)
+unfolding tail unpacked_past after_number by_first
+after_of [] = refl
+after_of (b ∷ v) = sym (ap tail (unpack (b ∷ v) (λ (e : suc (length v) ≡ 0). absurd (omega arith))))
 
 pub none_of : (v : List ℕ) → eqb (length v) 0 ≡ none (unpacked v)
-unfolding none unpackedPast
+unfolding none unpacked_past
 none_of [] = refl
 none_of (b ∷ v) = ne_eqb (suc (length v)) 0 (λ (e : suc (length v) ≡ 0). absurd (omega arith))
 
 -- a store is held against the numbers from place k on: unlike there, or like and on to the next, or at the end
 module _ (store : List ℕ) (ns : List ℕ) (rest k : ℕ) where
-  at_place : k < length store → holdsNumbers (drop k store) ns rest
-      ≡ elim (eqb (get_or store k 0) (head_or rest ns)) [ true ↦ holdsNumbers (drop (suc k) store) (tail ns) rest | false ↦ false ]
-  unfolding holdsNumbers
-  at_place h = ap (λ (xs : List ℕ). holdsNumbers xs ns rest) (drop-cons store k 0 h)
+  at_place : k < length store → holds_numbers (drop k store) ns rest
+      ≡ elim (eqb (get_or store k 0) (head_or rest ns)) [ true ↦ holds_numbers (drop (suc k) store) (tail ns) rest | false ↦ false ]
+  unfolding holds_numbers
+  at_place h = ap (λ (xs : List ℕ). holds_numbers xs ns rest) (drop-cons store k 0 h)
 
-  pub unlike : (m : ℕ) → k < length store → m ≡ head_or rest ns → (get_or store k 0 ≡ m → ⊥) → holdsNumbers (drop k store) ns rest ≡ false
+  pub unlike : (m : ℕ) → k < length store → m ≡ head_or rest ns → (get_or store k 0 ≡ m → ⊥) → holds_numbers (drop k store) ns rest ≡ false
   unlike m h e n = at_place h ∙ rw (ne_eqb (get_or store k 0) (head_or rest ns) (λ (p : get_or store k 0 ≡ head_or rest ns). n (p ∙ sym e)))
 
   pub like : (m : ℕ) → k < length store → m ≡ head_or rest ns → get_or store k 0 ≡ m
-      → holdsNumbers (drop k store) ns rest ≡ holdsNumbers (drop (k + 1) store) (tail ns) rest
+      → holds_numbers (drop k store) ns rest ≡ holds_numbers (drop (k + 1) store) (tail ns) rest
   like m h e p = at_place h ∙ rw (eq-eqb (get_or store k 0) (head_or rest ns) (p ∙ e), add-one)
 
-  pub ended : length store ≤ k → holdsNumbers (drop k store) ns rest ≡ none ns
-  unfolding holdsNumbers
-  ended h = ap (λ (xs : List ℕ). holdsNumbers xs ns rest) (drop_of_length-le store h)
+  pub ended : length store ≤ k → holds_numbers (drop k store) ns rest ≡ none ns
+  unfolding holds_numbers
+  ended h = ap (λ (xs : List ℕ). holds_numbers xs ns rest) (drop_of_length-le store h)
 
 -- the numbers laid over a store from place k on: how many there are then, and the store
-abbrev pub laidFrom : (k : ℕ) (ns store : List ℕ) → ℕ × List ℕ
-laidFrom k ns store = (k + (laid ns (drop k store)).0, take k store ++ (laid ns (drop k store)).1)
+abbrev pub laid_from : (k : ℕ) (ns store : List ℕ) → ℕ × List ℕ
+laid_from k ns store = (k + (laid ns (drop k store)).0, take k store ++ (laid ns (drop k store)).1)
 
 -- at the start all numbers are to be laid
-pub none-laid : (ns store : List ℕ) → laid ns store ≡ laidFrom 0 ns store
-none-laid ns store = ap₂ (λ (m : ℕ) (xs : List ℕ). (m, xs)) (omega arith) refl
+pub none_laid : (ns store : List ℕ) → laid ns store ≡ laid_from 0 ns store
+none_laid ns store = ap₂ (λ (m : ℕ) (xs : List ℕ). (m, xs)) (omega arith) refl
 
 -- nothing is laid of an empty list, nor over an empty store
-empty-list : (v s : List ℕ) → length v ≤ 0 → laid (unpacked v) s ≡ (0, s)
-unfolding laid unpackedPast
-empty-list [] [] h = refl
-empty-list [] (x ∷ xs) h = refl
-empty-list (b ∷ v) s h = absurd (omega arith)
+empty_list : (v s : List ℕ) → length v ≤ 0 → laid (unpacked v) s ≡ (0, s)
+unfolding laid unpacked_past
+empty_list [] [] h = refl
+empty_list [] (x ∷ xs) h = refl
+empty_list (b ∷ v) s h = absurd (omega arith)
 
-empty-store : (ns s : List ℕ) → length s ≤ 0 → laid ns s ≡ (0, s)
+empty_store : (ns s : List ℕ) → length s ≤ 0 → laid ns s ≡ (0, s)
 unfolding laid
-empty-store ns [] h = refl
-empty-store ns (x ∷ xs) h = absurd (omega arith)
+empty_store ns [] h = refl
+empty_store ns (x ∷ xs) h = absurd (omega arith)
 
 module _ (k : ℕ) (store : List ℕ) where
   -- one number more is laid
-  pub lay : (n : ℕ) (ns : List ℕ) → k < length store → laidFrom k (n ∷ ns) store ≡ laidFrom (k + 1) ns (set store k n)
+  pub lay : (n : ℕ) (ns : List ℕ) → k < length store → laid_from k (n ∷ ns) store ≡ laid_from (k + 1) ns (set store k n)
   unfolding laid
   lay n ns h =
       let d : drop k store ≡ get_or store k 0 ∷ drop (suc k) store = drop-cons store k 0 h in
@@ -118,11 +118,11 @@ module _ (k : ℕ) (store : List ℕ) where
       (ap₂ (λ (m : ℕ) (xs : List ℕ). (m, xs)) (omega arith) refl)
 
   -- all numbers are laid, or there is no room for more
-  done : (ns : List ℕ) → laid ns (drop k store) ≡ (0, drop k store) → (k, store) ≡ laidFrom k ns store
+  done : (ns : List ℕ) → laid ns (drop k store) ≡ (0, drop k store) → (k, store) ≡ laid_from k ns store
   done ns e = rw e (ap₂ (λ (m : ℕ) (xs : List ℕ). (m, xs)) (omega arith) (sym (take-append-drop k store)))
 
-  pub all_laid : (v : List ℕ) → length v ≤ 0 → (k, store) ≡ laidFrom k (unpacked v) store
-  all_laid v h = done (unpacked v) (empty-list v (drop k store) h)
+  pub all_laid : (v : List ℕ) → length v ≤ 0 → (k, store) ≡ laid_from k (unpacked v) store
+  all_laid v h = done (unpacked v) (empty_list v (drop k store) h)
 
-  pub full : (ns : List ℕ) → length store ≤ k → (k, store) ≡ laidFrom k ns store
-  full ns h = done ns (empty-store ns (drop k store) (rw length-drop (omega arith)))
+  pub full : (ns : List ℕ) → length store ≤ k → (k, store) ≡ laid_from k ns store
+  full ns h = done ns (empty_store ns (drop k store) (rw length-drop (omega arith)))

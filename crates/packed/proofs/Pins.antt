@@ -34,8 +34,8 @@ tells κs a s t x y p q = p ∙ sym q
 pub front : OneSeen 1 front-kinds.ps front-kinds.r (λ κs. (λ x. x.now)) front_reads.Post
 front κs a s t x y p q = p ∙ sym q
 
-pub front-numbers : OneSeen 1 front-numbers-kinds.ps front-numbers-kinds.r (λ κs. (λ x. x.now)) front-numbers-reads.Post
-front-numbers κs a s t x y p q = p ∙ sym q
+pub front_numbers : OneSeen 1 front-numbers-kinds.ps front-numbers-kinds.r (λ κs. (λ x. x.now)) front-numbers-reads.Post
+front_numbers κs a s t x y p q = p ∙ sym q
 
 pub from : OneSeen 1 from-kinds.ps from-kinds.r (λ κs. (λ x. x.now)) from-reads.Post
 from κs a s t x y p q = p ∙ sym q
@@ -43,17 +43,17 @@ from κs a s t x y p q = p ∙ sym q
 pub part : OneSeen 1 part-kinds.ps part-kinds.r (λ κs. (λ x. x.now)) part-reads.Post
 part κs a s t x y p q = p ∙ sym q
 
-pub holds-numbers : OneResult 2 holds-numbers-kinds.ps holds-numbers-kinds.r holds-numbers-reads.Post
-holds-numbers κs a s t x y p q = p ∙ sym q
+pub holds_numbers_lem : OneResult 2 holds-numbers-kinds.ps holds-numbers-kinds.r holds-numbers-reads.Post
+holds_numbers_lem κs a s t x y p q = p ∙ sym q
 
 pub laid : OneOutcome 2 laid-kinds.ps laid-kinds.r laid-reads.Post
 laid κs a s t v w p q = let e = p ∙ sym q in (λ i. (e i).0, λ i. tt & (e i).1 & tt)
 
-pub first-record : OneSeen 1 first-record-kinds.ps first-record-kinds.r (λ κs. (λ x. x.now)) first-record-reads.Post
-first-record κs a s t x y p q = p ∙ sym q
+pub first_record_lem : OneSeen 1 first-record-kinds.ps first-record-kinds.r (λ κs. (λ x. x.now)) first-record-reads.Post
+first_record_lem κs a s t x y p q = p ∙ sym q
 
-pub after_first : OneSeen 1 after-first-kinds.ps after-first-kinds.r (λ κs. (λ x. x.now)) after-first-reads.Post
-after_first κs a s t x y p q = p ∙ sym q
+pub after_first_lem : OneSeen 1 after-first-kinds.ps after-first-kinds.r (λ κs. (λ x. x.now)) after-first-reads.Post
+after_first_lem κs a s t x y p q = p ∙ sym q
 
 pub counted : OneResult 0 counted-kinds.ps counted-kinds.r counted-reads.Post
 counted κs a s t x y p q = p ∙ sym q

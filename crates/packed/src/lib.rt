@@ -1,8 +1,8 @@
 // Packed records of test data: numbers, the parts of a record, packed lists of numbers, and the tally that is printed of a file.
 // Every read has an answer past the end: numbers are 0 there, and a part or a record that is cut off is empty.
 ghost use Rattle.std.specs.Prelude.{◌≡◌, ◌+◌, ◌*◌, ◌<◌, take, drop};
-ghost use Rattle.packed.specs.Records.{number, whole, part, firstRecord, afterFirst, tells};
-ghost use Rattle.packed.specs.Lists.{unpacked, head_or, afterNumber, holdsNumbers, laid};
+ghost use Rattle.packed.specs.Records.{number, whole, part, first_record, after_first, tells};
+ghost use Rattle.packed.specs.Lists.{unpacked, head_or, after_number, holds_numbers, laid};
 ghost use Rattle.packed.specs.Tallies.{counted};
 
 use libc::STDOUT_FILENO;
@@ -107,7 +107,7 @@ fn first_number(list: &[u8], rest: u32) -> u32
 
 // A packed list after its first number.
 fn after_number(list: &[u8]) -> &[u8]
-    ensures { result.now ≡ afterNumber list.now }
+    ensures { result.now ≡ after_number list.now }
 {
     let first = common::byte_at(list, 0);
     if first < 254 {
@@ -121,7 +121,7 @@ fn after_number(list: &[u8]) -> &[u8]
 
 // Whether a store holds the numbers of a packed list, and one number again and again after them.
 pub fn holds_numbers(store: &[u32], list: &[u8], rest: u32) -> bool
-    ensures { result ≡ holdsNumbers store.now (unpacked list.now) rest }
+    ensures { result ≡ holds_numbers store.now (unpacked list.now) rest }
 {
     let mut left = list;
     let mut k: usize = 0;
@@ -156,14 +156,14 @@ pub fn laid(list: &[u8], store: &mut [u32]) -> usize
 
 // The first record of a file, which begins with the count of the record's bytes; none where it is not all there.
 pub fn first_record(file: &[u8]) -> &[u8]
-    ensures { result.now ≡ firstRecord file.now }
+    ensures { result.now ≡ first_record file.now }
 {
     whole(from(file, 4), number(file, 0) as usize)
 }
 
 // The file after its first record.
 pub fn after_first(file: &[u8]) -> &[u8]
-    ensures { result.now ≡ afterFirst file.now }
+    ensures { result.now ≡ after_first file.now }
 {
     from(file, 4 + number(file, 0) as usize)
 }

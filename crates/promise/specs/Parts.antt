@@ -27,27 +27,27 @@ module _ (part : Part) (at size : ℕ) where
   all = length part.bytes
 
   -- from a to e, as the code reckons it
-  abbrev pub from-to : (a e : ℕ) → Part
-  from-to a e = record { place = (part.place.0, a + part.place.1); bytes = take (e - a) (drop a part.bytes) }
+  abbrev pub from_to : (a e : ℕ) → Part
+  from_to a e = record { place = (part.place.0, a + part.place.1); bytes = take (e - a) (drop a part.bytes) }
 
-  same-cut : (a e : ℕ) → a ≡ min at all → take (e - a) (drop a part.bytes) ≡ take size (drop at part.bytes) → from-to a e ≡ cut part at size
-  same-cut a e p q =
+  same_cut : (a e : ℕ) → a ≡ min at all → take (e - a) (drop a part.bytes) ≡ take size (drop at part.bytes) → from_to a e ≡ cut part at size
+  same_cut a e p q =
       let s : a + part.place.1 ≡ part.place.1 + min at all = omega (arith, p) in
       λ i. record { place = (part.place.0, s i); bytes = q i }
 
-  pub cut-past : all < at → from-to all all ≡ cut part at size
-  cut-past h =
-      same-cut all all (sym (min-eq_right (omega arith)))
+  pub cut_past : all < at → from_to all all ≡ cut part at size
+  cut_past h =
+      same_cut all all (sym (min-eq_right (omega arith)))
       (ap (take (all - all)) (drop_of_length-le part.bytes {i = all} (omega arith)) ∙ take-nil {A = ℕ} (all - all)
       ∙ sym (ap (take size) (drop_of_length-le part.bytes {i = at} (omega arith)) ∙ take-nil {A = ℕ} size))
 
-  pub cut-rest : at ≤ all → all - at < size → from-to at all ≡ cut part at size
-  cut-rest h l =
+  pub cut_rest : at ≤ all → all - at < size → from_to at all ≡ cut part at size
+  cut_rest h l =
       let n : length (drop at part.bytes) ≡ all - at = length-drop at part.bytes in
-      same-cut at all (sym (min-eq_left h))
+      same_cut at all (sym (min-eq_left h))
       (take_all (all - at) (drop at part.bytes) (omega arith) ∙ sym (take_all size (drop at part.bytes) (omega arith)))
 
-  pub cut-within : at ≤ all → from-to at (at + size) ≡ cut part at size
-  cut-within h =
+  pub cut_within : at ≤ all → from_to at (at + size) ≡ cut part at size
+  cut_within h =
       let n : at + size - at ≡ size = omega arith in
-      same-cut at (at + size) (sym (min-eq_left h)) (ap (λ (n : ℕ). take n (drop at part.bytes)) n)
+      same_cut at (at + size) (sym (min-eq_left h)) (ap (λ (n : ℕ). take n (drop at part.bytes)) n)

@@ -10,7 +10,7 @@ use lib.ListN.{length, take, drop}
 use borrow.Author.Tests.{le-leb, lt-leb, leb-true}
 use Rattle.report.specs.Bits.{Bit}
 use Rattle.report.specs.Types.{Ty}
-use Rattle.report.specs.Values.{Val, compact, Read, value, short, readValue}
+use Rattle.report.specs.Values.{Val, compact, Read, value, short, read_value}
 use Rattle.common.specs.Lists.{drop-take}
 use Rattle.common.specs.Checks.{clash}
 use Rattle.value.specs.declared.ValueRead.TheVariants.{Next, Short}
@@ -19,40 +19,40 @@ use Rattle.ready.specs.Answers.{end_of}
 
 module _ (A : Ty) (p n : ℕ) (bits : List Bit) where
   -- reading at p from the first n bits, and from all of them
-  abbrev inFirst : Read
-  inFirst = readValue A (drop p (take n bits))
+  abbrev in_first : Read
+  in_first = read_value A (drop p (take n bits))
 
-  abbrev inAll : Read
-  inAll = readValue A (drop p bits)
+  abbrev in_all : Read
+  in_all = read_value A (drop p bits)
 
-  first-is : inFirst ≡ within (n - p) inAll
-  first-is = ap (readValue A) (drop-take p n bits) ∙ read_first A (n - p) (drop p bits)
+  first_is : in_first ≡ within (n - p) in_all
+  first_is = ap (read_value A) (drop-take p n bits) ∙ read_first A (n - p) (drop p bits)
 
   -- what the first bits hold all bits hold
-  pub in_all : (v : Val) (rest : List Bit) → inFirst ≡ value v rest → (more : List Bit) × (inAll ≡ value v more)
+  pub in_all_lem : (v : Val) (rest : List Bit) → in_first ≡ value v rest → (more : List Bit) × (in_all ≡ value v more)
   unfolding within
-  in_all v rest e = go inAll refl (sym first-is ∙ e)
+  in_all_lem v rest e = go in_all refl (sym first_is ∙ e)
     where
       held : (w : Val) (more : List Bit) (b : Bool) → elim b [ true ↦ value w (take (n - p - length (compact w)) more) | false ↦ short ] ≡ value v rest → w ≡ v
       held w more true f = cc
       held w more false f = clash (cc)
 
-      go : (r : Read) → inAll ≡ r → within (n - p) r ≡ value v rest → (more : List Bit) × (inAll ≡ value v more)
+      go : (r : Read) → in_all ≡ r → within (n - p) r ≡ value v rest → (more : List Bit) × (in_all ≡ value v more)
       go (value w more) g f = (more, g ∙ ap (λ (u : Val). value u more) (held w more (leb (length (compact w)) (n - p)) f))
       go short g f = clash (cc)
 
   -- where a value of all bits ends, and where that leaves the first bits
-  pub ends_nowhere : Short ≡ end_of p inAll → Short ≡ end_of p inFirst
+  pub ends_nowhere : Short ≡ end_of p in_all → Short ≡ end_of p in_first
   unfolding within end_of
-  ends_nowhere e = go inAll e ∙ ap (end_of p) (sym first-is)
+  ends_nowhere e = go in_all e ∙ ap (end_of p) (sym first_is)
     where
       go : (r : Read) → Short ≡ end_of p r → Short ≡ end_of p (within (n - p) r)
       go (value v rest) e = clash (cc)
       go short e = refl
 
-  pub ends-past : (q : ℕ) → Next q ≡ end_of p inAll → p ≤ n → n < q → Short ≡ end_of p inFirst
+  pub ends_past : (q : ℕ) → Next q ≡ end_of p in_all → p ≤ n → n < q → Short ≡ end_of p in_first
   unfolding within end_of
-  ends-past q e h k = go inAll e ∙ ap (end_of p) (sym first-is)
+  ends_past q e h k = go in_all e ∙ ap (end_of p) (sym first_is)
     where
       go : (r : Read) → Next q ≡ end_of p r → Short ≡ end_of p (within (n - p) r)
       go (value v rest) e =
@@ -61,9 +61,9 @@ module _ (A : Ty) (p n : ℕ) (bits : List Bit) where
           (sym (lt-leb (length (compact v)) (n - p) (omega arith)))
       go short e = clash (cc)
 
-  pub ends-within : (q : ℕ) → Next q ≡ end_of p inAll → p ≤ n → q ≤ n → Next q ≡ end_of p inFirst
+  pub ends_within : (q : ℕ) → Next q ≡ end_of p in_all → p ≤ n → q ≤ n → Next q ≡ end_of p in_first
   unfolding within end_of
-  ends-within q e h k = go inAll e ∙ ap (end_of p) (sym first-is)
+  ends_within q e h k = go in_all e ∙ ap (end_of p) (sym first_is)
     where
       go : (r : Read) → Next q ≡ end_of p r → Next q ≡ end_of p (within (n - p) r)
       go (value v rest) e =
@@ -74,9 +74,9 @@ module _ (A : Ty) (p n : ℕ) (bits : List Bit) where
       go short e = clash (cc)
 
   -- a value of the first bits ends within them
-  pub ends-inside : (q : ℕ) → Next q ≡ end_of p inFirst → p ≤ n → q ≤ n
+  pub ends_inside : (q : ℕ) → Next q ≡ end_of p in_first → p ≤ n → q ≤ n
   unfolding within end_of
-  ends-inside q e h = go inAll (e ∙ ap (end_of p) first-is)
+  ends_inside q e h = go in_all (e ∙ ap (end_of p) first_is)
     where
       held : (v : Val) (rest : List Bit) (b : Bool) → leb (length (compact v)) (n - p) ≡ b
           → Next q ≡ end_of p (elim b [ true ↦ value v (take (n - p - length (compact v)) rest) | false ↦ short ]) → q ≤ n

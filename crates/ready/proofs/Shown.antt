@@ -6,299 +6,299 @@ use Prim.Native.Nat.{ℕ, ◌-◌, ◌/◌, ◌≤◌, ◌<◌}
 use native.Mathlib.Omega.{arith}
 use native.Mathlib.Decide.{dec_lt}
 use lib.ListN.{length, get_or, take, drop, get_or-append, get_or-eq_default}
-use Rattle.limits.specs.Limits.{nodeCount, typeCount, cellCount, frameCount, frameNumbers}
+use Rattle.limits.specs.Limits.{node_count, type_count, cell_count, frame_count, frame_numbers}
 use Rattle.refusal.specs.declared.Refusal.TheVariants.{Witness}
 use Rattle.report.specs.Bits.{Bit, bits_of}
 use Rattle.report.specs.Types.{Ty, width, word_ty}
-use Rattle.report.specs.Values.{Val, ⟨⟩, Read, value, readValue}
+use Rattle.report.specs.Values.{Val, ⟨⟩, Read, value, read_value}
 use Rattle.report.specs.Nodes.{Node, witness, word}
 use Rattle.report.specs.Canonical.{children}
 use Rattle.report.specs.Meaning.{stuck}
 use Rattle.scope.specs.Check.{passed, ◌>>=◌, require}
-use Rattle.scope.specs.Numbers.{streamOf, heldBits, tabulate, bytesFor, zeros}
-use Rattle.scope.specs.Types.{TypeRecord, typeRecords, ty_at, checkTypes}
-use Rattle.scope.specs.Nodes.{nodeRecords, no_node, nodeAt, onWitness}
-use Rattle.scope.specs.Closing.{usedUp}
-use Rattle.scope.specs.Arrows.{Arrow, arrowRecords, target}
-use Rattle.scope.specs.Program.{Program, valueFrom, whole, wholeSource, wholeTarget}
-use Rattle.scope.specs.Bounds.{wholeCells, wholeFrames, wholeCost, checkBounds}
-use Rattle.scope.specs.Witness.{Values, valuesFrom, checkWitness}
-use Rattle.scope.specs.Input.{checkInput}
-use Rattle.scope.specs.Stores.{checkStores}
-use Rattle.scope.specs.Run.{Tables, program_of, Ready, checkReady, cells_of}
-use Rattle.scope.specs.Stages.{counted, tablesLent, arrowStage, hashStage}
+use Rattle.scope.specs.Numbers.{stream_of, held_bits, tabulate, bytes_for, zeros}
+use Rattle.scope.specs.Types.{TypeRecord, type_records, ty_at, check_types}
+use Rattle.scope.specs.Nodes.{node_records, no_node, node_at, on_witness}
+use Rattle.scope.specs.Closing.{used_up}
+use Rattle.scope.specs.Arrows.{Arrow, arrow_records, target}
+use Rattle.scope.specs.Program.{Program, value_from, whole, whole_source, whole_target}
+use Rattle.scope.specs.Bounds.{whole_cells, whole_frames, whole_cost, check_bounds}
+use Rattle.scope.specs.Witness.{Values, values_from, check_witness}
+use Rattle.scope.specs.Input.{check_input}
+use Rattle.scope.specs.Stores.{check_stores}
+use Rattle.scope.specs.Run.{Tables, program_of, Ready, check_ready, cells_of}
+use Rattle.scope.specs.Stages.{counted, tables_lent, arrow_stage, hash_stage}
 use Rattle.scope.specs.Machine.{machine}
-use Rattle.common.specs.Checks.{clash, both-passed, then-passes, counted-passed}
-use Rattle.common.specs.Bits.{AllBelow, held-within}
-use Rattle.exactness.specs.NodeTyping.{NodeTyped, Word, fromTy, toTy}
-use Rattle.exactness.specs.Types.{types-pass}
-use Rattle.exactness.specs.Arrows.{arrow-typed}
+use Rattle.common.specs.Checks.{clash, both_passed, then_passes, counted-passed}
+use Rattle.common.specs.Bits.{AllBelow, held_within}
+use Rattle.exactness.specs.NodeTyping.{NodeTyped, of_word, from_ty, to_ty}
+use Rattle.exactness.specs.Types.{types_pass}
+use Rattle.exactness.specs.Arrows.{arrow_typed}
 use Rattle.layout.specs.Mach.{empty}
 use Rattle.layout.specs.Safe.{WholeOk}
-use Rattle.theory.specs.Accepted.{Checked, ready-sound, ready-input}
-use Rattle.theory.specs.LentTables.{lent-checked}
-use Rattle.theory.specs.NodeTerms.{cells-alike, frames-alike, target-alike, source-alike}
-use Rattle.theory.specs.Supply.{witness-fits}
-use Rattle.theory.specs.Theorems.{never_stuck, whole-safe}
-use Rattle.common.specs.Nodes.{length-nodes}
-use Rattle.stages.proofs.Passed.{LentPassed, lent-passed, stage-passed, stage-arrows, hashes-passed}
-use Rattle.types.specs.Table.{checkTable, typeWidths, typeNext}
-use Rattle.common.specs.Tables.{length-tabulate, tabulate-at, tabulate-same}
-use Rattle.ready.specs.Lent.{programNodes, value_of, programAt, Reads, TypesShown, Shown}
-use Rattle.ready.specs.Positions.{readFor, positionAt, positionsOf}
-use Rattle.ready.proofs.FirstBits.{in_all}
-use Rattle.ready.proofs.Passes.{limits-kept, stores-fit, input-read}
-use Rattle.ready.proofs.Positions.{witness-or, valueRead, from-read, valueHere, all_read, values-here}
+use Rattle.theory.specs.Accepted.{Checked, ready_sound, ready_input}
+use Rattle.theory.specs.LentTables.{lent_checked}
+use Rattle.theory.specs.NodeTerms.{cells_alike, frames_alike, target_alike, source_alike}
+use Rattle.theory.specs.Supply.{witness_fits}
+use Rattle.theory.specs.Theorems.{never_stuck, whole_safe}
+use Rattle.common.specs.Nodes.{length_nodes}
+use Rattle.stages.proofs.Passed.{LentPassed, lent_passed, stage_passed, stage_arrows, hashes_passed}
+use Rattle.types.specs.Table.{check_table, type_widths, type_next}
+use Rattle.common.specs.Tables.{length-tabulate, tabulate_at, tabulate_same}
+use Rattle.ready.specs.Lent.{program_nodes, value_of, program_at, Reads, TypesShown, Shown}
+use Rattle.ready.specs.Positions.{read_for, position_at, positions_of}
+use Rattle.ready.proofs.FirstBits.{in_all_lem}
+use Rattle.ready.proofs.Passes.{limits_kept, stores_fit, input_read}
+use Rattle.ready.proofs.Positions.{witness_or, value_read, from_read, value_here, all_read, values_here}
 
 -- witness bits that passed
 module _ (types : List TypeRecord) (nodes : List Node) (arrows : List Arrow) (bytes : List ℕ) (count : ℕ) (values : List Val)
-    (passes : checkWitness types nodes arrows bytes count ≡ passed values) where
+    (passes : check_witness types nodes arrows bytes count ≡ passed values) where
   abbrev bits : List Bit
-  bits = take count (heldBits bytes)
+  bits = take count (held_bits bytes)
 
   abbrev held : (i : ℕ) → Ty
   held i = ty_at types (target arrows i)
 
-  walk : (R : Values) × (valuesFrom types arrows 0 nodes [] bits ≡ passed R) × (R.values ≡ values)
-  unfolding checkWitness
+  walk : (R : Values) × (values_from types arrows 0 nodes [] bits ≡ passed R) × (R.values ≡ values)
+  unfolding check_witness
   walk =
-      let p = both-passed (valuesFrom types arrows 0 nodes [] bits)
-      (λ read. require (usedUp bytes count read.rest) (Witness (length nodes)) >>= λ used. passed read.values) values passes in
-      let q = both-passed (require (usedUp bytes count p.0.rest) (Witness (length nodes))) (λ used. passed p.0.values) values p.2 in
+      let p = both_passed (values_from types arrows 0 nodes [] bits)
+      (λ read. require (used_up bytes count read.rest) (Witness (length nodes)) >>= λ used. passed read.values) values passes in
+      let q = both_passed (require (used_up bytes count p.0.rest) (Witness (length nodes))) (λ used. passed p.0.values) values p.2 in
       (p.0, p.1, cc)
 
   -- they are within the limit, so all their bytes are held
-  all_held : streamOf bytes ≡ heldBits bytes
-  all_held = sym (held-within bytes (witness-fits types arrows nodes bytes count values passes).bits.within)
+  all_held : stream_of bytes ≡ held_bits bytes
+  all_held = sym (held_within bytes (witness_fits types arrows nodes bytes count values passes).bits.within)
 
   -- a node's entry in the array of positions
-  pub position_in : (i : ℕ) → i < length nodes → get_or (positionsOf types nodes arrows bytes count) i 0 ≡ positionAt types nodes arrows bits i
-  unfolding positionsOf
+  pub position_in : (i : ℕ) → i < length nodes → get_or (positions_of types nodes arrows bytes count) i 0 ≡ position_at types nodes arrows bits i
+  unfolding positions_of
   position_in i h =
-      get_or-append (tabulate (length nodes) (positionAt types nodes arrows bits)) (zeros (nodeCount - length nodes)) 0 i
-      (omega (arith, length-tabulate (positionAt types nodes arrows bits) (length nodes)))
-      ∙ tabulate-at (positionAt types nodes arrows bits) (length nodes) i 0 h
+      get_or-append (tabulate (length nodes) (position_at types nodes arrows bits)) (zeros (node_count - length nodes)) 0 i
+      (omega (arith, length-tabulate (position_at types nodes arrows bits) (length nodes)))
+      ∙ tabulate_at (position_at types nodes arrows bits) (length nodes) i 0 h
 
   -- the value of a witness stands at its position in all bits
-  pub witness-here : (i : ℕ) → i < length nodes → nodeAt nodes i ≡ witness → (v : Val) → valueHere types nodes arrows bits i ≡ v
-      → (more : List Bit) × (readValue (held i) (drop (get_or (positionsOf types nodes arrows bytes count) i 0) (streamOf bytes)) ≡ value v more)
-  unfolding readFor valueRead onWitness
-  witness-here i h w v e =
+  pub witness_here : (i : ℕ) → i < length nodes → node_at nodes i ≡ witness → (v : Val) → value_here types nodes arrows bits i ≡ v
+      → (more : List Bit) × (read_value (held i) (drop (get_or (positions_of types nodes arrows bytes count) i 0) (stream_of bytes)) ≡ value v more)
+  unfolding read_for value_read on_witness
+  witness_here i h w v e =
       let r = all_read types nodes arrows bits walk.0 walk.1 i h in
-      let f : readValue (held i) (drop (positionAt types nodes arrows bits i) bits) ≡ value r.0 r.1 =
-      ap (λ (n : Node). onWitness n (readValue (held i) (drop (positionAt types nodes arrows bits i) bits))
-      (value ⟨⟩ (drop (positionAt types nodes arrows bits i) bits))) (sym w)
+      let f : read_value (held i) (drop (position_at types nodes arrows bits i) bits) ≡ value r.0 r.1 =
+      ap (λ (n : Node). on_witness n (read_value (held i) (drop (position_at types nodes arrows bits i) bits))
+      (value ⟨⟩ (drop (position_at types nodes arrows bits i) bits))) (sym w)
       ∙ r.2 in
-      let g : r.0 ≡ v = ap valueRead (sym r.2) ∙ e in
-      let m = in_all (held i) (positionAt types nodes arrows bits i) count (heldBits bytes) r.0 r.1 f in (
+      let g : r.0 ≡ v = ap value_read (sym r.2) ∙ e in
+      let m = in_all_lem (held i) (position_at types nodes arrows bits i) count (held_bits bytes) r.0 r.1 f in (
         m.0,
-        ap (λ (p : ℕ). readValue (held i) (drop p (streamOf bytes))) (position_in i h)
-            ∙ ap (λ (l : List Bit). readValue (held i) (drop (positionAt types nodes arrows bits i) l)) all_held ∙ m.1 ∙ ap (λ (u : Val). value u m.0) g,
+        ap (λ (p : ℕ). read_value (held i) (drop p (stream_of bytes))) (position_in i h)
+            ∙ ap (λ (l : List Bit). read_value (held i) (drop (position_at types nodes arrows bits i) l)) all_held ∙ m.1 ∙ ap (λ (u : Val). value u m.0) g,
       )
 
   -- the value at the position of node i, where it is a witness
-  abbrev pub valueIn : (i : ℕ) → Val
-  valueIn i = onWitness (nodeAt nodes i) (valueFrom (held i) (drop (get_or (positionsOf types nodes arrows bytes count) i 0) (streamOf bytes))) ⟨⟩
+  abbrev pub value_in : (i : ℕ) → Val
+  value_in i = on_witness (node_at nodes i) (value_from (held i) (drop (get_or (positions_of types nodes arrows bytes count) i 0) (stream_of bytes))) ⟨⟩
 
   -- so the value of every node is the one at its position
-  pub value_in : (i : ℕ) → i < length nodes → valueHere types nodes arrows bits i ≡ valueIn i
-  unfolding readFor valueRead
-  value_in i h =
-      witness-or (λ (r : Read) (v : Val). valueRead r ≡ v) (nodeAt nodes i) found (value ⟨⟩ (drop (positionAt types nodes arrows bits i) bits))
-      (valueFrom (held i) (drop (get_or (positionsOf types nodes arrows bytes count) i 0) (streamOf bytes))) ⟨⟩ one refl
+  pub value_in_lem : (i : ℕ) → i < length nodes → value_here types nodes arrows bits i ≡ value_in i
+  unfolding read_for value_read
+  value_in_lem i h =
+      witness_or (λ (r : Read) (v : Val). value_read r ≡ v) (node_at nodes i) found (value ⟨⟩ (drop (position_at types nodes arrows bits i) bits))
+      (value_from (held i) (drop (get_or (positions_of types nodes arrows bytes count) i 0) (stream_of bytes))) ⟨⟩ one refl
     where
       found : Read
-      found = readValue (held i) (drop (positionAt types nodes arrows bits i) bits)
+      found = read_value (held i) (drop (position_at types nodes arrows bits i) bits)
 
-      one : nodeAt nodes i ≡ witness → valueRead found ≡ valueFrom (held i) (drop (get_or (positionsOf types nodes arrows bytes count) i 0) (streamOf bytes))
+      one : node_at nodes i ≡ witness → value_read found ≡ value_from (held i) (drop (get_or (positions_of types nodes arrows bytes count) i 0) (stream_of bytes))
       one w =
-          let m = witness-here i h w (valueRead found)
-          (ap (λ (n : Node). valueRead (onWitness n found (value ⟨⟩ (drop (positionAt types nodes arrows bits i) bits)))) w) in
-          sym (from-read (held i) (drop (get_or (positionsOf types nodes arrows bytes count) i 0) (streamOf bytes)) ∙ ap valueRead m.1)
+          let m = witness_here i h w (value_read found)
+          (ap (λ (n : Node). value_read (on_witness n found (value ⟨⟩ (drop (position_at types nodes arrows bits i) bits)))) w) in
+          sym (from_read (held i) (drop (get_or (positions_of types nodes arrows bytes count) i 0) (stream_of bytes)) ∙ ap value_read m.1)
 
   -- the values that the check answers
-  pub values-in : tabulate (length nodes) valueIn ≡ values
-  values-in =
-      sym (tabulate-same ⟨⟩ (valueHere types nodes arrows bits) valueIn (length nodes) value_in)
-      ∙ sym (values-here types nodes arrows bits walk.0 walk.1)
+  pub values_in : tabulate (length nodes) value_in ≡ values
+  values_in =
+      sym (tabulate_same ⟨⟩ (value_here types nodes arrows bits) value_in (length nodes) value_in_lem)
+      ∙ sym (values_here types nodes arrows bits walk.0 walk.1)
       ∙ walk.2
 
-module _ (types nodes arrows program hashes given witnesses : List ℕ) (witnessBits : ℕ) (input : List ℕ) (inputBits : ℕ)
-    (tablesPass : hashStage types nodes arrows program hashes given ≡ passed tt) where
+module _ (types nodes arrows program hashes given witnesses : List ℕ) (witness_bits : ℕ) (input : List ℕ) (input_bits : ℕ)
+    (tables_pass : hash_stage types nodes arrows program hashes given ≡ passed tt) where
   -- the tables, and the positions of their nodes
   abbrev pub T : Tables
-  T = tablesLent types nodes arrows program hashes given witnesses witnessBits input inputBits
+  T = tables_lent types nodes arrows program hashes given witnesses witness_bits input input_bits
 
   abbrev pub positions : List ℕ
-  positions = positionsOf (typeRecords types) (programNodes nodes program hashes) (arrowRecords arrows) witnesses witnessBits
+  positions = positions_of (type_records types) (program_nodes nodes program hashes) (arrow_records arrows) witnesses witness_bits
 
   checked : Checked T
-  checked = lent-checked types nodes arrows program hashes given witnesses witnessBits input inputBits tablesPass
+  checked = lent_checked types nodes arrows program hashes given witnesses witness_bits input input_bits tables_pass
 
-  arrowsPass : arrowStage types nodes arrows program hashes ≡ passed tt
-  arrowsPass = (hashes-passed types nodes program hashes arrows given tablesPass).0
+  arrows_pass : arrow_stage types nodes arrows program hashes ≡ passed tt
+  arrows_pass = (hashes_passed types nodes program hashes arrows given tables_pass).0
 
-  lentPass : LentPassed types nodes program hashes
-  lentPass = lent-passed types nodes program hashes (stage-passed types nodes program hashes arrows arrowsPass).0
+  lent_pass : LentPassed types nodes program hashes
+  lent_pass = lent_passed types nodes program hashes (stage_passed types nodes program hashes arrows arrows_pass).0
 
-  pub nodes-counted : (1 ≤ length (nodeRecords nodes)) × (length (nodeRecords nodes) ≤ nodeCount)
-  nodes-counted = counted-passed (length (nodeRecords nodes)) nodeCount lentPass.nodes-counted
+  pub nodes_counted : (1 ≤ length (node_records nodes)) × (length (node_records nodes) ≤ node_count)
+  nodes_counted = counted-passed (length (node_records nodes)) node_count lent_pass.nodes_counted
 
-  pub types-shown : TypesShown types (typeWidths types) (typeNext types)
-  unfolding checkTable
-  types-shown = record {
-    count = length (typeRecords types);
+  pub types_shown : TypesShown types (type_widths types) (type_next types)
+  unfolding check_table
+  types_shown = record {
+    count = length (type_records types);
     passes =
-        then-passes (counted (length (typeRecords types)) typeCount)
-        (λ some. checkTypes (typeRecords types) >>= λ sound. passed (length (typeRecords types))) tt lentPass.types-counted
-        ∙ then-passes (checkTypes (typeRecords types)) (λ sound. passed (length (typeRecords types))) tt lentPass.types-kept;
-    widthsAre = refl;
-    nextAre = refl;
+        then_passes (counted (length (type_records types)) type_count)
+        (λ some. check_types (type_records types) >>= λ sound. passed (length (type_records types))) tt lent_pass.types_counted
+        ∙ then_passes (check_types (type_records types)) (λ sound. passed (length (type_records types))) tt lent_pass.types_kept;
+    widths_are = refl;
+    next_are = refl;
   }
 
   -- children stand below their node, and past the table's end there are none
-  all-below : (i : ℕ) → AllBelow i (children (nodeAt (programNodes nodes program hashes) i))
-  unfolding tablesLent nodeAt children
-  all-below i = go (dec_lt i (length (programNodes nodes program hashes)))
+  all_below : (i : ℕ) → AllBelow i (children (node_at (program_nodes nodes program hashes) i))
+  unfolding tables_lent node_at children
+  all_below i = go (dec_lt i (length (program_nodes nodes program hashes)))
     where
-      go : Dec (i < length (programNodes nodes program hashes)) → AllBelow i (children (nodeAt (programNodes nodes program hashes) i))
+      go : Dec (i < length (program_nodes nodes program hashes)) → AllBelow i (children (node_at (program_nodes nodes program hashes) i))
       go (yes h) = checked.below i h
       go (no h) =
-          subst (λ (n : Node). AllBelow i (children n)) (sym (get_or-eq_default (programNodes nodes program hashes) no_node {n = i} (omega arith))) tt
+          subst (λ (n : Node). AllBelow i (children n)) (sym (get_or-eq_default (program_nodes nodes program hashes) no_node {n = i} (omega arith))) tt
 
   -- a node other than `no_node` is in the table
-  in_table : (i : ℕ) (n : Node) → nodeAt (programNodes nodes program hashes) i ≡ n → (n ≡ no_node → ⊥) → i < length (programNodes nodes program hashes)
-  unfolding nodeAt
-  in_table i n e other = elim (dec_lt i (length (programNodes nodes program hashes))) [
+  in_table : (i : ℕ) (n : Node) → node_at (program_nodes nodes program hashes) i ≡ n → (n ≡ no_node → ⊥) → i < length (program_nodes nodes program hashes)
+  unfolding node_at
+  in_table i n e other = elim (dec_lt i (length (program_nodes nodes program hashes))) [
     | yes h ↦ h
-    | no h ↦ absurd (other (sym e ∙ get_or-eq_default (programNodes nodes program hashes) no_node {n = i} (omega arith)))
+    | no h ↦ absurd (other (sym e ∙ get_or-eq_default (program_nodes nodes program hashes) no_node {n = i} (omega arith)))
   ]
 
   -- the type of a word
-  word_typed : (i n : ℕ) (bits : List Bit) → nodeAt (programNodes nodes program hashes) i ≡ word n bits
-      → ty_at (typeRecords types) (target (arrowRecords arrows) i) ≡ word_ty (n - 1)
-  unfolding toTy
-  word_typed i n bits e =
+  word_typed_lem : (i n : ℕ) (bits : List Bit) → node_at (program_nodes nodes program hashes) i ≡ word n bits
+      → ty_at (type_records types) (target (arrow_records arrows) i) ≡ word_ty (n - 1)
+  unfolding to_ty
+  word_typed_lem i n bits e =
       let h = in_table i (word n bits) e (λ f. clash (cc)) in
-      let r = stage-arrows types nodes program hashes arrows arrowsPass i (omega (arith, length-nodes (streamOf program) hashes (nodeRecords nodes))) in
-      go (fromTy (typeRecords types) (arrowRecords arrows) i) (toTy (typeRecords types) (arrowRecords arrows) i)
-      (subst (λ (m : Node). NodeTyped (programNodes nodes program hashes) (fromTy (typeRecords types) (arrowRecords arrows))
-      (toTy (typeRecords types) (arrowRecords arrows)) m
-      (fromTy (typeRecords types) (arrowRecords arrows) i) (toTy (typeRecords types) (arrowRecords arrows) i)) e
-      (arrow-typed (typeRecords types) (types-pass (typeRecords types) lentPass.types-kept) (programNodes nodes program hashes) (arrowRecords arrows) i r))
+      let r = stage_arrows types nodes program hashes arrows arrows_pass i (omega (arith, length_nodes (stream_of program) hashes (node_records nodes))) in
+      go (from_ty (type_records types) (arrow_records arrows) i) (to_ty (type_records types) (arrow_records arrows) i)
+      (subst (λ (m : Node). NodeTyped (program_nodes nodes program hashes) (from_ty (type_records types) (arrow_records arrows))
+      (to_ty (type_records types) (arrow_records arrows)) m
+      (from_ty (type_records types) (arrow_records arrows) i) (to_ty (type_records types) (arrow_records arrows) i)) e
+      (arrow_typed (type_records types) (types_pass (type_records types) lent_pass.types_kept) (program_nodes nodes program hashes) (arrow_records arrows) i r))
     where
-      go : (A B : Ty) → NodeTyped (programNodes nodes program hashes) (fromTy (typeRecords types) (arrowRecords arrows))
-          (toTy (typeRecords types) (arrowRecords arrows)) (word n bits) A B
+      go : (A B : Ty) → NodeTyped (program_nodes nodes program hashes) (from_ty (type_records types) (arrow_records arrows))
+          (to_ty (type_records types) (arrow_records arrows)) (word n bits) A B
           → B ≡ word_ty (n - 1)
-      go A B Word = refl
+      go A B of_word = refl
 
-  module _ (cells frames answer : List ℕ) (R : Ready) (passes : checkReady T cells frames answer ≡ passed R) where
+  module _ (cells frames answer : List ℕ) (R : Ready) (passes : check_ready T cells frames answer ≡ passed R) where
     -- what 14 to 17 have told: bounds, values, input, stores
-    parts : (values : List Val) × (v : Val) × (checkBounds (program_of T []) ≡ passed tt)
-        × (checkWitness T.types T.nodes T.arrows T.witness T.witnessBits ≡ passed values)
-        × (checkInput (wholeSource (program_of T [])) T.input T.inputBits ≡ passed v)
-        × (checkStores (program_of T []) cells frames answer ≡ passed tt) × (R ≡ record { program = program_of T values; input = v })
-    unfolding checkReady
+    parts : (values : List Val) × (v : Val) × (check_bounds (program_of T []) ≡ passed tt)
+        × (check_witness T.types T.nodes T.arrows T.witness T.witness_bits ≡ passed values)
+        × (check_input (whole_source (program_of T [])) T.input T.input_bits ≡ passed v)
+        × (check_stores (program_of T []) cells frames answer ≡ passed tt) × (R ≡ record { program = program_of T values; input = v })
+    unfolding check_ready
     parts =
         let P : Program = program_of T [] in
-        let a = both-passed (checkBounds P) (λ bounded. checkWitness T.types T.nodes T.arrows T.witness T.witnessBits >>= λ values.
-        checkInput (wholeSource P) T.input T.inputBits >>= λ v.
-        checkStores P cells frames answer >>= λ stored. passed (record { program = program_of T values; input = v })) R passes in
-        let b = both-passed (checkWitness T.types T.nodes T.arrows T.witness T.witnessBits) (λ values.
-        checkInput (wholeSource P) T.input T.inputBits >>= λ v.
-        checkStores P cells frames answer >>= λ stored. passed (record { program = program_of T values; input = v })) R a.2 in
-        let c = both-passed (checkInput (wholeSource P) T.input T.inputBits) (λ v.
-        checkStores P cells frames answer >>= λ stored. passed (record { program = program_of T b.0; input = v })) R b.2 in
-        let d = both-passed (checkStores P cells frames answer) (λ stored. passed (record { program = program_of T b.0; input = c.0 })) R c.2 in
+        let a = both_passed (check_bounds P) (λ bounded. check_witness T.types T.nodes T.arrows T.witness T.witness_bits >>= λ values.
+        check_input (whole_source P) T.input T.input_bits >>= λ v.
+        check_stores P cells frames answer >>= λ stored. passed (record { program = program_of T values; input = v })) R passes in
+        let b = both_passed (check_witness T.types T.nodes T.arrows T.witness T.witness_bits) (λ values.
+        check_input (whole_source P) T.input T.input_bits >>= λ v.
+        check_stores P cells frames answer >>= λ stored. passed (record { program = program_of T values; input = v })) R a.2 in
+        let c = both_passed (check_input (whole_source P) T.input T.input_bits) (λ v.
+        check_stores P cells frames answer >>= λ stored. passed (record { program = program_of T b.0; input = v })) R b.2 in
+        let d = both_passed (check_stores P cells frames answer) (λ stored. passed (record { program = program_of T b.0; input = c.0 })) R c.2 in
         (b.0, c.0, a.1, b.1, c.1, d.1, cc)
 
-    witness-held : (i : ℕ) → nodeAt (programNodes nodes program hashes) i ≡ witness
-        → Reads (ty_at (typeRecords types) (target (arrowRecords arrows) i)) (drop (get_or positions i 0) (streamOf witnesses))
-    unfolding tablesLent
-    witness-held i w =
-        let m = witness-here (typeRecords types) (programNodes nodes program hashes) (arrowRecords arrows) witnesses witnessBits parts.0 parts.3 i
+    witness_held_lem : (i : ℕ) → node_at (program_nodes nodes program hashes) i ≡ witness
+        → Reads (ty_at (type_records types) (target (arrow_records arrows) i)) (drop (get_or positions i 0) (stream_of witnesses))
+    unfolding tables_lent
+    witness_held_lem i w =
+        let m = witness_here (type_records types) (program_nodes nodes program hashes) (arrow_records arrows) witnesses witness_bits parts.0 parts.3 i
         (in_table i witness w (λ f. clash (cc))) w _ refl in
         (_, m.0, m.1)
 
     -- THE TABLES ARE AS `Shown` SAYS
-    pub shown : Shown types (typeWidths types) (typeNext types) nodes arrows program hashes given witnesses positions
-    unfolding tablesLent
+    pub shown : Shown types (type_widths types) (type_next types) nodes arrows program hashes given witnesses positions
+    unfolding tables_lent
     shown = record {
-      below = all-below;
-      typed = types-shown;
-      programFits = lentPass.program-fits;
-      wordTyped = word_typed;
-      wordWhole = checked.words;
-      witnessHeld = witness-held;
+      below = all_below;
+      typed = types_shown;
+      program_fits = lent_pass.program_fits;
+      word_typed = word_typed_lem;
+      word_whole = checked.words;
+      witness_held = witness_held_lem;
     }
 
     -- THEIR PROGRAM IS THE ONE THAT WAS MADE READY
-    pub program-is : programAt types nodes arrows program hashes given witnesses positions ≡ R.program
-    unfolding programAt value_of tablesLent program_of
-    program-is =
-        ap (λ (vs : List Val). program_of (tablesLent types nodes arrows program hashes given witnesses 0 [] 0) vs)
-        (values-in (typeRecords types) (programNodes nodes program hashes) (arrowRecords arrows) witnesses witnessBits parts.0 parts.3)
+    pub program_is_lem : program_at types nodes arrows program hashes given witnesses positions ≡ R.program
+    unfolding program_at value_of tables_lent program_of
+    program_is_lem =
+        ap (λ (vs : List Val). program_of (tables_lent types nodes arrows program hashes given witnesses 0 [] 0) vs)
+        (values_in (type_records types) (program_nodes nodes program hashes) (arrow_records arrows) witnesses witness_bits parts.0 parts.3)
         ∙ sym (ap (λ (Q : Ready). Q.program) parts.6)
 
     abbrev P : Program
     P = R.program
 
     -- the program without values has the same tables, and so the same source, target and bounds
-    same-types : P.types ≡ (program_of T []).types
+    same_types : P.types ≡ (program_of T []).types
     unfolding program_of
-    same-types = ap (λ (Q : Ready). Q.program.types) parts.6
+    same_types = ap (λ (Q : Ready). Q.program.types) parts.6
 
     same_nodes : P.nodes ≡ (program_of T []).nodes
     unfolding program_of
     same_nodes = ap (λ (Q : Ready). Q.program.nodes) parts.6
 
-    same-arrows : P.arrows ≡ (program_of T []).arrows
+    same_arrows : P.arrows ≡ (program_of T []).arrows
     unfolding program_of
-    same-arrows = ap (λ (Q : Ready). Q.program.arrows) parts.6
+    same_arrows = ap (λ (Q : Ready). Q.program.arrows) parts.6
 
-    pub same_source : wholeSource P ≡ wholeSource (program_of T [])
-    same_source = source-alike P (program_of T []) same-types same_nodes same-arrows
+    pub same_source : whole_source P ≡ whole_source (program_of T [])
+    same_source = source_alike P (program_of T []) same_types same_nodes same_arrows
 
-    pub same_target : wholeTarget P ≡ wholeTarget (program_of T [])
-    same_target = target-alike P (program_of T []) same-types same_nodes same-arrows
+    pub same_target : whole_target P ≡ whole_target (program_of T [])
+    same_target = target_alike P (program_of T []) same_types same_nodes same_arrows
 
-    pub same-cells : wholeCells P ≡ wholeCells (program_of T [])
-    same-cells = cells-alike P (program_of T []) same-types same_nodes same-arrows
+    pub same_cells : whole_cells P ≡ whole_cells (program_of T [])
+    same_cells = cells_alike P (program_of T []) same_types same_nodes same_arrows
 
-    pub same-frames : wholeFrames P ≡ wholeFrames (program_of T [])
-    same-frames = frames-alike P (program_of T []) same-types same_nodes same-arrows
+    pub same_frames : whole_frames P ≡ whole_frames (program_of T [])
+    same_frames = frames_alike P (program_of T []) same_types same_nodes same_arrows
 
     -- THE INPUT STANDS AT THE FRONT OF THE INPUT BITS
-    pub input-held : (rest : List Bit) × (readValue (wholeSource P) (streamOf input) ≡ value R.input rest)
-    unfolding tablesLent
-    input-held =
-        let m = input-read (wholeSource (program_of T [])) input inputBits parts.1 parts.4 in
-        (m.0, ap (λ (A : Ty). readValue A (streamOf input)) same_source ∙ m.1 ∙ ap (λ (Q : Ready). value Q.input m.0) (sym parts.6))
+    pub input_held : (rest : List Bit) × (read_value (whole_source P) (stream_of input) ≡ value R.input rest)
+    unfolding tables_lent
+    input_held =
+        let m = input_read (whole_source (program_of T [])) input input_bits parts.1 parts.4 in
+        (m.0, ap (λ (A : Ty). read_value A (stream_of input)) same_source ∙ m.1 ∙ ap (λ (Q : Ready). value Q.input m.0) (sym parts.6))
 
     -- THE STORES HAVE ROOM FOR THE BOUNDS
-    pub room : (bytesFor (wholeCells P) ≤ length cells) × (wholeFrames P ≤ length frames / frameNumbers) × (bytesFor (width (wholeTarget P)) ≤ length answer)
+    pub room : (bytes_for (whole_cells P) ≤ length cells) × (whole_frames P ≤ length frames / frame_numbers) × (bytes_for (width (whole_target P)) ≤ length answer)
     room =
-        let m = stores-fit (program_of T []) cells frames answer parts.5 in (
-          subst (λ (n : ℕ). bytesFor n ≤ length cells) (sym same-cells) m.0,
-          subst (λ (n : ℕ). n ≤ length frames / frameNumbers) (sym same-frames) m.1,
-          subst (λ (A : Ty). bytesFor (width A) ≤ length answer) (sym same_target) m.2,
+        let m = stores_fit (program_of T []) cells frames answer parts.5 in (
+          subst (λ (n : ℕ). bytes_for n ≤ length cells) (sym same_cells) m.0,
+          subst (λ (n : ℕ). n ≤ length frames / frame_numbers) (sym same_frames) m.1,
+          subst (λ (A : Ty). bytes_for (width A) ≤ length answer) (sym same_target) m.2,
         )
 
     -- THE BOUNDS ARE WITHIN THE LIMITS
-    pub within-limits : (wholeCells P ≤ cellCount) × (wholeFrames P ≤ frameCount)
-    unfolding checkBounds
-    within-limits =
-        let m = limits-kept (wholeCells (program_of T [])) (wholeFrames (program_of T [])) (wholeCost (program_of T [])) parts.2 in
-        (subst (λ (n : ℕ). n ≤ cellCount) (sym same-cells) m.0, subst (λ (n : ℕ). n ≤ frameCount) (sym same-frames) m.1)
+    pub within_limits : (whole_cells P ≤ cell_count) × (whole_frames P ≤ frame_count)
+    unfolding check_bounds
+    within_limits =
+        let m = limits_kept (whole_cells (program_of T [])) (whole_frames (program_of T [])) (whole_cost (program_of T [])) parts.2 in
+        (subst (λ (n : ℕ). n ≤ cell_count) (sym same_cells) m.0, subst (λ (n : ℕ). n ≤ frame_count) (sym same_frames) m.1)
 
     -- THE MACHINE IS NEVER STUCK
-    pub not_stuck : machine (wholeCells P) (wholeFrames P) (whole P) (wholeSource P) (wholeTarget P) R.input (cells_of cells) ≡ stuck → ⊥
+    pub not_stuck : machine (whole_cells P) (whole_frames P) (whole P) (whole_source P) (whole_target P) R.input (cells_of cells) ≡ stuck → ⊥
     not_stuck =
-        never_stuck P (ready-sound T checked cells frames answer R passes) R.input (ready-input T checked cells frames answer R passes)
+        never_stuck P (ready_sound T checked cells frames answer R passes) R.input (ready_input T checked cells frames answer R passes)
         (cells_of cells)
 
     -- so the machine on lent stores is safe
-    pub whole-ok : WholeOk (whole P) (wholeSource P) (wholeTarget P) R.input (empty (bits_of (take (bytesFor (wholeCells P)) cells)) (wholeFrames P))
-    whole-ok =
-        whole-safe cells (bytesFor (wholeCells P)) (wholeCells P) (wholeFrames P) room.0 (omega arith) (whole P) (wholeSource P)
-        (wholeTarget P) R.input not_stuck
+    pub whole_ok : WholeOk (whole P) (whole_source P) (whole_target P) R.input (empty (bits_of (take (bytes_for (whole_cells P)) cells)) (whole_frames P))
+    whole_ok =
+        whole_safe cells (bytes_for (whole_cells P)) (whole_cells P) (whole_frames P) room.0 (omega arith) (whole P) (whole_source P)
+        (whole_target P) R.input not_stuck

@@ -9,13 +9,13 @@ use Rattle.report.specs.Values.{Val}
 use Rattle.report.specs.Nodes.{Node}
 use Rattle.scope.specs.Check.{Check, passed, refused, ◌>>=◌}
 use Rattle.scope.specs.Types.{TypeRecord, ty_at}
-use Rattle.scope.specs.Arrows.{Arrow, noArrow, source, target}
-use Rattle.scope.specs.Witness.{checkWitness}
-use Rattle.scope.specs.Input.{checkInput}
+use Rattle.scope.specs.Arrows.{Arrow, no_arrow, source, target}
+use Rattle.scope.specs.Witness.{check_witness}
+use Rattle.scope.specs.Input.{check_input}
 use Rattle.common.specs.Checks.{clash}
 use Rattle.common.specs.declared.Checked.TheVariants.{Passed, Refused}
-use Rattle.ready.specs.Positions.{positionsOf}
-use Rattle.ready.specs.Answers.{verdict, unreadOf, witnessTable, storesRule, supplied, suppliedTable}
+use Rattle.ready.specs.Positions.{positions_of}
+use Rattle.ready.specs.Answers.{verdict, unread_of, witness_table, stores_rule, supplied, supplied_table}
 use Rattle.ready.specs.declared.WitnessTable.{WitnessTable}
 
 -- what a verdict tells of its check
@@ -29,48 +29,48 @@ unfolding verdict
 verdict-passed (passed x) e = (x, refl)
 verdict-passed (refused r) e = clash (cc)
 
-module _ (types : List TypeRecord) (nodes : List Node) (arrows : List Arrow) (witness : List ℕ) (witnessBits : ℕ) (input : List ℕ) (inputBits : ℕ)
-    (cellBound frameBound cells frames answer : ℕ) where
+module _ (types : List TypeRecord) (nodes : List Node) (arrows : List Arrow) (witness : List ℕ) (witness_bits : ℕ) (input : List ℕ) (input_bits : ℕ)
+    (cell_bound frame_bound cells frames answer : ℕ) where
   abbrev read : Check (List Val)
-  read = checkWitness types nodes arrows witness witnessBits
+  read = check_witness types nodes arrows witness witness_bits
 
   abbrev taken : Check Val
-  taken = checkInput (ty_at types (source arrows (length nodes - 1))) input inputBits
+  taken = check_input (ty_at types (source arrows (length nodes - 1))) input input_bits
 
   abbrev stored : Check (Unit {0})
-  stored = storesRule cellBound frameBound (width (ty_at types (target arrows (length nodes - 1)))) cells frames answer
+  stored = stores_rule cell_bound frame_bound (width (ty_at types (target arrows (length nodes - 1)))) cells frames answer
 
   -- the answer of each of the two passes, by what its check says
   abbrev pub placed : WitnessTable
-  placed = record { answer = Passed; positions = positionsOf types nodes arrows witness witnessBits }
+  placed = record { answer = Passed; positions = positions_of types nodes arrows witness witness_bits }
 
   abbrev read_by : Check (List Val) → WitnessTable
-  read_by c = elim c [ passed values ↦ placed | refused why ↦ unreadOf why ]
+  read_by c = elim c [ passed values ↦ placed | refused why ↦ unread_of why ]
 
-  abbrev suppliedBy : Check (Unit {0}) → WitnessTable
-  suppliedBy c = elim c [ passed x ↦ placed | refused why ↦ unreadOf why ]
+  abbrev supplied_by : Check (Unit {0}) → WitnessTable
+  supplied_by c = elim c [ passed x ↦ placed | refused why ↦ unread_of why ]
 
-  read_is : read_by read ≡ witnessTable types nodes arrows witness witnessBits
-  unfolding witnessTable
+  read_is : read_by read ≡ witness_table types nodes arrows witness witness_bits
+  unfolding witness_table
   read_is = refl
 
-  supplied-is : (a : Check (List Val)) (b : Check Val) (c : Check (Unit {0})) → read ≡ a → taken ≡ b → stored ≡ c
-      → suppliedBy (a >>= λ values. b >>= λ v. c)
-      ≡ suppliedTable types nodes arrows witness witnessBits input inputBits cellBound frameBound cells frames answer
-  unfolding suppliedTable supplied
-  supplied-is a b c x y z = λ k. suppliedBy (sym x k >>= λ values. sym y k >>= λ v. sym z k)
+  supplied_is : (a : Check (List Val)) (b : Check Val) (c : Check (Unit {0})) → read ≡ a → taken ≡ b → stored ≡ c
+      → supplied_by (a >>= λ values. b >>= λ v. c)
+      ≡ supplied_table types nodes arrows witness witness_bits input input_bits cell_bound frame_bound cells frames answer
+  unfolding supplied_table supplied
+  supplied_is a b c x y z = λ k. supplied_by (sym x k >>= λ values. sym y k >>= λ v. sym z k)
 
-  module _ (r : WitnessTable) (is : r ≡ witnessTable types nodes arrows witness witnessBits) where
+  module _ (r : WitnessTable) (is : r ≡ witness_table types nodes arrows witness witness_bits) where
     -- the witness bits are refused
-    pub read-refused : (why : Refusal) → r.answer ≡ Refused why
-        → r ≡ suppliedTable types nodes arrows witness witnessBits input inputBits cellBound frameBound cells frames answer
+    pub read_refused : (why : Refusal) → r.answer ≡ Refused why
+        → r ≡ supplied_table types nodes arrows witness witness_bits input input_bits cell_bound frame_bound cells frames answer
     unfolding ◌>>=◌
-    read-refused why e = go read refl (is ∙ sym read_is)
+    read_refused why e = go read refl (is ∙ sym read_is)
       where
         go : (a : Check (List Val)) → read ≡ a → r ≡ read_by a
-            → r ≡ suppliedTable types nodes arrows witness witnessBits input inputBits cellBound frameBound cells frames answer
+            → r ≡ supplied_table types nodes arrows witness witness_bits input input_bits cell_bound frame_bound cells frames answer
         go (passed values) x f = let g : Passed ≡ Refused why = sym (ap (λ (t : WitnessTable). t.answer) f) ∙ e in clash (cc)
-        go (refused w) x f = f ∙ supplied-is (refused w) taken stored x refl refl
+        go (refused w) x f = f ∙ supplied_is (refused w) taken stored x refl refl
 
     module _ (passes : r.answer ≡ Passed) where
       -- they passed
@@ -82,42 +82,42 @@ module _ (types : List TypeRecord) (nodes : List Node) (arrows : List Arrow) (wi
           go (refused w) x f = let g : Refused w ≡ Passed = sym (ap (λ (t : WitnessTable). t.answer) f) ∙ passes in clash (cc)
 
       -- the last node's arrow
-      module _ (a : Arrow) (own : a ≡ get_or arrows (length nodes - 1) noArrow) where
-        taken_is : checkInput (ty_at types a.source) input inputBits ≡ taken
+      module _ (a : Arrow) (own : a ≡ get_or arrows (length nodes - 1) no_arrow) where
+        taken_is : check_input (ty_at types a.source) input input_bits ≡ taken
         unfolding source
-        taken_is = ap (λ (b : Arrow). checkInput (ty_at types b.source) input inputBits) own
+        taken_is = ap (λ (b : Arrow). check_input (ty_at types b.source) input input_bits) own
 
         -- the input bits are refused
-        pub input-refused : (why : Refusal) → Refused why ≡ verdict (checkInput (ty_at types a.source) input inputBits)
-            → unreadOf why ≡ suppliedTable types nodes arrows witness witnessBits input inputBits cellBound frameBound cells frames answer
+        pub input_refused : (why : Refusal) → Refused why ≡ verdict (check_input (ty_at types a.source) input input_bits)
+            → unread_of why ≡ supplied_table types nodes arrows witness witness_bits input input_bits cell_bound frame_bound cells frames answer
         unfolding ◌>>=◌
-        input-refused why e =
+        input_refused why e =
             let p = read-passed in
-            supplied-is (passed p.0) (refused why) stored p.1
-            (sym taken_is ∙ verdict-refused (checkInput (ty_at types a.source) input inputBits) why e) refl
+            supplied_is (passed p.0) (refused why) stored p.1
+            (sym taken_is ∙ verdict-refused (check_input (ty_at types a.source) input input_bits) why e) refl
 
-        module _ (fits : Passed ≡ verdict (checkInput (ty_at types a.source) input inputBits)) (w : ℕ) (wide : w ≡ width (ty_at types a.target)) where
-          stored_is : storesRule cellBound frameBound w cells frames answer ≡ stored
+        module _ (fits : Passed ≡ verdict (check_input (ty_at types a.source) input input_bits)) (w : ℕ) (wide : w ≡ width (ty_at types a.target)) where
+          stored_is : stores_rule cell_bound frame_bound w cells frames answer ≡ stored
           unfolding target
           stored_is =
-              ap (λ (n : ℕ). storesRule cellBound frameBound n cells frames answer) wide
-              ∙ ap (λ (b : Arrow). storesRule cellBound frameBound (width (ty_at types b.target)) cells frames answer) own
+              ap (λ (n : ℕ). stores_rule cell_bound frame_bound n cells frames answer) wide
+              ∙ ap (λ (b : Arrow). stores_rule cell_bound frame_bound (width (ty_at types b.target)) cells frames answer) own
 
           took : (v : Val) × (taken ≡ passed v)
-          took = let q = verdict-passed (checkInput (ty_at types a.source) input inputBits) fits in (q.0, sym taken_is ∙ q.1)
+          took = let q = verdict-passed (check_input (ty_at types a.source) input input_bits) fits in (q.0, sym taken_is ∙ q.1)
 
           -- a store is too short
-          pub stores-refused : (why : Refusal) → Refused why ≡ verdict (storesRule cellBound frameBound w cells frames answer)
-              → unreadOf why ≡ suppliedTable types nodes arrows witness witnessBits input inputBits cellBound frameBound cells frames answer
+          pub stores_refused : (why : Refusal) → Refused why ≡ verdict (stores_rule cell_bound frame_bound w cells frames answer)
+              → unread_of why ≡ supplied_table types nodes arrows witness witness_bits input input_bits cell_bound frame_bound cells frames answer
           unfolding ◌>>=◌
-          stores-refused why e =
-              supplied-is (passed read-passed.0) (passed took.0) (refused why) read-passed.1 took.1
-              (sym stored_is ∙ verdict-refused (storesRule cellBound frameBound w cells frames answer) why e)
+          stores_refused why e =
+              supplied_is (passed read-passed.0) (passed took.0) (refused why) read-passed.1 took.1
+              (sym stored_is ∙ verdict-refused (stores_rule cell_bound frame_bound w cells frames answer) why e)
 
           -- all passed
-          pub all-passed : Passed ≡ verdict (storesRule cellBound frameBound w cells frames answer)
-              → r ≡ suppliedTable types nodes arrows witness witnessBits input inputBits cellBound frameBound cells frames answer
+          pub all_passed : Passed ≡ verdict (stores_rule cell_bound frame_bound w cells frames answer)
+              → r ≡ supplied_table types nodes arrows witness witness_bits input input_bits cell_bound frame_bound cells frames answer
           unfolding ◌>>=◌
-          all-passed e =
-              let s = verdict-passed (storesRule cellBound frameBound w cells frames answer) e in
-              read-passed.2 ∙ supplied-is (passed read-passed.0) (passed took.0) (passed tt) read-passed.1 took.1 (sym stored_is ∙ s.1)
+          all_passed e =
+              let s = verdict-passed (stores_rule cell_bound frame_bound w cells frames answer) e in
+              read-passed.2 ∙ supplied_is (passed read-passed.0) (passed took.0) (passed tt) read-passed.1 took.1 (sym stored_is ∙ s.1)

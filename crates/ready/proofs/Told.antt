@@ -8,116 +8,116 @@ use Rattle.refusal.specs.declared.Refusal.{Refusal}
 use Rattle.refusal.specs.declared.Answer.TheVariants.{Refused}
 use Rattle.scope.specs.Check.{Check, passed, refused, ◌>>=◌}
 use Rattle.scope.specs.Numbers.{zeros}
-use Rattle.scope.specs.Bounds.{wholeCells, wholeFrames}
-use Rattle.scope.specs.Stores.{checkStores}
-use Rattle.scope.specs.Run.{Tables, Ready, checkReady, Left, leftWith, ran, runTables}
-use Rattle.scope.specs.Stages.{tablesLent, hashStage, runStage}
-use Rattle.common.specs.Checks.{clash, both-passed}
-use Rattle.types.specs.Table.{typeWidths, typeNext}
-use Rattle.ready.specs.Positions.{positionsOf}
+use Rattle.scope.specs.Bounds.{whole_cells, whole_frames}
+use Rattle.scope.specs.Stores.{check_stores}
+use Rattle.scope.specs.Run.{Tables, Ready, check_ready, Left, left_with, ran, run_tables}
+use Rattle.scope.specs.Stages.{tables_lent, hash_stage, run_stage}
+use Rattle.common.specs.Checks.{clash, both_passed}
+use Rattle.types.specs.Table.{type_widths, type_next}
+use Rattle.ready.specs.Positions.{positions_of}
 use Rattle.ready.specs.Answers.{unprepared, prepared}
 use Rattle.ready.specs.declared.Prepared.{Prepared}
 use Rattle.ready.specs.declared.RunAnswer.TheVariants.{Bounds, Refused as NoRun}
 
 -- the checks look at the lengths of the stores alone
-pub ready-by-lengths : (T : Tables) (cells frames answer : List ℕ)
-    → checkReady T (zeros (length cells)) (zeros (length frames)) (zeros (length answer)) ≡ checkReady T cells frames answer
-unfolding checkReady checkStores
-ready-by-lengths T cells frames answer =
+pub ready_by_lengths : (T : Tables) (cells frames answer : List ℕ)
+    → check_ready T (zeros (length cells)) (zeros (length frames)) (zeros (length answer)) ≡ check_ready T cells frames answer
+unfolding check_ready check_stores
+ready_by_lengths T cells frames answer =
     rw (length-replicate {A = ℕ} (length cells) 0, length-replicate {A = ℕ} (length frames) 0, length-replicate {A = ℕ} (length answer) 0)
 
-module _ (types nodes arrows program hashes given witness : List ℕ) (witnessBits : ℕ) (input : List ℕ) (inputBits : ℕ) (cells frames answer : List ℕ) where
+module _ (types nodes arrows program hashes given witness : List ℕ) (witness_bits : ℕ) (input : List ℕ) (input_bits : ℕ) (cells frames answer : List ℕ) where
   abbrev T : Tables
-  T = tablesLent types nodes arrows program hashes given witness witnessBits input inputBits
+  T = tables_lent types nodes arrows program hashes given witness witness_bits input input_bits
 
   -- what the check of the run answers
   abbrev pub found : Prepared
   found =
-      prepared types nodes arrows program hashes given witness witnessBits input inputBits (zeros (length cells)) (zeros (length frames))
+      prepared types nodes arrows program hashes given witness witness_bits input input_bits (zeros (length cells)) (zeros (length frames))
       (zeros (length answer))
 
   -- the run is ready
-  pub record IsReady (r : Prepared) (cellBound frameBound : ℕ) : Type 0 where
+  pub record IsReady (r : Prepared) (cell_bound frame_bound : ℕ) : Type 0 where
     pub ready : Ready
-    pub tablesPass : hashStage types nodes arrows program hashes given ≡ passed tt
-    pub readyPass : checkReady T cells frames answer ≡ passed ready
-    pub cellsAre : cellBound ≡ wholeCells ready.program
-    pub framesAre : frameBound ≡ wholeFrames ready.program
-    pub widthsAre : r.widths ≡ typeWidths types
-    pub nextAre : r.next ≡ typeNext types
-    pub positionsAre : r.positions ≡ positionsOf T.types T.nodes T.arrows witness witnessBits
+    pub tables_pass : hash_stage types nodes arrows program hashes given ≡ passed tt
+    pub ready_pass : check_ready T cells frames answer ≡ passed ready
+    pub cells_are : cell_bound ≡ whole_cells ready.program
+    pub frames_are : frame_bound ≡ whole_frames ready.program
+    pub widths_are : r.widths ≡ type_widths types
+    pub next_are : r.next ≡ type_next types
+    pub positions_are : r.positions ≡ positions_of T.types T.nodes T.arrows witness witness_bits
 
   -- all checks in a row
   abbrev checks : Check Ready
-  checks = hashStage types nodes arrows program hashes given >>= λ tables. checkReady T cells frames answer
+  checks = hash_stage types nodes arrows program hashes given >>= λ tables. check_ready T cells frames answer
 
   abbrev answered : Check Ready → Prepared
   answered c = elim c [
     | passed R ↦ record {
-      answer = Bounds (wholeCells R.program) (wholeFrames R.program);
-      widths = typeWidths types;
-      next = typeNext types;
-      positions = positionsOf T.types T.nodes T.arrows witness witnessBits;
+      answer = Bounds (whole_cells R.program) (whole_frames R.program);
+      widths = type_widths types;
+      next = type_next types;
+      positions = positions_of T.types T.nodes T.arrows witness witness_bits;
     }
     | refused why ↦ unprepared why
   ]
 
-  found-is : answered checks ≡ found
+  found_is : answered checks ≡ found
   unfolding prepared
-  found-is =
-      ap (λ (c : Check Ready). answered (hashStage types nodes arrows program hashes given >>= λ tables. c)) (sym (ready-by-lengths T cells frames answer))
+  found_is =
+      ap (λ (c : Check Ready). answered (hash_stage types nodes arrows program hashes given >>= λ tables. c)) (sym (ready_by_lengths T cells frames answer))
 
   module _ (r : Prepared) (is : r ≡ found) where
     -- BOUNDS: THE CHECKS HAVE PASSED
-    pub told-ready : (cellBound frameBound : ℕ) → r.answer ≡ Bounds cellBound frameBound → IsReady r cellBound frameBound
-    told-ready cellBound frameBound e = go checks refl (is ∙ sym found-is)
+    pub told_ready : (cell_bound frame_bound : ℕ) → r.answer ≡ Bounds cell_bound frame_bound → IsReady r cell_bound frame_bound
+    told_ready cell_bound frame_bound e = go checks refl (is ∙ sym found_is)
       where
-        go : (c : Check Ready) → checks ≡ c → r ≡ answered c → IsReady r cellBound frameBound
+        go : (c : Check Ready) → checks ≡ c → r ≡ answered c → IsReady r cell_bound frame_bound
         go (passed R) x f =
-            let p = both-passed (hashStage types nodes arrows program hashes given) (λ tables. checkReady T cells frames answer) R x in
-            let g : Bounds cellBound frameBound ≡ Bounds (wholeCells R.program) (wholeFrames R.program) = sym e ∙ ap (λ (q : Prepared). q.answer) f in
+            let p = both_passed (hash_stage types nodes arrows program hashes given) (λ tables. check_ready T cells frames answer) R x in
+            let g : Bounds cell_bound frame_bound ≡ Bounds (whole_cells R.program) (whole_frames R.program) = sym e ∙ ap (λ (q : Prepared). q.answer) f in
             record {
               ready = R;
-              tablesPass = p.1;
-              readyPass = p.2;
-              cellsAre = cc;
-              framesAre = cc;
-              widthsAre = ap (λ (q : Prepared). q.widths) f;
-              nextAre = ap (λ (q : Prepared). q.next) f;
-              positionsAre = ap (λ (q : Prepared). q.positions) f;
+              tables_pass = p.1;
+              ready_pass = p.2;
+              cells_are = cc;
+              frames_are = cc;
+              widths_are = ap (λ (q : Prepared). q.widths) f;
+              next_are = ap (λ (q : Prepared). q.next) f;
+              positions_are = ap (λ (q : Prepared). q.positions) f;
             }
-        go (refused why) x f = let g : Bounds cellBound frameBound ≡ NoRun why = sym e ∙ ap (λ (q : Prepared). q.answer) f in clash (cc)
+        go (refused why) x f = let g : Bounds cell_bound frame_bound ≡ NoRun why = sym e ∙ ap (λ (q : Prepared). q.answer) f in clash (cc)
 
     -- and the stage is the run
-    pub stage-runs : (cellBound frameBound : ℕ) (ok : IsReady r cellBound frameBound)
-        → runStage types nodes arrows program hashes given witness witnessBits input inputBits cells frames answer ≡ ran ok.ready cells frames answer
-    unfolding runStage runTables
-    stage-runs cellBound frameBound ok = rw (ok.tablesPass, runStage) (rw (ok.readyPass, runTables))
+    pub stage_runs : (cell_bound frame_bound : ℕ) (ok : IsReady r cell_bound frame_bound)
+        → run_stage types nodes arrows program hashes given witness witness_bits input input_bits cells frames answer ≡ ran ok.ready cells frames answer
+    unfolding run_stage run_tables
+    stage_runs cell_bound frame_bound ok = rw (ok.tables_pass, run_stage) (rw (ok.ready_pass, run_tables))
 
     -- A REFUSAL: THE STAGE IS REFUSED, ALL STORES UNTOUCHED
-    pub told-refused : (why : Refusal) → r.answer ≡ NoRun why
-        → runStage types nodes arrows program hashes given witness witnessBits input inputBits cells frames answer ≡ leftWith (Refused why) cells frames answer
-    unfolding runStage runTables ◌>>=◌
-    told-refused why e = go (hashStage types nodes arrows program hashes given) (checkReady T cells frames answer) refl refl
+    pub told_refused : (why : Refusal) → r.answer ≡ NoRun why
+        → run_stage types nodes arrows program hashes given witness witness_bits input input_bits cells frames answer ≡ left_with (Refused why) cells frames answer
+    unfolding run_stage run_tables ◌>>=◌
+    told_refused why e = go (hash_stage types nodes arrows program hashes given) (check_ready T cells frames answer) refl refl
       where
         says : (c : Check Ready) → checks ≡ c → NoRun why ≡ (answered c).answer
-        says c x = sym e ∙ ap (λ (q : Prepared). q.answer) (is ∙ sym found-is ∙ ap answered x)
+        says c x = sym e ∙ ap (λ (q : Prepared). q.answer) (is ∙ sym found_is ∙ ap answered x)
 
         stage : Check (Unit {0}) → Check Ready → Left
         stage a b = elim a [
-          | passed x ↦ (elim b [ passed R ↦ ran R cells frames answer | refused w ↦ leftWith (Refused w) cells frames answer ])
-          | refused w ↦ leftWith (Refused w) cells frames answer
+          | passed x ↦ (elim b [ passed R ↦ ran R cells frames answer | refused w ↦ left_with (Refused w) cells frames answer ])
+          | refused w ↦ left_with (Refused w) cells frames answer
         ]
 
-        go : (a : Check (Unit {0})) (b : Check Ready) → hashStage types nodes arrows program hashes given ≡ a → checkReady T cells frames answer ≡ b
-            → runStage types nodes arrows program hashes given witness witnessBits input inputBits cells frames answer
-            ≡ leftWith (Refused why) cells frames answer
+        go : (a : Check (Unit {0})) (b : Check Ready) → hash_stage types nodes arrows program hashes given ≡ a → check_ready T cells frames answer ≡ b
+            → run_stage types nodes arrows program hashes given witness witness_bits input input_bits cells frames answer
+            ≡ left_with (Refused why) cells frames answer
         go (refused w) b x y =
             let f : NoRun why ≡ NoRun w = says (refused w) (λ k. x k >>= λ tables. y k) in
-            (λ k. stage (x k) (y k)) ∙ ap (λ (z : Refusal). leftWith (Refused z) cells frames answer) (let g : w ≡ why = cc in g)
+            (λ k. stage (x k) (y k)) ∙ ap (λ (z : Refusal). left_with (Refused z) cells frames answer) (let g : w ≡ why = cc in g)
         go (passed u) (refused w) x y =
             let f : NoRun why ≡ NoRun w = says (refused w) (λ k. x k >>= λ tables. y k) in
-            (λ k. stage (x k) (y k)) ∙ ap (λ (z : Refusal). leftWith (Refused z) cells frames answer) (let g : w ≡ why = cc in g)
+            (λ k. stage (x k) (y k)) ∙ ap (λ (z : Refusal). left_with (Refused z) cells frames answer) (let g : w ≡ why = cc in g)
         go (passed u) (passed R) x y =
-            let f : NoRun why ≡ Bounds (wholeCells R.program) (wholeFrames R.program) = says (passed R) (λ k. x k >>= λ tables. y k) in
+            let f : NoRun why ≡ Bounds (whole_cells R.program) (whole_frames R.program) = says (passed R) (λ k. x k >>= λ tables. y k) in
             clash (cc)

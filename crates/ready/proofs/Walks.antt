@@ -7,131 +7,131 @@ use Prim.Native.Nat.{ℕ, ◌+◌, ◌≤◌, ◌<◌}
 use native.Mathlib.Numerals.{add-one}
 use native.Mathlib.Omega.{arith}
 use lib.ListN.{length, set, take, drop}
-use Rattle.limits.specs.Limits.{dossierBytes, nodeCount}
+use Rattle.limits.specs.Limits.{dossier_bytes, node_count}
 use Rattle.refusal.specs.declared.Refusal.TheVariants.{Witness}
 use Rattle.report.specs.Bits.{Bit}
-use Rattle.report.specs.Values.{Val, ⟨⟩, compact, Read, value, short, readValue}
+use Rattle.report.specs.Values.{Val, ⟨⟩, compact, Read, value, short, read_value}
 use Rattle.report.specs.Nodes.{Node}
 use Rattle.scope.specs.Check.{Check, passed, refused, ◌>>=◌, require}
-use Rattle.scope.specs.Numbers.{zeros, tabulate, streamOf, heldBits}
+use Rattle.scope.specs.Numbers.{zeros, tabulate, stream_of, held_bits}
 use Rattle.scope.specs.Types.{TypeRecord, ty_at}
-use Rattle.scope.specs.Nodes.{nodeAt}
+use Rattle.scope.specs.Nodes.{node_at}
 use Rattle.scope.specs.Arrows.{Arrow, target}
-use Rattle.scope.specs.Closing.{usedUp}
-use Rattle.scope.specs.Witness.{Values, checkWitness}
+use Rattle.scope.specs.Closing.{used_up}
+use Rattle.scope.specs.Witness.{Values, check_witness}
 use Rattle.common.specs.Checks.{clash}
 use Rattle.common.specs.declared.Checked.TheVariants.{Passed}
-use Rattle.common.specs.Filling.{filledTo, fill_start, fill_more}
+use Rattle.common.specs.Filling.{filled_to, fill_start, fill_more}
 use Rattle.value.specs.declared.ValueRead.{ValueRead}
 use Rattle.value.specs.declared.ValueRead.TheVariants.{Next, Short}
-use Rattle.ready.specs.Positions.{bitsTaken, readFor, positionAt, positionsOf}
-use Rattle.ready.specs.Answers.{end_of, unreadOf, witnessTable}
+use Rattle.ready.specs.Positions.{bits_taken, read_for, position_at, positions_of}
+use Rattle.ready.specs.Answers.{end_of, unread_of, witness_table}
 use Rattle.ready.specs.declared.WitnessTable.{WitnessTable}
-use Rattle.ready.proofs.FirstBits.{ends-inside}
-use Rattle.ready.proofs.Positions.{witness-or, walk-short, walk_ends, valueHere, Walked, walked_start, walked_on}
-use Rattle.ready.proofs.Ends.{allUsed}
+use Rattle.ready.proofs.FirstBits.{ends_inside}
+use Rattle.ready.proofs.Positions.{witness_or, walk_short, walk_ends, value_here, Walked, walked_start, walked_on}
+use Rattle.ready.proofs.Ends.{all_used}
 
 -- where a value that was read ends
-read-to : (p q : ℕ) (r : Read) → Next q ≡ end_of p r → (v : Val) × (rest : List Bit) × (r ≡ value v rest) × (q ≡ p + bitsTaken r)
-unfolding end_of bitsTaken
-read-to p q (value v rest) e = (v, rest, refl, cc)
-read-to p q short e = clash (cc)
+read_to_lem : (p q : ℕ) (r : Read) → Next q ≡ end_of p r → (v : Val) × (rest : List Bit) × (r ≡ value v rest) × (q ≡ p + bits_taken r)
+unfolding end_of bits_taken
+read_to_lem p q (value v rest) e = (v, rest, refl, cc)
+read_to_lem p q short e = clash (cc)
 
-not-read : (p : ℕ) (r : Read) → Short ≡ end_of p r → r ≡ short
+not_read : (p : ℕ) (r : Read) → Short ≡ end_of p r → r ≡ short
 unfolding end_of
-not-read p (value v rest) e = clash (cc)
-not-read p short e = refl
+not_read p (value v rest) e = clash (cc)
+not_read p short e = refl
 
 module _ (types : List TypeRecord) (nodes : List Node) (arrows : List Arrow) (bytes : List ℕ) (count : ℕ) where
   abbrev bits : List Bit
-  bits = take count (heldBits bytes)
+  bits = take count (held_bits bytes)
 
   abbrev at : (i : ℕ) → ℕ
-  at i = positionAt types nodes arrows bits i
+  at i = position_at types nodes arrows bits i
 
   -- a node's end in a slice that is the bytes up to the limit
-  pub end-held : (own : List ℕ) → own ≡ take dossierBytes bytes → (i p : ℕ) (r : ValueRead)
-      → r ≡ end_of p (readFor types nodes arrows (take count (streamOf own)) i p) → r ≡ end_of p (readFor types nodes arrows bits i p)
-  end-held own e i p r f = f ∙ ap (λ (l : List ℕ). end_of p (readFor types nodes arrows (take count (streamOf l)) i p)) e
+  pub end_held : (own : List ℕ) → own ≡ take dossier_bytes bytes → (i p : ℕ) (r : ValueRead)
+      → r ≡ end_of p (read_for types nodes arrows (take count (stream_of own)) i p) → r ≡ end_of p (read_for types nodes arrows bits i p)
+  end_held own e i p r f = f ∙ ap (λ (l : List ℕ). end_of p (read_for types nodes arrows (take count (stream_of l)) i p)) e
 
   -- the walk has come to node i, with p bits passed and the positions of the nodes before put down
   pub record Come (i p : ℕ) (positions : List ℕ) : Type 0 where
     pub walked : Walked types nodes arrows bits i
     pub passes : p ≡ at i
-    pub puts : positions ≡ filledTo at 0 nodeCount i
+    pub puts : positions ≡ filled_to at 0 node_count i
 
-  pub come-start : Come 0 0 (zeros nodeCount)
-  unfolding positionAt
-  come-start = record { walked = walked_start types nodes arrows bits; passes = refl; puts = fill_start at 0 nodeCount }
+  pub come_start : Come 0 0 (zeros node_count)
+  unfolding position_at
+  come_start = record { walked = walked_start types nodes arrows bits; passes = refl; puts = fill_start at 0 node_count }
 
   module _ (i p : ℕ) (positions : List ℕ) (come : Come i p positions) where
     -- what is read at p is read at node i's position
-    read_here : readFor types nodes arrows bits i p ≡ readFor types nodes arrows bits i (at i)
-    read_here = ap (readFor types nodes arrows bits i) come.passes
+    read_here : read_for types nodes arrows bits i p ≡ read_for types nodes arrows bits i (at i)
+    read_here = ap (read_for types nodes arrows bits i) come.passes
 
-    pub come-on : (q : ℕ) → i < length nodes → i < nodeCount → Next q ≡ end_of p (readFor types nodes arrows bits i p) → Come (i + 1) q (set positions i p)
-    unfolding positionAt
-    come-on q h k e =
-        let r = read-to p q (readFor types nodes arrows bits i p) e in
+    pub come_on : (q : ℕ) → i < length nodes → i < node_count → Next q ≡ end_of p (read_for types nodes arrows bits i p) → Come (i + 1) q (set positions i p)
+    unfolding position_at
+    come_on q h k e =
+        let r = read_to_lem p q (read_for types nodes arrows bits i p) e in
         subst (λ (j : ℕ). Come j q (set positions i p)) (sym (add-one i)) (record {
           walked = walked_on types nodes arrows bits i r.0 r.1 h (sym read_here ∙ r.2) come.walked;
-          passes = r.3 ∙ ap₂ (λ (x y : ℕ). x + y) come.passes (ap bitsTaken read_here);
-          puts = ap (λ (l : List ℕ). set l i p) come.puts ∙ fill_more at 0 nodeCount i p k come.passes ∙ ap (filledTo at 0 nodeCount) (add-one i);
+          passes = r.3 ∙ ap₂ (λ (x y : ℕ). x + y) come.passes (ap bits_taken read_here);
+          puts = ap (λ (l : List ℕ). set l i p) come.puts ∙ fill_more at 0 node_count i p k come.passes ∙ ap (filled_to at 0 node_count) (add-one i);
         })
 
     -- what is answered of what the check says
-    answered : (c : Check (List Val)) → checkWitness types nodes arrows bytes count ≡ c
+    answered : (c : Check (List Val)) → check_witness types nodes arrows bytes count ≡ c
         → (elim c [
-          | passed values ↦ record { answer = Passed; positions = positionsOf types nodes arrows bytes count }
-          | refused why ↦ unreadOf why
-        ]) ≡ witnessTable types nodes arrows bytes count
-    unfolding witnessTable
+          | passed values ↦ record { answer = Passed; positions = positions_of types nodes arrows bytes count }
+          | refused why ↦ unread_of why
+        ]) ≡ witness_table types nodes arrows bytes count
+    unfolding witness_table
     answered c e =
         ap (λ (c : Check (List Val)). elim c as (λ z. WitnessTable) [
-          | passed values ↦ record { answer = Passed; positions = positionsOf types nodes arrows bytes count }
-          | refused why ↦ unreadOf why
+          | passed values ↦ record { answer = Passed; positions = positions_of types nodes arrows bytes count }
+          | refused why ↦ unread_of why
         ]) (sym e)
 
     -- the bits run out
-    pub come-short : i < length nodes → Short ≡ end_of p (readFor types nodes arrows bits i p)
-        → unreadOf (Witness i) ≡ witnessTable types nodes arrows bytes count
-    unfolding checkWitness
-    come-short h e =
-        let f = come.walked ∙ walk-short types nodes arrows bits i (tabulate i (valueHere types nodes arrows bits)) h
-        (sym read_here ∙ not-read p (readFor types nodes arrows bits i p) e) in
+    pub come_short : i < length nodes → Short ≡ end_of p (read_for types nodes arrows bits i p)
+        → unread_of (Witness i) ≡ witness_table types nodes arrows bytes count
+    unfolding check_witness
+    come_short h e =
+        let f = come.walked ∙ walk_short types nodes arrows bits i (tabulate i (value_here types nodes arrows bits)) h
+        (sym read_here ∙ not_read p (read_for types nodes arrows bits i p) e) in
         answered (refused (Witness i)) (ap (λ (c : Check Values). c >>= λ read.
-        require (usedUp bytes count read.rest) (Witness (length nodes)) >>= λ used. passed read.values) f)
+        require (used_up bytes count read.rest) (Witness (length nodes)) >>= λ used. passed read.values) f)
 
     -- the end of the table
-    all-checked : i ≡ length nodes → (used : Bool) → allUsed bytes p count ≡ used
-        → checkWitness types nodes arrows bytes count
-        ≡ (require used (Witness (length nodes)) >>= λ used. passed (tabulate i (valueHere types nodes arrows bits)))
-    unfolding checkWitness
-    all-checked e used f =
-        let vs : List Val = tabulate i (valueHere types nodes arrows bits) in
+    all_checked : i ≡ length nodes → (used : Bool) → all_used bytes p count ≡ used
+        → check_witness types nodes arrows bytes count
+        ≡ (require used (Witness (length nodes)) >>= λ used. passed (tabulate i (value_here types nodes arrows bits)))
+    unfolding check_witness
+    all_checked e used f =
+        let vs : List Val = tabulate i (value_here types nodes arrows bits) in
         ap (λ (c : Check Values). c >>= λ read.
-        require (usedUp bytes count read.rest) (Witness (length nodes)) >>= λ used. passed read.values)
+        require (used_up bytes count read.rest) (Witness (length nodes)) >>= λ used. passed read.values)
         (come.walked ∙ walk_ends types nodes arrows bits i vs (drop (at i) bits) (omega arith))
-        ∙ ap (λ (q : ℕ). require (allUsed bytes q count) (Witness (length nodes)) >>= λ used. passed vs) (sym come.passes)
+        ∙ ap (λ (q : ℕ). require (all_used bytes q count) (Witness (length nodes)) >>= λ used. passed vs) (sym come.passes)
         ∙ ap (λ (b : Bool). require b (Witness (length nodes)) >>= λ used. passed vs) f
 
-    pub come-unused : (n : ℕ) → i ≡ length nodes → n ≡ length nodes → allUsed bytes p count ≡ false
-        → unreadOf (Witness n) ≡ witnessTable types nodes arrows bytes count
+    pub come_unused : (n : ℕ) → i ≡ length nodes → n ≡ length nodes → all_used bytes p count ≡ false
+        → unread_of (Witness n) ≡ witness_table types nodes arrows bytes count
     unfolding require ◌>>=◌
-    come-unused n e g f = ap (λ (k : ℕ). unreadOf (Witness k)) g ∙ answered (refused (Witness (length nodes))) (all-checked e false f)
+    come_unused n e g f = ap (λ (k : ℕ). unread_of (Witness k)) g ∙ answered (refused (Witness (length nodes))) (all_checked e false f)
 
-    pub come-used : i ≡ length nodes → allUsed bytes p count ≡ true
-        → record { answer = Passed; positions = positions } ≡ witnessTable types nodes arrows bytes count
-    unfolding require ◌>>=◌ positionsOf
-    come-used e f =
-        ap (λ (l : List ℕ). record { answer = Passed; positions = l }) (come.puts ∙ ap (filledTo at 0 nodeCount) e)
-        ∙ answered (passed (tabulate i (valueHere types nodes arrows bits))) (all-checked e true f)
+    pub come_used : i ≡ length nodes → all_used bytes p count ≡ true
+        → record { answer = Passed; positions = positions } ≡ witness_table types nodes arrows bytes count
+    unfolding require ◌>>=◌ positions_of
+    come_used e f =
+        ap (λ (l : List ℕ). record { answer = Passed; positions = l }) (come.puts ∙ ap (filled_to at 0 node_count) e)
+        ∙ answered (passed (tabulate i (value_here types nodes arrows bits))) (all_checked e true f)
 
     -- what a node takes is within the first bits
-    pub come-inside : (q : ℕ) → p ≤ count → Next q ≡ end_of p (readFor types nodes arrows bits i p) → q ≤ count
-    unfolding readFor end_of compact
-    come-inside q h e =
-        witness-or {Y = Unit {0}} (λ r u. Next q ≡ end_of p r → q ≤ count) (nodeAt nodes i)
-        (readValue (ty_at types (target arrows i)) (drop p bits)) (value ⟨⟩ (drop p bits)) tt tt
-        (λ w f. ends-inside (ty_at types (target arrows i)) p count (heldBits bytes) q f h)
+    pub come_inside : (q : ℕ) → p ≤ count → Next q ≡ end_of p (read_for types nodes arrows bits i p) → q ≤ count
+    unfolding read_for end_of compact
+    come_inside q h e =
+        witness_or {Y = Unit {0}} (λ r u. Next q ≡ end_of p r → q ≤ count) (node_at nodes i)
+        (read_value (ty_at types (target arrows i)) (drop p bits)) (value ⟨⟩ (drop p bits)) tt tt
+        (λ w f. ends_inside (ty_at types (target arrows i)) p count (held_bits bytes) q f h)
         (λ f. (let z : q ≡ p + 0 = cc in omega arith)) e

@@ -2,20 +2,20 @@
 // Values are not kept: a witness node's value is found again by its position in the witness bits. Everything is lent by `&`, so a refusal
 // leaves all stores as they were.
 ghost use Rattle.std.specs.Prelude.{◌≡◌, true, false, List, ℕ, ◌-◌, ◌≤◌, ◌<◌, length, take, drop};
-ghost use Rattle.limits.specs.Limits.{dossierBytes, nodeCount};
-ghost use Rattle.report.specs.Values.{readValue};
+ghost use Rattle.limits.specs.Limits.{dossier_bytes, node_count};
+ghost use Rattle.report.specs.Values.{read_value};
 ghost use Rattle.scope.specs.Check.{passed};
-ghost use Rattle.scope.specs.Numbers.{zeros, streamOf, heldBits};
-ghost use Rattle.scope.specs.Types.{typeRecords, ty_at};
-ghost use Rattle.scope.specs.Nodes.{nodeRecords, nodesOf, nodeAt, onWitness};
-ghost use Rattle.scope.specs.Arrows.{arrowRecords};
-ghost use Rattle.scope.specs.Closing.{usedUp};
-ghost use Rattle.scope.specs.Input.{checkInput};
-ghost use Rattle.scope.specs.Stages.{hashStage};
-ghost use Rattle.types.specs.Table.{typeWidths, typeNext, typeTable};
+ghost use Rattle.scope.specs.Numbers.{zeros, stream_of, held_bits};
+ghost use Rattle.scope.specs.Types.{type_records, ty_at};
+ghost use Rattle.scope.specs.Nodes.{node_records, nodes_of, node_at, on_witness};
+ghost use Rattle.scope.specs.Arrows.{arrow_records};
+ghost use Rattle.scope.specs.Closing.{used_up};
+ghost use Rattle.scope.specs.Input.{check_input};
+ghost use Rattle.scope.specs.Stages.{hash_stage};
+ghost use Rattle.types.specs.Table.{type_widths, type_next, type_table};
 ghost use Rattle.ready.specs.Lent.{TypesShown};
-ghost use Rattle.ready.specs.Positions.{readFor};
-ghost use Rattle.ready.specs.Answers.{verdict, end_of, unreadWith, witnessTable, storesRule, suppliedTable, no_run, refusedOf, prepared};
+ghost use Rattle.ready.specs.Positions.{read_for};
+ghost use Rattle.ready.specs.Answers.{verdict, end_of, unread_with, witness_table, stores_rule, supplied_table, no_run, refused_of, prepared};
 
 use analysis::BoundsAnswer;
 use common::Checked;
@@ -57,7 +57,7 @@ fn value_end<'a>(
     count: u32,
 ) -> ValueRead
     requires { TypesShown types.now widths.now next.now × (p ≤ count) }
-    ensures { result ≡ end_of p (readValue (ty_at (typeRecords types.now) i) (drop p (take count (streamOf s.now)))) }
+    ensures { result ≡ end_of p (read_value (ty_at (type_records types.now) i) (drop p (take count (stream_of s.now)))) }
 {
     let ValueRead::Next(end) = value::skip(types, widths, next, i, s, p) else {
         return ValueRead::Short;
@@ -70,7 +70,7 @@ fn value_end<'a>(
 
 // The first bytes of a slice, as many as a dossier may have: values are read from these.
 fn held(s: &[u8]) -> &[u8]
-    ensures { result.now ≡ take dossierBytes s.now }
+    ensures { result.now ≡ take dossier_bytes s.now }
 {
     common::part(s, 0, limits::DOSSIER_BYTES)
 }
@@ -78,7 +78,7 @@ fn held(s: &[u8]) -> &[u8]
 // Whether values that end at a position use up all of the first `count` bits, no byte stands above the limit, and the bits after these are
 // but zeros in the last byte.
 fn all_used(s: &[u8], end: usize, count: u32) -> bool
-    ensures { result ≡ usedUp s.now count (drop end (take count (heldBits s.now))) }
+    ensures { result ≡ used_up s.now count (drop end (take count (held_bits s.now))) }
 {
     if limits::DOSSIER_BYTES < s.len() {
         return false;
@@ -92,7 +92,7 @@ fn all_used(s: &[u8], end: usize, count: u32) -> bool
 
 // Whether node i is a witness.
 fn witness_at(nodes: &[u32], i: u32) -> bool
-    ensures { (bits hashes : List ℕ) → result ≡ onWitness (nodeAt (nodesOf bits hashes (nodeRecords nodes.now)) i) true false }
+    ensures { (bits hashes : List ℕ) → result ≡ on_witness (node_at (nodes_of bits hashes (node_records nodes.now)) i) true false }
 {
     let r = table::record_at(nodes, i);
     r.kind == table::WITNESS
@@ -111,8 +111,8 @@ fn node_end<'a>(
     count: u32,
 ) -> ValueRead
     requires { TypesShown types.now widths.now next.now × (p ≤ count) }
-    ensures { (bits hashes : List ℕ) → result ≡ end_of p (readFor (typeRecords types.now) (nodesOf bits hashes (nodeRecords nodes.now))
-        (arrowRecords arrows.now) (take count (streamOf witness.now)) i p) }
+    ensures { (bits hashes : List ℕ) → result ≡ end_of p (read_for (type_records types.now) (nodes_of bits hashes (node_records nodes.now))
+        (arrow_records arrows.now) (take count (stream_of witness.now)) i p) }
 {
     if !witness_at(nodes, i) {
         return ValueRead::Next(p);
@@ -123,7 +123,7 @@ fn node_end<'a>(
 
 // What is supplied to a run, where a check refuses: its verdict, and zeros.
 fn unread(verdict: Checked) -> WitnessTable
-    ensures { result ≡ unreadWith verdict }
+    ensures { result ≡ unread_with verdict }
 {
     WitnessTable {
         answer: verdict,
@@ -141,9 +141,9 @@ fn check_witness<'a>(
     witness: &[u8],
     count: u32,
 ) -> WitnessTable
-    requires { TypesShown types.now widths.now next.now × (length (nodeRecords nodes.now) ≤ nodeCount) }
-    ensures { (bits hashes : List ℕ) → result ≡ witnessTable (typeRecords types.now) (nodesOf bits hashes (nodeRecords nodes.now))
-        (arrowRecords arrows.now) witness.now count }
+    requires { TypesShown types.now widths.now next.now × (length (node_records nodes.now) ≤ node_count) }
+    ensures { (bits hashes : List ℕ) → result ≡ witness_table (type_records types.now) (nodes_of bits hashes (node_records nodes.now))
+        (arrow_records arrows.now) witness.now count }
 {
     let bits = held(witness);
     let mut positions = [0u32; limits::NODE_COUNT];
@@ -178,7 +178,7 @@ fn check_input<'a>(
     count: u32,
 ) -> Checked
     requires { TypesShown types.now widths.now next.now }
-    ensures { result ≡ verdict (checkInput (ty_at (typeRecords types.now) source) input.now count) }
+    ensures { result ≡ verdict (check_input (ty_at (type_records types.now) source) input.now count) }
 {
     let bits = held(input);
     let ValueRead::Next(end) = value_end(types, widths, next, source, bits, 0, count) else {
@@ -199,7 +199,7 @@ fn check_stores(
     frames: usize,
     answer: usize,
 ) -> Checked
-    ensures { result ≡ verdict (storesRule cell_bound frame_bound width cells frames answer) }
+    ensures { result ≡ verdict (stores_rule cell_bound frame_bound width cells frames answer) }
 {
     if cells < common::bytes_for(cell_bound) {
         return Checked::Refused(Refusal::StoreShort(0));
@@ -215,8 +215,8 @@ fn check_stores(
 
 // The last node, which is the whole program.
 fn last_node(nodes: &[u32]) -> u32
-    requires { length (nodeRecords nodes.now) ≤ nodeCount }
-    ensures { result ≡ length (nodeRecords nodes.now) - 1 }
+    requires { length (node_records nodes.now) ≤ node_count }
+    ensures { result ≡ length (node_records nodes.now) - 1 }
 {
     let n = (nodes.len() / limits::NODE_NUMBERS) as u32;
     if n == 0 { 0 } else { n - 1 }
@@ -239,9 +239,9 @@ fn check_supplied<'a>(
     frames: usize,
     answer: usize,
 ) -> WitnessTable
-    requires { TypesShown types.now widths.now next.now × (length (nodeRecords nodes.now) ≤ nodeCount) }
-    ensures { (bits hashes : List ℕ) → result ≡ suppliedTable (typeRecords types.now) (nodesOf bits hashes (nodeRecords nodes.now))
-        (arrowRecords arrows.now) witness.now witness_bits
+    requires { TypesShown types.now widths.now next.now × (length (node_records nodes.now) ≤ node_count) }
+    ensures { (bits hashes : List ℕ) → result ≡ supplied_table (type_records types.now) (nodes_of bits hashes (node_records nodes.now))
+        (arrow_records arrows.now) witness.now witness_bits
         input.now input_bits cell_bound frame_bound cells frames answer }
 {
     let read = check_witness(types, widths, next, nodes, arrows, witness, witness_bits);
@@ -274,7 +274,7 @@ fn no_run(c: Checked) -> RunAnswer
 
 // No run, where a check refuses: its refusal, and zeros.
 fn refused(c: Checked) -> Prepared
-    ensures { result ≡ refusedOf c }
+    ensures { result ≡ refused_of c }
 {
     let answer = no_run(c);
     Prepared {
@@ -299,10 +299,10 @@ fn check_ready(
     frames: usize,
     answer: usize,
 ) -> Prepared
-    requires { (table ≡ typeTable types.now) × TypesShown types.now (typeWidths types.now) (typeNext types.now)
-        × (length (nodeRecords nodes.now) ≤ nodeCount) }
+    requires { (table ≡ type_table types.now) × TypesShown types.now (type_widths types.now) (type_next types.now)
+        × (length (node_records nodes.now) ≤ node_count) }
     ensures { (program hashes given : List ℕ)
-        → hashStage types.now nodes.now arrows.now program hashes given ≡ passed tt
+        → hash_stage types.now nodes.now arrows.now program hashes given ≡ passed tt
         → result ≡ prepared types.now nodes.now arrows.now program hashes given witness.now witness_bits
         input.now input_bits (zeros cells) (zeros frames) (zeros answer) }
 {

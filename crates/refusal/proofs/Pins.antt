@@ -14,5 +14,5 @@ number κs a s t x y p q = p ∙ sym q
 pub place : OneResult 0 place-kinds.ps place-kinds.r place-reads.Post
 place κs a s t x y p q = p ∙ sym q
 
-pub keeps-table : OneResult 0 keeps-table-kinds.ps keeps-table-kinds.r keeps-table-reads.Post
-keeps-table κs a s t x y p q = p ∙ sym q
+pub keeps_table_lem : OneResult 0 keeps-table-kinds.ps keeps-table-kinds.r keeps-table-reads.Post
+keeps_table_lem κs a s t x y p q = p ∙ sym q

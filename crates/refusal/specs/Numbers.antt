@@ -50,25 +50,25 @@ place_of (Overlong at) = at
 place_of (NodeRecord at) = at
 
 -- whether the node and hash stores keep the decoded table: they are zero after 1 to 13 and 21, and after 17 at 3 and 4
-abbrev pub keepsTable : Refusal → Bool
-keepsTable (Header at) = false
-keepsTable (TypeRecord at) = false
-keepsTable (StreamEnded at) = false
-keepsTable (Natural at) = false
-keepsTable (Jet at) = false
-keepsTable (CanonicalOrder at) = false
-keepsTable (HiddenElsewhere at) = false
-keepsTable (BothHidden at) = false
-keepsTable (NodeRepeated at) = false
-keepsTable (Closing at) = false
-keepsTable (OneChildDisconnect at) = false
-keepsTable (Arrow at) = false
-keepsTable (Hash at) = false
-keepsTable (OverLimit at) = true
-keepsTable (Witness at) = true
-keepsTable (Input at) = true
-keepsTable (StoreShort at) = ltb at 3
-keepsTable (FailReached at) = true
-keepsTable (PrunedReached at) = true
-keepsTable (Overlong at) = false
-keepsTable (NodeRecord at) = true
+abbrev pub keeps_table : Refusal → Bool
+keeps_table (Header at) = false
+keeps_table (TypeRecord at) = false
+keeps_table (StreamEnded at) = false
+keeps_table (Natural at) = false
+keeps_table (Jet at) = false
+keeps_table (CanonicalOrder at) = false
+keeps_table (HiddenElsewhere at) = false
+keeps_table (BothHidden at) = false
+keeps_table (NodeRepeated at) = false
+keeps_table (Closing at) = false
+keeps_table (OneChildDisconnect at) = false
+keeps_table (Arrow at) = false
+keeps_table (Hash at) = false
+keeps_table (OverLimit at) = true
+keeps_table (Witness at) = true
+keeps_table (Input at) = true
+keeps_table (StoreShort at) = ltb at 3
+keeps_table (FailReached at) = true
+keeps_table (PrunedReached at) = true
+keeps_table (Overlong at) = false
+keeps_table (NodeRecord at) = true

@@ -2,7 +2,7 @@
 // table says, `keeps_table` which ends keep the decoded table, and `Answer` is what a whole run says. Another refusal is one line more in
 // each of the lists here and in specs/Numbers; besides it touches what gives it, and theory's lists of what a check may give.
 ghost use Rattle.std.specs.Prelude.{◌≡◌};
-ghost use Rattle.refusal.specs.Numbers.{number_of, place_of, keepsTable};
+ghost use Rattle.refusal.specs.Numbers.{number_of, place_of, keeps_table};
 
 #[derive(Drop)]
 pub enum Refusal {
@@ -117,7 +117,7 @@ pub fn place(refusal: Refusal) -> u32
 
 // Whether the node and hash stores keep the decoded table after the refusal. A store that is short at 3 or 4 has none yet.
 pub fn keeps_table(refusal: Refusal) -> bool
-    ensures { result ≡ keepsTable refusal }
+    ensures { result ≡ keeps_table refusal }
 {
     match refusal {
         Refusal::Header(_) => false,

@@ -6,21 +6,21 @@ abbrev pub Bit : Type 0
 Bit = ℕ
 
 -- the eight bits of a byte
-abbrev pub byteBits : ℕ → List Bit
-byteBits b = b / 128 % 2 ∷ b / 64 % 2 ∷ b / 32 % 2 ∷ b / 16 % 2 ∷ b / 8 % 2 ∷ b / 4 % 2 ∷ b / 2 % 2 ∷ b % 2 ∷ []
+abbrev pub byte_bits : ℕ → List Bit
+byte_bits b = b / 128 % 2 ∷ b / 64 % 2 ∷ b / 32 % 2 ∷ b / 16 % 2 ∷ b / 8 % 2 ∷ b / 4 % 2 ∷ b / 2 % 2 ∷ b % 2 ∷ []
 
 -- the bits of a string of bytes
 unfoldable pub bits_of : List ℕ → List Bit
 bits_of [] = []
-bits_of (b ∷ bs) = byteBits b ++ bits_of bs
+bits_of (b ∷ bs) = byte_bits b ++ bits_of bs
 
 -- the number whose binary digits are those of n and then the bits
-unfoldable pub numberFrom : ℕ → List Bit → ℕ
-numberFrom n [] = n
-numberFrom n (b ∷ bs) = numberFrom (n * 2 + b) bs
+unfoldable pub number_from : ℕ → List Bit → ℕ
+number_from n [] = n
+number_from n (b ∷ bs) = number_from (n * 2 + b) bs
 
 -- k bytes of a stream of bits
 unfoldable pub bytes_of : (k : ℕ) → List Bit → List ℕ
-unfolding numberFrom
+unfolding number_from
 bytes_of zero bs = []
-bytes_of (suc k) bs = numberFrom 0 (take 8 bs) ∷ bytes_of k (drop 8 bs)
+bytes_of (suc k) bs = number_from 0 (take 8 bs) ∷ bytes_of k (drop 8 bs)

@@ -22,31 +22,31 @@ children (hidden bytes) = []
 children (word n bits) = []
 
 -- i is one of the list
-unfoldable pub isDone : ℕ → List ℕ → Bool
-isDone i [] = false
-isDone i (j ∷ js) = elim (eqb i j) [ true ↦ true | false ↦ isDone i js ]
+unfoldable pub is_done : ℕ → List ℕ → Bool
+is_done i [] = false
+is_done i (j ∷ js) = elim (eqb i j) [ true ↦ true | false ↦ is_done i js ]
 
 -- a walk takes the nodes done before it to the nodes done after it
 abbrev pub Walk : Type 0
 Walk = List ℕ → List ℕ
 
 -- one walk after the other
-unfoldable pub walkEach : List Walk → List ℕ → Walk
-walkEach walks [] done = done
-walkEach walks (j ∷ js) done = walkEach walks js ((get_or walks j (λ d. d)) done)
+unfoldable pub walk_each : List Walk → List ℕ → Walk
+walk_each walks [] done = done
+walk_each walks (j ∷ js) done = walk_each walks js ((get_or walks j (λ d. d)) done)
 
 -- the walk from a node, of the walks from the nodes before it
-unfoldable pub walkMake : List Walk → Node → Walk
-unfolding walkEach children isDone
-walkMake walks n done = elim (isDone (length walks) done) [
+unfoldable pub walk_make : List Walk → Node → Walk
+unfolding walk_each children is_done
+walk_make walks n done = elim (is_done (length walks) done) [
   | true ↦ done
-  | false ↦ walkEach walks (children n) done ++ length walks ∷ []
+  | false ↦ walk_each walks (children n) done ++ length walks ∷ []
 ]
 
 -- the nodes in the order in which a walk from the last node does them
 unfoldable pub order : List Node → List ℕ
-unfolding entries walkMake
-order ns = (get_or (entries walkMake ns) (length ns - 1) (λ d. d)) []
+unfolding entries walk_make
+order ns = (get_or (entries walk_make ns) (length ns - 1) (λ d. d)) []
 
 -- 0, 1, .. below n, from i on
 unfoldable pub up_from : (i n : ℕ) → List ℕ

@@ -76,34 +76,34 @@ after (failed p y) f = 0
 after (pruned p y) f = 0
 after stuck f = 0
 
-unfoldable pub inPair : Val → (Val → Val → ℕ) → ℕ
-inPair ⟨⟩ f = 0
-inPair (inl v) f = 0
-inPair (inr v) f = 0
-inPair (v & w) f = f v w
+unfoldable pub in_pair : Val → (Val → Val → ℕ) → ℕ
+in_pair ⟨⟩ f = 0
+in_pair (inl v) f = 0
+in_pair (inr v) f = 0
+in_pair (v & w) f = f v w
 
-unfoldable pub inSum : Val → (Val → ℕ) → (Val → ℕ) → ℕ
-inSum ⟨⟩ f g = 0
-inSum (inl v) f g = f v
-inSum (inr v) f g = g v
-inSum (v & w) f g = 0
+unfoldable pub in_sum : Val → (Val → ℕ) → (Val → ℕ) → ℕ
+in_sum ⟨⟩ f g = 0
+in_sum (inl v) f g = f v
+in_sum (inr v) f g = g v
+in_sum (v & w) f g = 0
 
 -- how many terms are evaluated; a pruned branch that is reached is none, its assertion is one
 unfoldable pub visits : Term → Val → ℕ
-unfolding after inPair inSum eval
+unfolding after in_pair in_sum eval
 visits (iden A) v = 1
 visits (comp B s t) v = 1 + (visits s v + after (eval s v) (λ w. visits t w))
 visits unit v = 1
 visits (injl B C t) v = 1 + visits t v
 visits (injr B C t) v = 1 + visits t v
-visits (case A B s t) v = 1 + inPair v λ x c. inSum x (λ a. visits s (a & c)) (λ b. visits t (b & c))
+visits (case A B s t) v = 1 + in_pair v λ x c. in_sum x (λ a. visits s (a & c)) (λ b. visits t (b & c))
 visits (pair B s t) v = 1 + (visits s v + after (eval s v) (λ x. visits t v))
-visits (take t) v = 1 + inPair v λ a b. visits t a
-visits (drop A t) v = 1 + inPair v λ a b. visits t b
-visits (assertl p A B s) v = 1 + inPair v λ x c. inSum x (λ a. visits s (a & c)) (λ b. 0)
-visits (assertr p A B t) v = 1 + inPair v λ x c. inSum x (λ a. 0) (λ b. visits t (b & c))
+visits (take t) v = 1 + in_pair v λ a b. visits t a
+visits (drop A t) v = 1 + in_pair v λ a b. visits t b
+visits (assertl p A B s) v = 1 + in_pair v λ x c. in_sum x (λ a. visits s (a & c)) (λ b. 0)
+visits (assertr p A B t) v = 1 + in_pair v λ x c. in_sum x (λ a. 0) (λ b. visits t (b & c))
 visits (fail p) v = 1
 visits (witness A w) v = 1
 visits (word A w) v = 1
-visits (disconnect A B C h s t) v = 1 + (visits s (h & v) + after (eval s (h & v)) λ bc. inPair bc λ b c. visits t c)
+visits (disconnect A B C h s t) v = 1 + (visits s (h & v) + after (eval s (h & v)) λ bc. in_pair bc λ b c. visits t c)
 visits bad v = 0

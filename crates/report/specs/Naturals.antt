@@ -9,21 +9,21 @@ low_bits zero n = []
 low_bits (suc k) n = n / 2 ^ k % 2 ∷ low_bits k n
 
 -- floor (log2 n) by halving; the first number bounds the halvings
-unfoldable pub log2By : ℕ → ℕ → ℕ
-log2By zero n = zero
-log2By (suc f) zero = zero
-log2By (suc f) (suc zero) = zero
-log2By (suc f) (suc (suc n)) = suc (log2By f (suc (suc n) / 2))
+unfoldable pub log2_by : ℕ → ℕ → ℕ
+log2_by zero n = zero
+log2_by (suc f) zero = zero
+log2_by (suc f) (suc zero) = zero
+log2_by (suc f) (suc (suc n)) = suc (log2_by f (suc (suc n) / 2))
 
 abbrev pub log2 : ℕ → ℕ
-log2 n = log2By n n
+log2 n = log2_by n n
 
 -- the code of n; the first number bounds the depth, and n is enough, since floor (log2 n) is below n
-unfoldable pub codeBy : ℕ → ℕ → List Bit
-codeBy zero n = 0 ∷ []
-codeBy (suc f) zero = 0 ∷ []
-codeBy (suc f) (suc zero) = 0 ∷ []
-codeBy (suc f) (suc (suc n)) = 1 ∷ (codeBy f (log2 (suc (suc n))) ++ low_bits (log2 (suc (suc n))) (suc (suc n)))
+unfoldable pub code_by : ℕ → ℕ → List Bit
+code_by zero n = 0 ∷ []
+code_by (suc f) zero = 0 ∷ []
+code_by (suc f) (suc zero) = 0 ∷ []
+code_by (suc f) (suc (suc n)) = 1 ∷ (code_by f (log2 (suc (suc n))) ++ low_bits (log2 (suc (suc n))) (suc (suc n)))
 
-abbrev pub codeNatural : ℕ → List Bit
-codeNatural n = codeBy n n
+abbrev pub code_natural : ℕ → List Bit
+code_natural n = code_by n n

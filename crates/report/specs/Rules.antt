@@ -4,7 +4,7 @@ use Rattle.std.specs.Prelude.{◌≡◌, refl, ℕ}
 use Rattle.report.specs.Types.{Ty, one, sum, prod, word_ty}
 use Rattle.report.specs.Values.{HasTy}
 use Rattle.report.specs.Terms.{Term, iden, comp, unit, injl, injr, case, pair, take, drop, assertl, assertr, fail, witness, word, disconnect, bad}
-use Rattle.report.specs.Typing.{Typed, Iden, Comp, Unit·, Injl, Injr, Case, Pair, Take, Drop, Assertl, Assertr, Fail, Witness, Word, Disconnect}
+use Rattle.report.specs.Typing.{Typed, of_iden, of_comp, of_unit, of_injl, of_injr, of_case, of_pair, of_take, of_drop, of_assertl, of_assertr, of_fail, of_witness, of_word, of_disconnect}
 
 unfoldable pub Rule : Term → (A B : Ty) → Type 0
 Rule (iden T) A B = (A ≡ T) × (B ≡ T)
@@ -25,40 +25,40 @@ Rule (disconnect S L C h s t) A B = (R : Ty) × (A ≡ S) × (B ≡ prod L R) ×
 Rule bad A B = ⊥
 
 -- a typed term keeps its kind's rule
-pub typed-rule : {t : Term} {A B : Ty} → Typed t A B → Rule t A B
+pub typed_rule : {t : Term} {A B : Ty} → Typed t A B → Rule t A B
 unfolding Rule
-typed-rule Iden = (refl, refl)
-typed-rule (Comp s t) = (s, t)
-typed-rule Unit· = refl
-typed-rule (Injl t) = (refl, t)
-typed-rule (Injr t) = (refl, t)
-typed-rule (Case s t) = (_, refl, s, t)
-typed-rule (Pair s t) = (_, refl, s, t)
-typed-rule (Take t) = (_, _, refl, t)
-typed-rule (Drop t) = (_, refl, t)
-typed-rule (Assertl t) = (_, refl, t)
-typed-rule (Assertr t) = (_, refl, t)
-typed-rule Fail = tt
-typed-rule (Witness v) = (refl, v)
-typed-rule (Word k of v) = (k, refl, refl, of, v)
-typed-rule (Disconnect h s t) = (_, refl, refl, h, s, t)
+typed_rule of_iden = (refl, refl)
+typed_rule (of_comp s t) = (s, t)
+typed_rule of_unit = refl
+typed_rule (of_injl t) = (refl, t)
+typed_rule (of_injr t) = (refl, t)
+typed_rule (of_case s t) = (_, refl, s, t)
+typed_rule (of_pair s t) = (_, refl, s, t)
+typed_rule (of_take t) = (_, _, refl, t)
+typed_rule (of_drop t) = (_, refl, t)
+typed_rule (of_assertl t) = (_, refl, t)
+typed_rule (of_assertr t) = (_, refl, t)
+typed_rule of_fail = tt
+typed_rule (of_witness v) = (refl, v)
+typed_rule (of_word k of v) = (k, refl, refl, of, v)
+typed_rule (of_disconnect h s t) = (_, refl, refl, h, s, t)
 
 -- a term that keeps its kind's rule is typed
-pub rule-typed : (t : Term) {A B : Ty} → Rule t A B → Typed t A B
+pub rule_typed : (t : Term) {A B : Ty} → Rule t A B → Typed t A B
 unfolding Rule
-rule-typed (iden T) r = rw (r.0, r.1) Iden
-rule-typed (comp M s t) r = Comp r.0 r.1
-rule-typed unit r = rw r Unit·
-rule-typed (injl L R t) r = rw r.0 (Injl r.1)
-rule-typed (injr L R t) r = rw r.0 (Injr r.1)
-rule-typed (case L R s t) r = rw r.1 (Case r.2 r.3)
-rule-typed (pair L s t) r = rw r.1 (Pair r.2 r.3)
-rule-typed (take t) r = rw r.2 (Take r.3)
-rule-typed (drop L t) r = rw r.1 (Drop r.2)
-rule-typed (assertl p L R t) r = rw r.1 (Assertl r.2)
-rule-typed (assertr p L R t) r = rw r.1 (Assertr r.2)
-rule-typed (fail p) r = Fail
-rule-typed (witness T v) r = rw r.0 (Witness r.1)
-rule-typed (word T v) r = rw (r.1, r.2) (Word r.0 r.3 r.4)
-rule-typed (disconnect S L C h s t) r = rw (r.1, r.2) (Disconnect r.3 r.4 r.5)
-rule-typed bad r = elim r [ ]
+rule_typed (iden T) r = rw (r.0, r.1) of_iden
+rule_typed (comp M s t) r = of_comp r.0 r.1
+rule_typed unit r = rw r of_unit
+rule_typed (injl L R t) r = rw r.0 (of_injl r.1)
+rule_typed (injr L R t) r = rw r.0 (of_injr r.1)
+rule_typed (case L R s t) r = rw r.1 (of_case r.2 r.3)
+rule_typed (pair L s t) r = rw r.1 (of_pair r.2 r.3)
+rule_typed (take t) r = rw r.2 (of_take r.3)
+rule_typed (drop L t) r = rw r.1 (of_drop r.2)
+rule_typed (assertl p L R t) r = rw r.1 (of_assertl r.2)
+rule_typed (assertr p L R t) r = rw r.1 (of_assertr r.2)
+rule_typed (fail p) r = of_fail
+rule_typed (witness T v) r = rw r.0 (of_witness r.1)
+rule_typed (word T v) r = rw (r.1, r.2) (of_word r.0 r.3 r.4)
+rule_typed (disconnect S L C h s t) r = rw (r.1, r.2) (of_disconnect r.3 r.4 r.5)
+rule_typed bad r = elim r [ ]

@@ -4,11 +4,11 @@ use mathlib.Core.List.{List, [], ◌∷◌, ◌++◌}
 
 module _ {R X : Type 0} (make : List X → R → X) where
   -- the entries made so far, and those of the records that follow
-  unfoldable pub entriesFrom : List X → List R → List X
-  entriesFrom before [] = before
-  entriesFrom before (r ∷ rs) = entriesFrom (before ++ make before r ∷ []) rs
+  unfoldable pub entries_from : List X → List R → List X
+  entries_from before [] = before
+  entries_from before (r ∷ rs) = entries_from (before ++ make before r ∷ []) rs
 
   -- the entries of a table
   unfoldable pub entries : List R → List X
-  unfolding entriesFrom
-  entries rs = entriesFrom [] rs
+  unfolding entries_from
+  entries rs = entries_from [] rs

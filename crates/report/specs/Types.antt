@@ -13,11 +13,11 @@ width (sum A B) = 1 + max (width A) (width B)
 width (prod A B) = width A + width B
 
 -- the padding of a sum's left part, and of its right part: the larger width minus its own
-unfoldable pub padL : Ty → Ty → ℕ
-padL A B = max (width A) (width B) - width A
+unfoldable pub pad_l : Ty → Ty → ℕ
+pad_l A B = max (width A) (width B) - width A
 
-unfoldable pub padR : Ty → Ty → ℕ
-padR A B = max (width A) (width B) - width B
+unfoldable pub pad_r : Ty → Ty → ℕ
+pad_r A B = max (width A) (width B) - width B
 
 -- the words of 2 ^ k bits: a bit, or two words of half as many
 unfoldable pub word_ty : ℕ → Ty
@@ -30,7 +30,7 @@ left_of one = one
 left_of (sum A B) = A
 left_of (prod A B) = A
 
-unfoldable pub rightOf : Ty → Ty
-rightOf one = one
-rightOf (sum A B) = B
-rightOf (prod A B) = B
+unfoldable pub right_of : Ty → Ty
+right_of one = one
+right_of (sum A B) = B
+right_of (prod A B) = B

@@ -3,8 +3,8 @@
 use Rattle.std.specs.Prelude.{refl, List, [], ◌∷◌, get_or}
 use Rattle.report.specs.Lines.{◌is◌, Hold, b1, b2, b3, o, i}
 use Rattle.report.specs.Bits.{Bit}
-use Rattle.report.specs.Types.{Ty, one, sum, prod, width, padL, padR, word_ty, left_of, rightOf}
-use Rattle.report.specs.Values.{Val, ⟨⟩, inl, inr, ◌&◌, HasTy, is_unit, isLeft, isRight, isPair, compact, padded, value, short, readValue, Cells, value_at}
+use Rattle.report.specs.Types.{Ty, one, sum, prod, width, pad_l, pad_r, word_ty, left_of, right_of}
+use Rattle.report.specs.Values.{Val, ⟨⟩, inl, inr, ◌&◌, HasTy, is_unit, is_left, is_right, is_pair, compact, padded, value, short, read_value, Cells, value_at}
 
 widths : Hold (
     width one is 0
@@ -19,38 +19,38 @@ widths = refl
 
 -- the larger width minus the part's own
 paddings : Hold (
-    padL b1 b3 is 2
-    ∷ padL b3 b1 is 0
-    ∷ padR b1 b3 is 0
-    ∷ padR b3 b1 is 2
+    pad_l b1 b3 is 2
+    ∷ pad_l b3 b1 is 0
+    ∷ pad_r b1 b3 is 0
+    ∷ pad_r b3 b1 is 2
     ∷ [])
-unfolding Hold width padL padR
+unfolding Hold width pad_l pad_r
 paddings = refl
 
 parts : Hold (
     left_of one is one
-    ∷ rightOf one is one
+    ∷ right_of one is one
     ∷ left_of (sum b1 b2) is b1
-    ∷ rightOf (sum b1 b2) is b2
+    ∷ right_of (sum b1 b2) is b2
     ∷ left_of (prod b1 b2) is b1
-    ∷ rightOf (prod b1 b2) is b2
+    ∷ right_of (prod b1 b2) is b2
     ∷ word_ty 0 is b1
     ∷ word_ty 2 is prod b2 b2
     ∷ [])
-unfolding Hold left_of rightOf word_ty
+unfolding Hold left_of right_of word_ty
 parts = refl
 
-compact-bits : Hold (
+compact_bits : Hold (
     compact ⟨⟩ is []
     ∷ compact (inl i) is (0 ∷ 1 ∷ [])
     ∷ compact (inr o) is (1 ∷ 0 ∷ [])
     ∷ compact (i & inr o) is (1 ∷ 1 ∷ 0 ∷ [])
     ∷ [])
 unfolding Hold compact
-compact-bits = refl
+compact_bits = refl
 
 -- padding stands after the tag, before the part
-padded-cells : Hold (
+padded_cells : Hold (
     padded one ⟨⟩ is []
     ∷ padded (sum b1 b3) (inl i) is (0 ∷ 0 ∷ 0 ∷ 1 ∷ [])
     ∷ padded (sum b1 b3) (inr (i & o & i)) is (1 ∷ 1 ∷ 0 ∷ 1 ∷ [])
@@ -60,20 +60,20 @@ padded-cells : Hold (
     ∷ padded (sum b1 (sum b2 one)) (inr (inr ⟨⟩)) is (1 ∷ 1 ∷ 0 ∷ 0 ∷ [])
     ∷ padded (prod (sum one b1) (sum b2 one)) (inl ⟨⟩ & inr ⟨⟩) is (0 ∷ 0 ∷ 1 ∷ 0 ∷ 0 ∷ [])
     ∷ [])
-unfolding Hold padded compact width padL padR left_of rightOf
-padded-cells = refl
+unfolding Hold padded compact width pad_l pad_r left_of right_of
+padded_cells = refl
 
 read_back : Hold (
-    readValue one (1 ∷ []) is value ⟨⟩ (1 ∷ [])
-    ∷ readValue (sum b1 b2) (0 ∷ 1 ∷ 0 ∷ []) is value (inl i) (0 ∷ [])
-    ∷ readValue (sum b1 b2) (1 ∷ 1 ∷ 0 ∷ []) is value (inr (i & o)) []
-    ∷ readValue (prod b1 (sum one b1)) (1 ∷ 1 ∷ 0 ∷ 1 ∷ []) is value (i & inr o) (1 ∷ [])
-    ∷ readValue (sum b1 b2) [] is short
-    ∷ readValue (sum b1 b2) (1 ∷ 1 ∷ []) is short
-    ∷ readValue (prod b1 b2) (1 ∷ 1 ∷ []) is short
-    ∷ readValue (prod b2 b1) (1 ∷ []) is short
+    read_value one (1 ∷ []) is value ⟨⟩ (1 ∷ [])
+    ∷ read_value (sum b1 b2) (0 ∷ 1 ∷ 0 ∷ []) is value (inl i) (0 ∷ [])
+    ∷ read_value (sum b1 b2) (1 ∷ 1 ∷ 0 ∷ []) is value (inr (i & o)) []
+    ∷ read_value (prod b1 (sum one b1)) (1 ∷ 1 ∷ 0 ∷ 1 ∷ []) is value (i & inr o) (1 ∷ [])
+    ∷ read_value (sum b1 b2) [] is short
+    ∷ read_value (sum b1 b2) (1 ∷ 1 ∷ []) is short
+    ∷ read_value (prod b1 b2) (1 ∷ 1 ∷ []) is short
+    ∷ read_value (prod b2 b1) (1 ∷ []) is short
     ∷ [])
-unfolding Hold readValue
+unfolding Hold read_value
 read_back = refl
 
 -- the cells that begin with these bits
@@ -81,7 +81,7 @@ abbrev cells : List Bit → Cells
 cells bits p = get_or bits p 0
 
 -- read from place 1 on, with ones as padding
-cells-back : Hold (
+cells_back : Hold (
     value_at one (cells []) 1 is ⟨⟩
     ∷ value_at (sum b1 b3) (cells (1 ∷ 0 ∷ 1 ∷ 1 ∷ 0 ∷ 1 ∷ [])) 1 is inl o
     ∷ value_at (sum b1 b3) (cells (0 ∷ 1 ∷ 1 ∷ 0 ∷ 0 ∷ 1 ∷ [])) 1 is inr (i & o & o)
@@ -90,28 +90,28 @@ cells-back : Hold (
     ∷ value_at (prod b1 b2) (cells (1 ∷ 0 ∷ 1 ∷ 1 ∷ [])) 1 is (o & i & i)
     ∷ value_at (prod b2 b1) (cells (1 ∷ 0 ∷ 1 ∷ 1 ∷ [])) 1 is ((o & i) & i)
     ∷ [])
-unfolding Hold value_at width padL padR
-cells-back = refl
+unfolding Hold value_at width pad_l pad_r
+cells_back = refl
 
 -- a derivation for each rule of which values a type has
 left_typed : HasTy (inl i) (sum b1 b2)
-left_typed = isLeft (isRight is_unit)
+left_typed = is_left (is_right is_unit)
 
-right-typed : HasTy (inr (i & o)) (sum b1 b2)
-right-typed = isRight (isPair (isRight is_unit) (isLeft is_unit))
+right_typed : HasTy (inr (i & o)) (sum b1 b2)
+right_typed = is_right (is_pair (is_right is_unit) (is_left is_unit))
 
 pair_typed : HasTy (i & inl ⟨⟩) (prod b1 (sum one b2))
-pair_typed = isPair (isRight is_unit) (isLeft is_unit)
+pair_typed = is_pair (is_right is_unit) (is_left is_unit)
 
-pairs-typed : HasTy (i & i & o) (prod b1 b2)
-pairs-typed = isPair (isRight is_unit) (isPair (isRight is_unit) (isLeft is_unit))
+pairs_typed : HasTy (i & i & o) (prod b1 b2)
+pairs_typed = is_pair (is_right is_unit) (is_pair (is_right is_unit) (is_left is_unit))
 
 -- and what each rule asks for: the parts of a value have the parts of its type
-left-part : {v : Val} {A B : Ty} → HasTy (inl v) (sum A B) → HasTy v A
-left-part (isLeft v) = v
+left_part : {v : Val} {A B : Ty} → HasTy (inl v) (sum A B) → HasTy v A
+left_part (is_left v) = v
 
-right-part : {v : Val} {A B : Ty} → HasTy (inr v) (sum A B) → HasTy v B
-right-part (isRight v) = v
+right_part : {v : Val} {A B : Ty} → HasTy (inr v) (sum A B) → HasTy v B
+right_part (is_right v) = v
 
 pair_parts : {v w : Val} {A B : Ty} → HasTy (v & w) (prod A B) → HasTy v A × HasTy w B
-pair_parts (isPair v w) = (v, w)
+pair_parts (is_pair v w) = (v, w)

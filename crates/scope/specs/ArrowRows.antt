@@ -4,8 +4,8 @@ use Rattle.refusal.specs.declared.Refusal.TheVariants.{OneChildDisconnect, Arrow
 use Rattle.report.specs.Lines.{◌is◌, Hold}
 use Rattle.report.specs.Nodes.{Node, comp, case, pair, disconnect, injl, injr, take, drop, disconnect1, iden, unit, witness, fail, hidden, word}
 use Rattle.scope.specs.Check.{passed, refused}
-use Rattle.scope.specs.Types.{TypeRecord, is_unit, isSum, isProduct, left_at, rightAt, isWord}
-use Rattle.scope.specs.Arrows.{Arrow, arrowRecords, noArrow, source, target, kindRule, arrowRule, checkArrows}
+use Rattle.scope.specs.Types.{TypeRecord, is_unit, is_sum, is_product, left_at, right_at, is_word}
+use Rattle.scope.specs.Arrows.{Arrow, arrow_records, no_arrow, source, target, kind_rule, arrow_rule, check_arrows}
 use Rattle.scope.specs.Shorthand.{ty, to}
 
 -- the types of the rows, by their indices; 13 is the word of 256 bits
@@ -45,49 +45,49 @@ types =
     ∷ ty 1 1 1  -- 31: 1 + 1
     ∷ []
 
-type-tests : Hold (
+type_tests : Hold (
     is_unit types 0 is true
     ∷ is_unit types 1 is false
-    ∷ isSum types 3 1 2 is true
-    ∷ isSum types 5 1 2 is false
-    ∷ isSum types 3 0 2 is false
-    ∷ isSum types 3 2 2 is false
-    ∷ isSum types 3 1 1 is false
-    ∷ isSum types 3 1 3 is false
-    ∷ isSum types 0 0 0 is false
-    ∷ isProduct types 5 1 2 is true
-    ∷ isProduct types 3 1 2 is false
-    ∷ isProduct types 5 0 2 is false
-    ∷ isProduct types 5 2 2 is false
-    ∷ isProduct types 5 1 1 is false
-    ∷ isProduct types 5 1 3 is false
+    ∷ is_sum types 3 1 2 is true
+    ∷ is_sum types 5 1 2 is false
+    ∷ is_sum types 3 0 2 is false
+    ∷ is_sum types 3 2 2 is false
+    ∷ is_sum types 3 1 1 is false
+    ∷ is_sum types 3 1 3 is false
+    ∷ is_sum types 0 0 0 is false
+    ∷ is_product types 5 1 2 is true
+    ∷ is_product types 3 1 2 is false
+    ∷ is_product types 5 0 2 is false
+    ∷ is_product types 5 2 2 is false
+    ∷ is_product types 5 1 1 is false
+    ∷ is_product types 5 1 3 is false
     -- past the table there is no type
-    ∷ isProduct types 99 0 0 is false
+    ∷ is_product types 99 0 0 is false
     -- words of 1, 2, 4 and 256 bits, and near misses
-    ∷ isWord types 0 1 is true
-    ∷ isWord types 0 28 is false
-    ∷ isWord types 0 29 is false
-    ∷ isWord types 0 30 is false
-    ∷ isWord types 1 2 is true
-    ∷ isWord types 1 31 is false
-    ∷ isWord types 1 1 is false
-    ∷ isWord types 2 6 is true
-    ∷ isWord types 2 2 is false
-    ∷ isWord types 2 7 is false
-    ∷ isWord types 1 24 is false
-    ∷ isWord types 8 13 is true
-    ∷ isWord types 8 12 is false
+    ∷ is_word types 0 1 is true
+    ∷ is_word types 0 28 is false
+    ∷ is_word types 0 29 is false
+    ∷ is_word types 0 30 is false
+    ∷ is_word types 1 2 is true
+    ∷ is_word types 1 31 is false
+    ∷ is_word types 1 1 is false
+    ∷ is_word types 2 6 is true
+    ∷ is_word types 2 2 is false
+    ∷ is_word types 2 7 is false
+    ∷ is_word types 1 24 is false
+    ∷ is_word types 8 13 is true
+    ∷ is_word types 8 12 is false
     -- a bit is a sum of units, whichever records they are
-    ∷ isWord (ty 0 0 0 ∷ ty 0 0 0 ∷ ty 1 0 1 ∷ []) 0 2 is true
+    ∷ is_word (ty 0 0 0 ∷ ty 0 0 0 ∷ ty 1 0 1 ∷ []) 0 2 is true
     ∷ [])
-unfolding Hold is_unit isSum isProduct isWord
-type-tests = refl
+unfolding Hold is_unit is_sum is_product is_word
+type_tests = refl
 
 -- two bytes a type, four an arrow; odd bytes at the end are of none; past the table an arrow is from 0 to 0
 arrows : Hold (
-    arrowRecords (1 ∷ 2 ∷ 3 ∷ 4 ∷ 5 ∷ 6 ∷ 7 ∷ 8 ∷ 9 ∷ 9 ∷ 9 ∷ []) is (to 0x0102 0x0304 ∷ to 0x0506 0x0708 ∷ [])
+    arrow_records (1 ∷ 2 ∷ 3 ∷ 4 ∷ 5 ∷ 6 ∷ 7 ∷ 8 ∷ 9 ∷ 9 ∷ 9 ∷ []) is (to 0x0102 0x0304 ∷ to 0x0506 0x0708 ∷ [])
     ∷ [])
-unfolding Hold arrowRecords
+unfolding Hold arrow_records
 arrows = refl
 
 ends : Hold (
@@ -96,16 +96,16 @@ ends : Hold (
     ∷ source (to 1 2 ∷ []) 1 is 0
     ∷ target (to 1 2 ∷ []) 1 is 0
     ∷ left_at types 16 is 2
-    ∷ rightAt types 16 is 7
+    ∷ right_at types 16 is 7
     ∷ [])
-unfolding Hold source target left_at rightAt
+unfolding Hold source target left_at right_at
 ends = refl
 
 -- a node from A to B whose children may be nodes 0 and 1, with these arrows, and node 2, which is hidden
 abbrev rule : (first second : Arrow) → (A B : ℕ) → Node → Bool
-rule s t A B n = kindRule types (unit ∷ unit ∷ hidden [] ∷ []) (s ∷ t ∷ noArrow ∷ []) A B n
+rule s t A B n = kind_rule types (unit ∷ unit ∷ hidden [] ∷ []) (s ∷ t ∷ no_arrow ∷ []) A B n
 
-comp-rows : Hold (
+comp_rows : Hold (
     rule (to 1 2) (to 2 3) 1 3 (comp 0 1) is true
     -- the left child's source, the middle, the right child's target
     ∷ rule (to 0 2) (to 2 3) 1 3 (comp 0 1) is false
@@ -115,8 +115,8 @@ comp-rows : Hold (
     ∷ rule (to 1 2) (to 2 2) 1 3 (comp 0 1) is false
     ∷ rule (to 1 2) (to 2 4) 1 3 (comp 0 1) is false
     ∷ [])
-unfolding Hold kindRule
-comp-rows = refl
+unfolding Hold kind_rule
+comp_rows = refl
 
 case_rows : Hold (
     rule (to 5 9) (to 6 9) 4 9 (case 0 1) is true
@@ -141,10 +141,10 @@ case_rows : Hold (
     ∷ rule (to 5 9) (to 0 0) 4 9 (case 0 2) is true
     ∷ rule (to 6 9) (to 0 0) 4 9 (case 0 2) is false
     ∷ [])
-unfolding Hold kindRule
+unfolding Hold kind_rule
 case_rows = refl
 
-pair-rows : Hold (
+pair_rows : Hold (
     rule (to 1 2) (to 1 3) 1 15 (pair 0 1) is true
     -- either child's source; the target no product, of another left part, of another right part
     ∷ rule (to 0 2) (to 1 3) 1 15 (pair 0 1) is false
@@ -155,11 +155,11 @@ pair-rows : Hold (
     ∷ rule (to 1 2) (to 1 3) 1 24 (pair 0 1) is false
     ∷ rule (to 1 2) (to 1 3) 1 16 (pair 0 1) is false
     ∷ [])
-unfolding Hold kindRule
-pair-rows = refl
+unfolding Hold kind_rule
+pair_rows = refl
 
 -- from 1 to 2 × 7, of 2^256 × 1 to 2 × 3 and 3 to 7
-disconnect-rows : Hold (
+disconnect_rows : Hold (
     rule (to 14 15) (to 3 7) 1 16 (disconnect 0 1) is true
     -- the left child's source no product, beside another input, of another word
     ∷ rule (to 20 15) (to 3 7) 1 16 (disconnect 0 1) is false
@@ -175,79 +175,79 @@ disconnect-rows : Hold (
     ∷ rule (to 14 15) (to 3 7) 1 15 (disconnect 0 1) is false
     ∷ rule (to 14 15) (to 3 7) 1 16 (disconnect1 0) is false
     ∷ [])
-unfolding Hold kindRule
-disconnect-rows = refl
+unfolding Hold kind_rule
+disconnect_rows = refl
 
-one-child-rows : Hold (
-    rule (to 1 2) noArrow 1 18 (injl 0) is true
-    ∷ rule (to 1 2) noArrow 1 23 (injl 0) is true
-    ∷ rule (to 0 2) noArrow 1 18 (injl 0) is false
-    ∷ rule (to 2 2) noArrow 1 18 (injl 0) is false
-    ∷ rule (to 1 2) noArrow 1 15 (injl 0) is false
-    ∷ rule (to 1 2) noArrow 1 3 (injl 0) is false
-    ∷ rule (to 1 3) noArrow 1 18 (injr 0) is true
-    ∷ rule (to 1 3) noArrow 1 27 (injr 0) is true
-    ∷ rule (to 0 3) noArrow 1 18 (injr 0) is false
-    ∷ rule (to 2 3) noArrow 1 18 (injr 0) is false
-    ∷ rule (to 1 3) noArrow 1 15 (injr 0) is false
-    ∷ rule (to 1 3) noArrow 1 3 (injr 0) is false
-    ∷ rule (to 2 9) noArrow 15 9 (take 0) is true
-    ∷ rule (to 2 9) noArrow 16 9 (take 0) is true
-    ∷ rule (to 2 9) noArrow 18 9 (take 0) is false
-    ∷ rule (to 1 9) noArrow 15 9 (take 0) is false
-    ∷ rule (to 2 8) noArrow 15 9 (take 0) is false
-    ∷ rule (to 2 10) noArrow 15 9 (take 0) is false
-    ∷ rule (to 3 9) noArrow 15 9 (drop 0) is true
-    ∷ rule (to 3 9) noArrow 24 9 (drop 0) is true
-    ∷ rule (to 3 9) noArrow 18 9 (drop 0) is false
-    ∷ rule (to 2 9) noArrow 15 9 (drop 0) is false
-    ∷ rule (to 3 8) noArrow 15 9 (drop 0) is false
-    ∷ rule (to 3 10) noArrow 15 9 (drop 0) is false
+one_child_rows : Hold (
+    rule (to 1 2) no_arrow 1 18 (injl 0) is true
+    ∷ rule (to 1 2) no_arrow 1 23 (injl 0) is true
+    ∷ rule (to 0 2) no_arrow 1 18 (injl 0) is false
+    ∷ rule (to 2 2) no_arrow 1 18 (injl 0) is false
+    ∷ rule (to 1 2) no_arrow 1 15 (injl 0) is false
+    ∷ rule (to 1 2) no_arrow 1 3 (injl 0) is false
+    ∷ rule (to 1 3) no_arrow 1 18 (injr 0) is true
+    ∷ rule (to 1 3) no_arrow 1 27 (injr 0) is true
+    ∷ rule (to 0 3) no_arrow 1 18 (injr 0) is false
+    ∷ rule (to 2 3) no_arrow 1 18 (injr 0) is false
+    ∷ rule (to 1 3) no_arrow 1 15 (injr 0) is false
+    ∷ rule (to 1 3) no_arrow 1 3 (injr 0) is false
+    ∷ rule (to 2 9) no_arrow 15 9 (take 0) is true
+    ∷ rule (to 2 9) no_arrow 16 9 (take 0) is true
+    ∷ rule (to 2 9) no_arrow 18 9 (take 0) is false
+    ∷ rule (to 1 9) no_arrow 15 9 (take 0) is false
+    ∷ rule (to 2 8) no_arrow 15 9 (take 0) is false
+    ∷ rule (to 2 10) no_arrow 15 9 (take 0) is false
+    ∷ rule (to 3 9) no_arrow 15 9 (drop 0) is true
+    ∷ rule (to 3 9) no_arrow 24 9 (drop 0) is true
+    ∷ rule (to 3 9) no_arrow 18 9 (drop 0) is false
+    ∷ rule (to 2 9) no_arrow 15 9 (drop 0) is false
+    ∷ rule (to 3 8) no_arrow 15 9 (drop 0) is false
+    ∷ rule (to 3 10) no_arrow 15 9 (drop 0) is false
     ∷ [])
-unfolding Hold kindRule
-one-child-rows = refl
+unfolding Hold kind_rule
+one_child_rows = refl
 
-leaf-rows : Hold (
-    rule noArrow noArrow 3 3 iden is true
-    ∷ rule noArrow noArrow 3 2 iden is false
-    ∷ rule noArrow noArrow 2 3 iden is false
-    ∷ rule noArrow noArrow 3 0 unit is true
-    ∷ rule noArrow noArrow 0 3 unit is false
-    ∷ rule noArrow noArrow 3 2 witness is true
-    ∷ rule noArrow noArrow 3 2 (fail []) is true
-    ∷ rule noArrow noArrow 0 0 (hidden []) is true
-    ∷ rule noArrow noArrow 1 0 (hidden []) is false
-    ∷ rule noArrow noArrow 0 1 (hidden []) is false
-    ∷ rule noArrow noArrow 0 1 (word 1 []) is true
-    ∷ rule noArrow noArrow 0 6 (word 3 []) is true
-    ∷ rule noArrow noArrow 0 6 (word 2 []) is false
-    ∷ rule noArrow noArrow 0 6 (word 4 []) is false
-    ∷ rule noArrow noArrow 1 1 (word 1 []) is false
+leaf_rows : Hold (
+    rule no_arrow no_arrow 3 3 iden is true
+    ∷ rule no_arrow no_arrow 3 2 iden is false
+    ∷ rule no_arrow no_arrow 2 3 iden is false
+    ∷ rule no_arrow no_arrow 3 0 unit is true
+    ∷ rule no_arrow no_arrow 0 3 unit is false
+    ∷ rule no_arrow no_arrow 3 2 witness is true
+    ∷ rule no_arrow no_arrow 3 2 (fail []) is true
+    ∷ rule no_arrow no_arrow 0 0 (hidden []) is true
+    ∷ rule no_arrow no_arrow 1 0 (hidden []) is false
+    ∷ rule no_arrow no_arrow 0 1 (hidden []) is false
+    ∷ rule no_arrow no_arrow 0 1 (word 1 []) is true
+    ∷ rule no_arrow no_arrow 0 6 (word 3 []) is true
+    ∷ rule no_arrow no_arrow 0 6 (word 2 []) is false
+    ∷ rule no_arrow no_arrow 0 6 (word 4 []) is false
+    ∷ rule no_arrow no_arrow 1 1 (word 1 []) is false
     ∷ [])
-unfolding Hold kindRule
-leaf-rows = refl
+unfolding Hold kind_rule
+leaf_rows = refl
 
 -- both ends are in the type table, up to its last record
 in_table : Hold (
-    arrowRule types (witness ∷ []) (to 31 31 ∷ []) 0 is true
-    ∷ arrowRule types (witness ∷ []) (to 32 0 ∷ []) 0 is false
-    ∷ arrowRule types (witness ∷ []) (to 0 32 ∷ []) 0 is false
+    arrow_rule types (witness ∷ []) (to 31 31 ∷ []) 0 is true
+    ∷ arrow_rule types (witness ∷ []) (to 32 0 ∷ []) 0 is false
+    ∷ arrow_rule types (witness ∷ []) (to 0 32 ∷ []) 0 is false
     -- the arrow of the node itself
-    ∷ arrowRule types (unit ∷ iden ∷ []) (to 3 0 ∷ to 2 2 ∷ []) 1 is true
-    ∷ arrowRule types (unit ∷ iden ∷ []) (to 3 0 ∷ to 2 3 ∷ []) 1 is false
+    ∷ arrow_rule types (unit ∷ iden ∷ []) (to 3 0 ∷ to 2 2 ∷ []) 1 is true
+    ∷ arrow_rule types (unit ∷ iden ∷ []) (to 3 0 ∷ to 2 3 ∷ []) 1 is false
     ∷ [])
-unfolding Hold arrowRule
+unfolding Hold arrow_rule
 in_table = refl
 
 -- 11, then the count, then the arrows; each at its place
 refusals : Hold (
-    checkArrows types (unit ∷ iden ∷ []) (to 3 0 ∷ to 2 2 ∷ []) is passed tt
-    ∷ checkArrows types (unit ∷ disconnect1 0 ∷ disconnect1 1 ∷ []) [] is refused (OneChildDisconnect 1)
-    ∷ checkArrows types (unit ∷ disconnect1 0 ∷ []) (to 3 3 ∷ to 2 2 ∷ []) is refused (OneChildDisconnect 1)
-    ∷ checkArrows types (unit ∷ iden ∷ []) (to 3 3 ∷ []) is refused (BadArrow 2)
-    ∷ checkArrows types (unit ∷ iden ∷ []) (to 3 3 ∷ to 2 2 ∷ to 2 2 ∷ []) is refused (BadArrow 2)
-    ∷ checkArrows types (unit ∷ iden ∷ []) (to 3 3 ∷ to 2 3 ∷ []) is refused (BadArrow 0)
-    ∷ checkArrows types (unit ∷ iden ∷ []) (to 3 0 ∷ to 2 3 ∷ []) is refused (BadArrow 1)
+    check_arrows types (unit ∷ iden ∷ []) (to 3 0 ∷ to 2 2 ∷ []) is passed tt
+    ∷ check_arrows types (unit ∷ disconnect1 0 ∷ disconnect1 1 ∷ []) [] is refused (OneChildDisconnect 1)
+    ∷ check_arrows types (unit ∷ disconnect1 0 ∷ []) (to 3 3 ∷ to 2 2 ∷ []) is refused (OneChildDisconnect 1)
+    ∷ check_arrows types (unit ∷ iden ∷ []) (to 3 3 ∷ []) is refused (BadArrow 2)
+    ∷ check_arrows types (unit ∷ iden ∷ []) (to 3 3 ∷ to 2 2 ∷ to 2 2 ∷ []) is refused (BadArrow 2)
+    ∷ check_arrows types (unit ∷ iden ∷ []) (to 3 3 ∷ to 2 3 ∷ []) is refused (BadArrow 0)
+    ∷ check_arrows types (unit ∷ iden ∷ []) (to 3 0 ∷ to 2 3 ∷ []) is refused (BadArrow 1)
     ∷ [])
-unfolding Hold checkArrows
+unfolding Hold check_arrows
 refusals = refl

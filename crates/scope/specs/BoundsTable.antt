@@ -1,7 +1,7 @@
 -- The table of bounds, one computed line for each of its cells, and the limits of 14 at their borders.
 -- Children have bounds that are all different, so that a cell taken from another column or another child shows.
 use Rattle.std.specs.Prelude.{◌≡◌, refl, Bool, true, false, List, [], ◌∷◌, ℕ, zero, suc, ◌+◌, eqb, replicate}
-use Rattle.limits.specs.Limits.{cellCount, frameCount, costLimit}
+use Rattle.limits.specs.Limits.{cell_count, frame_count, cost_limit}
 use Rattle.refusal.specs.declared.Refusal.TheVariants.{OverLimit}
 use Rattle.report.specs.Lines.{◌is◌, Hold}
 use Rattle.report.specs.Types.{Ty, one, sum, prod, width, word_ty}
@@ -11,23 +11,23 @@ use Rattle.report.specs.Terms.{Term, iden, comp, unit, injl, injr, case, pair, t
 use Rattle.scope.specs.Check.{Check, passed, refused}
 use Rattle.scope.specs.Numbers.{tabulate}
 use Rattle.scope.specs.Program.{Program}
-use Rattle.scope.specs.Bounds.{Bound, bounds, checkLimits, checkBounds}
+use Rattle.scope.specs.Bounds.{Bound, bounds, check_limits, check_bounds}
 use Rattle.scope.specs.Shorthand.{ty, to}
 
 -- a cell of the table, at a term
 pub data Line : Type 0 where
   cells frames cost : Term → (number : ℕ) → Line
 
-unfoldable pub isSo : Line → Bool
+unfoldable pub is_so : Line → Bool
 unfolding bounds
-isSo (cells t n) = eqb (bounds t).cells n
-isSo (frames t n) = eqb (bounds t).frames n
-isSo (cost t n) = eqb (bounds t).cost n
+is_so (cells t n) = eqb (bounds t).cells n
+is_so (frames t n) = eqb (bounds t).frames n
+is_so (cost t n) = eqb (bounds t).cost n
 
-unfoldable pub allSo : List Line → Bool
-unfolding isSo
-allSo [] = true
-allSo (l ∷ ls) = elim (isSo l) [ true ↦ allSo ls | false ↦ false ]
+unfoldable pub all_so : List Line → Bool
+unfolding is_so
+all_so [] = true
+all_so (l ∷ ls) = elim (is_so l) [ true ↦ all_so ls | false ↦ false ]
 
 -- a bit, and words of 4 and 8 bits
 abbrev b1 : Ty
@@ -72,19 +72,19 @@ table =
     ∷ cells (fail 7) 0 ∷ frames (fail 7) 0 ∷ cost (fail 7) 0
     ∷ []
 
-table-holds : allSo table ≡ true
-unfolding table allSo
-table-holds = refl
+table_holds : all_so table ≡ true
+unfolding table all_so
+table_holds = refl
 
 -- at the limits a program passes; above one of them it is refused at the first
-limits-kept : Hold (
-    checkLimits cellCount frameCount costLimit is passed tt
-    ∷ checkLimits (cellCount + 1) (frameCount + 1) (costLimit + 1) is refused (OverLimit 0)
-    ∷ checkLimits cellCount (frameCount + 1) (costLimit + 1) is refused (OverLimit 1)
-    ∷ checkLimits cellCount frameCount (costLimit + 1) is refused (OverLimit 2)
+limits_kept : Hold (
+    check_limits cell_count frame_count cost_limit is passed tt
+    ∷ check_limits (cell_count + 1) (frame_count + 1) (cost_limit + 1) is refused (OverLimit 0)
+    ∷ check_limits cell_count (frame_count + 1) (cost_limit + 1) is refused (OverLimit 1)
+    ∷ check_limits cell_count frame_count (cost_limit + 1) is refused (OverLimit 2)
     ∷ [])
-unfolding Hold checkLimits
-limits-kept = refl
+unfolding Hold check_limits
+limits_kept = refl
 
 -- iden of the words of 2 ^ k bits, and so many comps of the node before them with it
 abbrev comps : (k n : ℕ) → Program
@@ -97,13 +97,13 @@ comps k n = record {
 }
 
 -- a whole program: 2,048 cells, 2 frames and a cost of 1,124; as many cells as there may be, and more
-programs-kept : Hold (
-    checkBounds (comps 10 0) is passed tt
-    ∷ checkBounds (comps 15 6) is passed tt
-    ∷ checkBounds (comps 15 7) is refused (OverLimit 0)
+programs_kept : Hold (
+    check_bounds (comps 10 0) is passed tt
+    ∷ check_bounds (comps 15 6) is passed tt
+    ∷ check_bounds (comps 15 7) is refused (OverLimit 0)
     ∷ [])
-unfolding Hold checkBounds tabulate
-programs-kept = refl
+unfolding Hold check_bounds tabulate
+programs_kept = refl
 
 -- a witness of the widest type under seven comps with iden: its middles and its target take all the cells that there are
 widest : Ty
@@ -114,6 +114,6 @@ under : (comps : ℕ) → Term
 under zero = witness widest ⟨⟩
 under (suc n) = comp widest (under n) (iden widest)
 
-witness-fits : eqb (width widest + (bounds (under 7)).cells) cellCount ≡ true
+witness_fits : eqb (width widest + (bounds (under 7)).cells) cell_count ≡ true
 unfolding widest under bounds width
-witness-fits = refl
+witness_fits = refl

@@ -17,13 +17,13 @@ require true r = passed tt
 require false r = refused r
 
 -- the first of k numbers from i on at which the test fails, or the number after them
-unfoldable pub firstFailing : (test : ℕ → Bool) → (k i : ℕ) → ℕ
-firstFailing test zero i = i
-firstFailing test (suc k) i = elim (test i) [ true ↦ firstFailing test k (suc i) | false ↦ i ]
+unfoldable pub first_failing : (test : ℕ → Bool) → (k i : ℕ) → ℕ
+first_failing test zero i = i
+first_failing test (suc k) i = elim (test i) [ true ↦ first_failing test k (suc i) | false ↦ i ]
 
 -- passes where the test holds of each number below n; else the refusal names the first at which it fails
 unfoldable pub each : (n : ℕ) → (test : ℕ → Bool) → (ℕ → Refusal) → Check (Unit {0})
-unfolding require firstFailing
+unfolding require first_failing
 each n test refusal =
-    let i = firstFailing test n 0 in
+    let i = first_failing test n 0 in
     require (eqb i n) (refusal i)

@@ -1,11 +1,11 @@
 -- Small dossiers computed from their bytes to the answer, the bounds and what every store holds, in stores of just the right size or one short of it.
 -- Refusals up to 13 are computed at their rules and in OrderRows and EndRows.
 use Rattle.std.specs.Prelude.{◌≡◌, refl, true, List, [], ◌∷◌}
-use Rattle.scope.specs.Rows.{Row, row, lent, joined, left, allHold}
+use Rattle.scope.specs.Rows.{Row, row, lent, joined, left, all_hold}
 
 -- refusals 14 to 16, and 17 at 0, 1 and 2
-readyRows : List Row
-readyRows =
+ready_rows : List Row
+ready_rows =
     -- 18 comps, each of the node before it with itself: the cost
     row 160 (joined (joined (joined 0x00000001_00000002_00000038_00000012_00000042_00000013_00000054_00000000_000000a0_00000000_000000a0_00000000_000000a0
     52 0x000000a0_0000000000_0200000000_e06800000000000000000000000000000000_00000000_00000000_00000000_00000000_00000000) 52
@@ -57,13 +57,13 @@ readyRows =
     (left 0x0000000c_00000000_00000000_00000000 0 0xff 0xffffffff_ffffffff_ffffffff_ffffffff_ffffffff_ffffffff 0)
     ∷ []
 
-ready-rows-hold : allHold readyRows ≡ true
-unfolding readyRows allHold
-ready-rows-hold = refl
+ready_rows_hold : all_hold ready_rows ≡ true
+unfolding ready_rows all_hold
+ready_rows_hold = refl
 
 -- runs to their end: outputs, 18 and 19
-runsRows : List Row
-runsRows =
+runs_rows : List Row
+runs_rows =
     -- padding copied by iden
     row 111 0x00000001_00000006_00000038_00000005_00000056_00000005_0000005b_00000000_0000006f_00000000_0000006f_00000000_0000006f_0000006f_0000000000_0100000000_0100000001_0200010000_0200000000_0200010001_c524201004_00000000_00000002_00020002_00000002_00000002
     (lent 5 0 1 4 1 255) (0 ∷ 1 ∷ []) (6 ∷ 4 ∷ 608 ∷ [])
@@ -141,6 +141,6 @@ runsRows =
     0x00000002_0000000b_0000000c_00000000_00000001_0000000d_0000000d_00000000_00000000_00000009_0000000e_00000000) 0 0x5c3f 0 0xa0)
     ∷ []
 
-runs-rows-hold : allHold runsRows ≡ true
-unfolding runsRows allHold
-runs-rows-hold = refl
+runs_rows_hold : all_hold runs_rows ≡ true
+unfolding runs_rows all_hold
+runs_rows_hold = refl

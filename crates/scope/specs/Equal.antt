@@ -4,28 +4,28 @@
 use Rattle.std.specs.Prelude.{Bool, false, List, [], ◌∷◌, ℕ}
 use Rattle.report.specs.Nodes.{Node, comp, case, pair, disconnect, injl, injr, take, drop, disconnect1, iden, unit, witness, fail, hidden, word}
 use Rattle.scope.specs.Numbers.{same}
-use Rattle.scope.specs.Nodes.{kComp, kCase, kPair, kInjl, kInjr, kTake, kDrop, kIden, kUnit, kFail, kWord, kindNumber}
+use Rattle.scope.specs.Nodes.{k_comp, k_case, k_pair, k_injl, k_injr, k_take, k_drop, k_iden, k_unit, k_fail, k_word, kind_number}
 
 -- what tells a node from others: its kind, then its children, or a word's n and bits, or a fail node's bytes; an exempt node has no key
 unfoldable pub key_of : Node → List ℕ
-key_of (comp a b) = kindNumber kComp ∷ a ∷ b ∷ []
-key_of (case a b) = kindNumber kCase ∷ a ∷ b ∷ []
-key_of (pair a b) = kindNumber kPair ∷ a ∷ b ∷ []
+key_of (comp a b) = kind_number k_comp ∷ a ∷ b ∷ []
+key_of (case a b) = kind_number k_case ∷ a ∷ b ∷ []
+key_of (pair a b) = kind_number k_pair ∷ a ∷ b ∷ []
 key_of (disconnect a b) = []
-key_of (injl a) = kindNumber kInjl ∷ a ∷ []
-key_of (injr a) = kindNumber kInjr ∷ a ∷ []
-key_of (take a) = kindNumber kTake ∷ a ∷ []
-key_of (drop a) = kindNumber kDrop ∷ a ∷ []
+key_of (injl a) = kind_number k_injl ∷ a ∷ []
+key_of (injr a) = kind_number k_injr ∷ a ∷ []
+key_of (take a) = kind_number k_take ∷ a ∷ []
+key_of (drop a) = kind_number k_drop ∷ a ∷ []
 key_of (disconnect1 a) = []
-key_of iden = kindNumber kIden ∷ []
-key_of unit = kindNumber kUnit ∷ []
+key_of iden = kind_number k_iden ∷ []
+key_of unit = kind_number k_unit ∷ []
 key_of witness = []
-key_of (fail bytes) = kindNumber kFail ∷ bytes
+key_of (fail bytes) = kind_number k_fail ∷ bytes
 key_of (hidden hash) = []
-key_of (word n bits) = kindNumber kWord ∷ n ∷ bits
+key_of (word n bits) = kind_number k_word ∷ n ∷ bits
 
 -- there is a key, and the other one is the same
-unfoldable pub sameKey : List ℕ → List ℕ → Bool
+unfoldable pub same_key : List ℕ → List ℕ → Bool
 unfolding same
-sameKey [] other = false
-sameKey (x ∷ xs) other = same (x ∷ xs) other
+same_key [] other = false
+same_key (x ∷ xs) other = same (x ∷ xs) other

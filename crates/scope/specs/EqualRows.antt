@@ -6,8 +6,8 @@ use Rattle.report.specs.Nodes.{Node, comp, case, pair, disconnect, injl, injr, t
 use Rattle.scope.specs.Check.{passed, refused}
 use Rattle.scope.specs.Numbers.{tabulate}
 use Rattle.scope.specs.Types.{TypeRecord}
-use Rattle.scope.specs.Equal.{key_of, sameKey}
-use Rattle.scope.specs.Arrows.{Arrow, equalNodes, repeats, nodeRefusal, checkArrows}
+use Rattle.scope.specs.Equal.{key_of, same_key}
+use Rattle.scope.specs.Arrows.{Arrow, equal_nodes, repeats, node_refusal, check_arrows}
 use Rattle.scope.specs.Shorthand.{ty, to}
 
 keys : Hold (
@@ -31,22 +31,22 @@ unfolding Hold key_of
 keys = refl
 
 same_keys : Hold (
-    sameKey (8 ∷ []) (8 ∷ []) is true
-    ∷ sameKey (8 ∷ []) (9 ∷ []) is false
-    ∷ sameKey (8 ∷ []) [] is false
-    ∷ sameKey [] (8 ∷ []) is false
+    same_key (8 ∷ []) (8 ∷ []) is true
+    ∷ same_key (8 ∷ []) (9 ∷ []) is false
+    ∷ same_key (8 ∷ []) [] is false
+    ∷ same_key [] (8 ∷ []) is false
     -- no key is the same as none
-    ∷ sameKey [] [] is false
+    ∷ same_key [] [] is false
     ∷ [])
-unfolding Hold sameKey
+unfolding Hold same_key
 same_keys = refl
 
 -- two nodes with these arrows
 abbrev alike : (m n : Node) → (a b : Arrow) → Bool
-alike m n a b = equalNodes (m ∷ n ∷ []) (a ∷ b ∷ []) 0 1
+alike m n a b = equal_nodes (m ∷ n ∷ []) (a ∷ b ∷ []) 0 1
 
 -- each comparison that fails by itself alone
-pairs-of-nodes : Hold (
+pairs_of_nodes : Hold (
     alike iden iden (to 1 1) (to 1 1) is true
     ∷ alike iden unit (to 0 0) (to 0 0) is false
     -- the arrow's source, its target
@@ -77,11 +77,11 @@ pairs-of-nodes : Hold (
     ∷ alike (disconnect1 3) (disconnect1 3) (to 1 2) (to 1 2) is false
     ∷ alike (hidden (7 ∷ [])) (hidden (7 ∷ [])) (to 0 0) (to 0 0) is false
     ∷ [])
-unfolding Hold equalNodes
-pairs-of-nodes = refl
+unfolding Hold equal_nodes
+pairs_of_nodes = refl
 
 -- equal to any earlier node, and not to itself or to a later one
-repeated-nodes : Hold (
+repeated_nodes : Hold (
     repeats (iden ∷ unit ∷ iden ∷ iden ∷ []) (to 0 0 ∷ to 0 0 ∷ to 0 0 ∷ to 0 0 ∷ []) 0 is false
     ∷ repeats (iden ∷ unit ∷ iden ∷ iden ∷ []) (to 0 0 ∷ to 0 0 ∷ to 0 0 ∷ to 0 0 ∷ []) 1 is false
     ∷ repeats (iden ∷ unit ∷ iden ∷ iden ∷ []) (to 0 0 ∷ to 0 0 ∷ to 0 0 ∷ to 0 0 ∷ []) 2 is true
@@ -90,15 +90,15 @@ repeated-nodes : Hold (
     ∷ repeats (iden ∷ unit ∷ iden ∷ iden ∷ []) (to 0 0 ∷ to 0 0 ∷ to 1 1 ∷ to 2 2 ∷ []) 3 is false
     ∷ [])
 unfolding Hold repeats
-repeated-nodes = refl
+repeated_nodes = refl
 
 -- the place is the later node's
-why-refused : Hold (
-    nodeRefusal [] (iden ∷ unit ∷ iden ∷ []) (to 0 0 ∷ to 0 0 ∷ to 0 0 ∷ []) 2 is NodeRepeated 2
-    ∷ nodeRefusal [] (iden ∷ unit ∷ iden ∷ []) (to 0 0 ∷ to 0 0 ∷ to 1 1 ∷ []) 2 is BadArrow 2
+why_refused : Hold (
+    node_refusal [] (iden ∷ unit ∷ iden ∷ []) (to 0 0 ∷ to 0 0 ∷ to 0 0 ∷ []) 2 is NodeRepeated 2
+    ∷ node_refusal [] (iden ∷ unit ∷ iden ∷ []) (to 0 0 ∷ to 0 0 ∷ to 1 1 ∷ []) 2 is BadArrow 2
     ∷ [])
-unfolding Hold nodeRefusal
-why-refused = refl
+unfolding Hold node_refusal
+why_refused = refl
 
 -- unit and the words up to 256 bits, which is record 9; that word beside unit, two of these; a bit beside two; a bit beside unit, unit
 -- beside unit
@@ -108,37 +108,37 @@ types = ty 0 0 0 ∷ ty 1 0 0 ∷ tabulate 8 (λ k. ty 2 (k + 1) (k + 1)) ++ ty 
 -- 11, then the count, then node by node 9 and 12
 refusals : Hold (
     -- iden, iden, pair(0, 1); take and drop of two iden that are unlike
-    checkArrows types (iden ∷ iden ∷ pair 0 1 ∷ []) (to 1 1 ∷ to 1 1 ∷ to 1 2 ∷ []) is refused (NodeRepeated 1)
-    ∷ checkArrows types (iden ∷ take 0 ∷ iden ∷ drop 2 ∷ pair 1 3 ∷ []) (to 1 1 ∷ to 12 1 ∷ to 2 2 ∷ to 12 2 ∷ to 12 12 ∷ []) is passed tt
-    ∷ checkArrows types (iden ∷ take 0 ∷ iden ∷ drop 2 ∷ pair 1 3 ∷ []) (to 1 1 ∷ to 2 1 ∷ to 1 1 ∷ to 2 1 ∷ to 2 2 ∷ []) is refused (NodeRepeated 2)
+    check_arrows types (iden ∷ iden ∷ pair 0 1 ∷ []) (to 1 1 ∷ to 1 1 ∷ to 1 2 ∷ []) is refused (NodeRepeated 1)
+    ∷ check_arrows types (iden ∷ take 0 ∷ iden ∷ drop 2 ∷ pair 1 3 ∷ []) (to 1 1 ∷ to 12 1 ∷ to 2 2 ∷ to 12 2 ∷ to 12 12 ∷ []) is passed tt
+    ∷ check_arrows types (iden ∷ take 0 ∷ iden ∷ drop 2 ∷ pair 1 3 ∷ []) (to 1 1 ∷ to 2 1 ∷ to 1 1 ∷ to 2 1 ∷ to 2 2 ∷ []) is refused (NodeRepeated 2)
     -- unit, unit, comp(0, 1)
-    ∷ checkArrows types (unit ∷ unit ∷ comp 0 1 ∷ []) (to 0 0 ∷ to 0 0 ∷ to 0 0 ∷ []) is refused (NodeRepeated 1)
-    ∷ checkArrows types (unit ∷ unit ∷ comp 0 1 ∷ []) (to 1 0 ∷ to 0 0 ∷ to 1 0 ∷ []) is passed tt
+    ∷ check_arrows types (unit ∷ unit ∷ comp 0 1 ∷ []) (to 0 0 ∷ to 0 0 ∷ to 0 0 ∷ []) is refused (NodeRepeated 1)
+    ∷ check_arrows types (unit ∷ unit ∷ comp 0 1 ∷ []) (to 1 0 ∷ to 0 0 ∷ to 1 0 ∷ []) is passed tt
     -- the parents are equal, not the leaves alone
-    ∷ checkArrows types (unit ∷ injl 0 ∷ injl 0 ∷ pair 1 2 ∷ []) (to 1 0 ∷ to 1 1 ∷ to 1 1 ∷ to 1 2 ∷ []) is refused (NodeRepeated 2)
-    ∷ checkArrows types (unit ∷ injl 0 ∷ injr 0 ∷ pair 1 2 ∷ []) (to 1 0 ∷ to 1 1 ∷ to 1 1 ∷ to 1 2 ∷ []) is passed tt
+    ∷ check_arrows types (unit ∷ injl 0 ∷ injl 0 ∷ pair 1 2 ∷ []) (to 1 0 ∷ to 1 1 ∷ to 1 1 ∷ to 1 2 ∷ []) is refused (NodeRepeated 2)
+    ∷ check_arrows types (unit ∷ injl 0 ∷ injr 0 ∷ pair 1 2 ∷ []) (to 1 0 ∷ to 1 1 ∷ to 1 1 ∷ to 1 2 ∷ []) is passed tt
     -- words and fail nodes
-    ∷ checkArrows types (word 1 (1 ∷ []) ∷ word 1 (1 ∷ []) ∷ pair 0 1 ∷ []) (to 0 1 ∷ to 0 1 ∷ to 0 2 ∷ []) is refused (NodeRepeated 1)
-    ∷ checkArrows types (word 1 (1 ∷ []) ∷ word 1 (0 ∷ []) ∷ pair 0 1 ∷ []) (to 0 1 ∷ to 0 1 ∷ to 0 2 ∷ []) is passed tt
-    ∷ checkArrows types (fail (7 ∷ []) ∷ fail (7 ∷ []) ∷ pair 0 1 ∷ []) (to 0 1 ∷ to 0 1 ∷ to 0 2 ∷ []) is refused (NodeRepeated 1)
-    ∷ checkArrows types (fail (7 ∷ []) ∷ fail (8 ∷ []) ∷ pair 0 1 ∷ []) (to 0 1 ∷ to 0 1 ∷ to 0 2 ∷ []) is passed tt
+    ∷ check_arrows types (word 1 (1 ∷ []) ∷ word 1 (1 ∷ []) ∷ pair 0 1 ∷ []) (to 0 1 ∷ to 0 1 ∷ to 0 2 ∷ []) is refused (NodeRepeated 1)
+    ∷ check_arrows types (word 1 (1 ∷ []) ∷ word 1 (0 ∷ []) ∷ pair 0 1 ∷ []) (to 0 1 ∷ to 0 1 ∷ to 0 2 ∷ []) is passed tt
+    ∷ check_arrows types (fail (7 ∷ []) ∷ fail (7 ∷ []) ∷ pair 0 1 ∷ []) (to 0 1 ∷ to 0 1 ∷ to 0 2 ∷ []) is refused (NodeRepeated 1)
+    ∷ check_arrows types (fail (7 ∷ []) ∷ fail (8 ∷ []) ∷ pair 0 1 ∷ []) (to 0 1 ∷ to 0 1 ∷ to 0 2 ∷ []) is passed tt
     -- an assertion by its hidden child's index
-    ∷ checkArrows types (unit ∷ hidden (7 ∷ []) ∷ case 0 1 ∷ hidden (8 ∷ []) ∷ case 0 3 ∷ []) (to 14 0 ∷ to 0 0 ∷ to 13 0 ∷ to 0 0 ∷ to 13 0 ∷ [])
+    ∷ check_arrows types (unit ∷ hidden (7 ∷ []) ∷ case 0 1 ∷ hidden (8 ∷ []) ∷ case 0 3 ∷ []) (to 14 0 ∷ to 0 0 ∷ to 13 0 ∷ to 0 0 ∷ to 13 0 ∷ [])
     is passed tt
-    ∷ checkArrows types (unit ∷ hidden (7 ∷ []) ∷ case 0 1 ∷ hidden (8 ∷ []) ∷ case 0 1 ∷ []) (to 14 0 ∷ to 0 0 ∷ to 13 0 ∷ to 0 0 ∷ to 13 0 ∷ [])
+    ∷ check_arrows types (unit ∷ hidden (7 ∷ []) ∷ case 0 1 ∷ hidden (8 ∷ []) ∷ case 0 1 ∷ []) (to 14 0 ∷ to 0 0 ∷ to 13 0 ∷ to 0 0 ∷ to 13 0 ∷ [])
     is refused (NodeRepeated 4)
     -- two witnesses alike, and two disconnects
-    ∷ checkArrows types (witness ∷ witness ∷ pair 0 1 ∷ []) (to 0 1 ∷ to 0 1 ∷ to 0 2 ∷ []) is passed tt
-    ∷ checkArrows types (iden ∷ unit ∷ disconnect 0 1 ∷ disconnect 0 1 ∷ pair 2 3 ∷ [])
+    ∷ check_arrows types (witness ∷ witness ∷ pair 0 1 ∷ []) (to 0 1 ∷ to 0 1 ∷ to 0 2 ∷ []) is passed tt
+    ∷ check_arrows types (iden ∷ unit ∷ disconnect 0 1 ∷ disconnect 0 1 ∷ pair 2 3 ∷ [])
     (to 10 10 ∷ to 0 0 ∷ to 0 10 ∷ to 0 10 ∷ to 0 11 ∷ []) is passed tt
     -- an arrow too few or too many, a disconnect with one child
-    ∷ checkArrows types (iden ∷ iden ∷ pair 0 1 ∷ []) (to 1 1 ∷ to 1 1 ∷ []) is refused (BadArrow 3)
-    ∷ checkArrows types (iden ∷ iden ∷ pair 0 1 ∷ []) (to 1 1 ∷ to 1 1 ∷ to 1 2 ∷ to 0 0 ∷ []) is refused (BadArrow 3)
-    ∷ checkArrows types (iden ∷ iden ∷ pair 0 1 ∷ disconnect1 2 ∷ []) (to 1 1 ∷ to 1 1 ∷ to 1 2 ∷ to 1 2 ∷ []) is refused (OneChildDisconnect 3)
+    ∷ check_arrows types (iden ∷ iden ∷ pair 0 1 ∷ []) (to 1 1 ∷ to 1 1 ∷ []) is refused (BadArrow 3)
+    ∷ check_arrows types (iden ∷ iden ∷ pair 0 1 ∷ []) (to 1 1 ∷ to 1 1 ∷ to 1 2 ∷ to 0 0 ∷ []) is refused (BadArrow 3)
+    ∷ check_arrows types (iden ∷ iden ∷ pair 0 1 ∷ disconnect1 2 ∷ []) (to 1 1 ∷ to 1 1 ∷ to 1 2 ∷ to 1 2 ∷ []) is refused (OneChildDisconnect 3)
     -- the first node that is at fault, in either way
-    ∷ checkArrows types (iden ∷ iden ∷ pair 0 1 ∷ []) (to 1 1 ∷ to 1 1 ∷ to 1 1 ∷ []) is refused (NodeRepeated 1)
-    ∷ checkArrows types (iden ∷ iden ∷ pair 0 1 ∷ []) (to 1 2 ∷ to 1 2 ∷ to 1 2 ∷ []) is refused (BadArrow 0)
-    ∷ checkArrows types (unit ∷ iden ∷ iden ∷ pair 1 2 ∷ []) (to 1 1 ∷ to 1 1 ∷ to 1 1 ∷ to 1 2 ∷ []) is refused (BadArrow 0)
+    ∷ check_arrows types (iden ∷ iden ∷ pair 0 1 ∷ []) (to 1 1 ∷ to 1 1 ∷ to 1 1 ∷ []) is refused (NodeRepeated 1)
+    ∷ check_arrows types (iden ∷ iden ∷ pair 0 1 ∷ []) (to 1 2 ∷ to 1 2 ∷ to 1 2 ∷ []) is refused (BadArrow 0)
+    ∷ check_arrows types (unit ∷ iden ∷ iden ∷ pair 1 2 ∷ []) (to 1 1 ∷ to 1 1 ∷ to 1 1 ∷ to 1 2 ∷ []) is refused (BadArrow 0)
     ∷ [])
-unfolding Hold checkArrows tabulate
+unfolding Hold check_arrows tabulate
 refusals = refl

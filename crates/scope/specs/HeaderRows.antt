@@ -1,17 +1,17 @@
 -- The header, computed: the rule of each number at its borders, the places of the sections, and a section opened.
 -- The dossier has all six sections: 2 types, 3 bytes of program, 1 arrow, 9 witness bits, 3 input bits, 1 hash; 108 bytes in all.
 use Rattle.std.specs.Prelude.{refl, true, false, List, [], ◌∷◌, ◌++◌, ℕ, suc, ◌+◌, ◌*◌, ◌-◌, ◌/◌, ◌%◌, take, drop}
-use Rattle.limits.specs.Limits.{dossierBytes, typeCount, headerBytes, type_bytes}
+use Rattle.limits.specs.Limits.{dossier_bytes, type_count, header_bytes, type_bytes}
 use Rattle.refusal.specs.declared.Refusal.TheVariants.{Header}
 use Rattle.report.specs.Lines.{◌is◌, Hold}
 use Rattle.scope.specs.Check.{passed, refused}
 use Rattle.scope.specs.Numbers.{zeros, tabulate}
-use Rattle.scope.specs.Header.{number, count, offset, size, start, typeCountRule, totalRule, headerRule, checkHeader, section, opened}
+use Rattle.scope.specs.Header.{number, count, offset, size, start, type_count_rule, total_rule, header_rule, check_header, section, opened}
 
 -- numbers of 32 bits as bytes
-unfoldable pub bytesOf32 : List ℕ → List ℕ
-bytesOf32 [] = []
-bytesOf32 (n ∷ ns) = n / 16777216 % 256 ∷ n / 65536 % 256 ∷ n / 256 % 256 ∷ n % 256 ∷ bytesOf32 ns
+unfoldable pub bytes_of32 : List ℕ → List ℕ
+bytes_of32 [] = []
+bytes_of32 (n ∷ ns) = n / 16777216 % 256 ∷ n / 65536 % 256 ∷ n / 256 % 256 ∷ n % 256 ∷ bytes_of32 ns
 
 -- the header's numbers
 abbrev header : List ℕ
@@ -19,7 +19,7 @@ header = 1 ∷ 2 ∷ 56 ∷ 3 ∷ 66 ∷ 1 ∷ 69 ∷ 9 ∷ 73 ∷ 3 ∷ 75 ∷ 
 
 -- the dossier with another header; its other bytes are 100, 101, ..
 abbrev headed : List ℕ → List ℕ
-headed numbers = bytesOf32 numbers ++ tabulate 52 (λ k. 100 + k)
+headed numbers = bytes_of32 numbers ++ tabulate 52 (λ k. 100 + k)
 
 abbrev dossier : List ℕ
 dossier = headed header
@@ -50,64 +50,64 @@ numbers : Hold (
     ∷ start dossier 5 is 76
     ∷ start dossier 6 is 108
     ∷ [])
-unfolding Hold bytesOf32 tabulate number count offset size start
+unfolding Hold bytes_of32 tabulate number count offset size start
 numbers = refl
 
 -- each number against its rule, at its byte position; a count goes up to the end, and the next number is then the wrong one
 refusals : Hold (
-    checkHeader dossier is passed tt
-    ∷ checkHeader (with 0 0) is refused (Header 0)
-    ∷ checkHeader (with 0 2) is refused (Header 0)
-    ∷ checkHeader (with 1 0) is refused (Header 4)
-    ∷ checkHeader (with 1 1) is refused (Header 16)
-    ∷ checkHeader (with 1 10) is refused (Header 12)
-    ∷ checkHeader (with 1 11) is refused (Header 4)
-    ∷ checkHeader (with 2 55) is refused (Header 8)
-    ∷ checkHeader (with 2 57) is refused (Header 8)
-    ∷ checkHeader (with 3 42) is refused (Header 20)
-    ∷ checkHeader (with 3 43) is refused (Header 12)
-    ∷ checkHeader (with 4 65) is refused (Header 16)
-    ∷ checkHeader (with 4 67) is refused (Header 16)
-    ∷ checkHeader (with 5 9) is refused (Header 32)
-    ∷ checkHeader (with 5 10) is refused (Header 20)
-    ∷ checkHeader (with 6 68) is refused (Header 24)
-    ∷ checkHeader (with 6 70) is refused (Header 24)
-    ∷ checkHeader (with 7 280) is refused (Header 36)
-    ∷ checkHeader (with 7 281) is refused (Header 28)
-    ∷ checkHeader (with 8 72) is refused (Header 32)
-    ∷ checkHeader (with 8 74) is refused (Header 32)
-    ∷ checkHeader (with 9 264) is refused (Header 44)
-    ∷ checkHeader (with 9 265) is refused (Header 36)
-    ∷ checkHeader (with 10 74) is refused (Header 40)
-    ∷ checkHeader (with 10 76) is refused (Header 40)
-    ∷ checkHeader (with 11 0) is refused (Header 52)
-    ∷ checkHeader (with 11 2) is refused (Header 44)
-    ∷ checkHeader (with 12 75) is refused (Header 48)
-    ∷ checkHeader (with 12 77) is refused (Header 48)
-    ∷ checkHeader (with 13 107) is refused (Header 52)
-    ∷ checkHeader (with 13 109) is refused (Header 52)
+    check_header dossier is passed tt
+    ∷ check_header (with 0 0) is refused (Header 0)
+    ∷ check_header (with 0 2) is refused (Header 0)
+    ∷ check_header (with 1 0) is refused (Header 4)
+    ∷ check_header (with 1 1) is refused (Header 16)
+    ∷ check_header (with 1 10) is refused (Header 12)
+    ∷ check_header (with 1 11) is refused (Header 4)
+    ∷ check_header (with 2 55) is refused (Header 8)
+    ∷ check_header (with 2 57) is refused (Header 8)
+    ∷ check_header (with 3 42) is refused (Header 20)
+    ∷ check_header (with 3 43) is refused (Header 12)
+    ∷ check_header (with 4 65) is refused (Header 16)
+    ∷ check_header (with 4 67) is refused (Header 16)
+    ∷ check_header (with 5 9) is refused (Header 32)
+    ∷ check_header (with 5 10) is refused (Header 20)
+    ∷ check_header (with 6 68) is refused (Header 24)
+    ∷ check_header (with 6 70) is refused (Header 24)
+    ∷ check_header (with 7 280) is refused (Header 36)
+    ∷ check_header (with 7 281) is refused (Header 28)
+    ∷ check_header (with 8 72) is refused (Header 32)
+    ∷ check_header (with 8 74) is refused (Header 32)
+    ∷ check_header (with 9 264) is refused (Header 44)
+    ∷ check_header (with 9 265) is refused (Header 36)
+    ∷ check_header (with 10 74) is refused (Header 40)
+    ∷ check_header (with 10 76) is refused (Header 40)
+    ∷ check_header (with 11 0) is refused (Header 52)
+    ∷ check_header (with 11 2) is refused (Header 44)
+    ∷ check_header (with 12 75) is refused (Header 48)
+    ∷ check_header (with 12 77) is refused (Header 48)
+    ∷ check_header (with 13 107) is refused (Header 52)
+    ∷ check_header (with 13 109) is refused (Header 52)
     -- a byte behind the last section, which the total counts
-    ∷ checkHeader (with 13 109 ++ 0 ∷ []) is refused (Header 52)
+    ∷ check_header (with 13 109 ++ 0 ∷ []) is refused (Header 52)
     -- two numbers wrong: the first; a count whose section passes the end, before the total
-    ∷ checkHeader (headed (1 ∷ 2 ∷ 57 ∷ 3 ∷ 67 ∷ 1 ∷ 69 ∷ 9 ∷ 73 ∷ 3 ∷ 75 ∷ 1 ∷ 76 ∷ 108 ∷ [])) is refused (Header 8)
-    ∷ checkHeader (headed (1 ∷ 2 ∷ 56 ∷ 3 ∷ 66 ∷ 1 ∷ 69 ∷ 9 ∷ 73 ∷ 3 ∷ 75 ∷ 2 ∷ 76 ∷ 140 ∷ [])) is refused (Header 44)
+    ∷ check_header (headed (1 ∷ 2 ∷ 57 ∷ 3 ∷ 67 ∷ 1 ∷ 69 ∷ 9 ∷ 73 ∷ 3 ∷ 75 ∷ 1 ∷ 76 ∷ 108 ∷ [])) is refused (Header 8)
+    ∷ check_header (headed (1 ∷ 2 ∷ 56 ∷ 3 ∷ 66 ∷ 1 ∷ 69 ∷ 9 ∷ 73 ∷ 3 ∷ 75 ∷ 2 ∷ 76 ∷ 140 ∷ [])) is refused (Header 44)
     -- too short for a header, and just long enough; at the dossier's limit, and above it
-    ∷ checkHeader (take 55 dossier) is refused (Header 0)
-    ∷ checkHeader (take headerBytes dossier) is refused (Header 4)
-    ∷ checkHeader (with 1 0 ++ zeros (dossierBytes - 108)) is refused (Header 4)
-    ∷ checkHeader (with 1 0 ++ zeros (dossierBytes - 107)) is refused (Header 0)
+    ∷ check_header (take 55 dossier) is refused (Header 0)
+    ∷ check_header (take header_bytes dossier) is refused (Header 4)
+    ∷ check_header (with 1 0 ++ zeros (dossier_bytes - 108)) is refused (Header 4)
+    ∷ check_header (with 1 0 ++ zeros (dossier_bytes - 107)) is refused (Header 0)
     ∷ [])
-unfolding Hold bytesOf32 tabulate checkHeader
+unfolding Hold bytes_of32 tabulate check_header
 refusals = refl
 
 -- rules by themselves: the type count at its limit in a dossier with room for one more; sections that end beyond the dossier; no rule for a fifteenth number
 rules : Hold (
-    typeCountRule (with 1 typeCount ++ zeros (type_bytes * typeCount)) is true
-    ∷ typeCountRule (with 1 (typeCount + 1) ++ zeros (type_bytes * typeCount)) is false
-    ∷ totalRule (with 11 2) is false
-    ∷ headerRule dossier 14 is false
+    type_count_rule (with 1 type_count ++ zeros (type_bytes * type_count)) is true
+    ∷ type_count_rule (with 1 (type_count + 1) ++ zeros (type_bytes * type_count)) is false
+    ∷ total_rule (with 11 2) is false
+    ∷ header_rule dossier 14 is false
     ∷ [])
-unfolding Hold bytesOf32 tabulate typeCountRule totalRule headerRule
+unfolding Hold bytes_of32 tabulate type_count_rule total_rule header_rule
 rules = refl
 
 -- a section is that part of the dossier; nothing where the header is refused, and there is no section 6
@@ -121,5 +121,5 @@ sections : Hold (
     ∷ opened dossier 6 is []
     ∷ opened (with 0 2) 1 is []
     ∷ [])
-unfolding Hold bytesOf32 tabulate section opened
+unfolding Hold bytes_of32 tabulate section opened
 sections = refl

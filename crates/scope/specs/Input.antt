@@ -3,17 +3,17 @@
 use Rattle.std.specs.Prelude.{List, ℕ, take}
 use Rattle.refusal.specs.declared.Refusal.TheVariants.{Input}
 use Rattle.report.specs.Types.{Ty}
-use Rattle.report.specs.Values.{Val, Read, value, short, readValue}
+use Rattle.report.specs.Values.{Val, Read, value, short, read_value}
 use Rattle.scope.specs.Check.{Check, passed, refused, ◌>>=◌, require}
-use Rattle.scope.specs.Numbers.{heldBits, streamOf, every}
-use Rattle.scope.specs.Closing.{closes, usedUp}
+use Rattle.scope.specs.Numbers.{held_bits, stream_of, every}
+use Rattle.scope.specs.Closing.{closes, used_up}
 
 -- a value of the type from the first `count` bits of the bytes up to the limit
-unfoldable pub checkInput : Ty → (bytes : List ℕ) → (count : ℕ) → Check Val
-unfolding ◌>>=◌ require readValue streamOf closes every
-checkInput A bytes count = elim (readValue A (take count (heldBits bytes))) [
+unfoldable pub check_input : Ty → (bytes : List ℕ) → (count : ℕ) → Check Val
+unfolding ◌>>=◌ require read_value stream_of closes every
+check_input A bytes count = elim (read_value A (take count (held_bits bytes))) [
   | value v rest ↦ (do
-    used ← require (usedUp bytes count rest) (Input 0)
+    used ← require (used_up bytes count rest) (Input 0)
     passed v)
   | short ↦ refused (Input 0)
 ]

@@ -2,9 +2,9 @@
 -- bounds, outputs, and the cells that are left of old ones and of old zeros.
 use Rattle.std.specs.Prelude.{◌≡◌, refl, Bool, true, false, List, [], ◌∷◌, ℕ, eqb, length}
 use Rattle.report.specs.Bits.{Bit}
-use Rattle.report.specs.Naturals.{codeBy, log2By, low_bits, codeNatural}
+use Rattle.report.specs.Naturals.{code_by, log2_by, low_bits, code_natural}
 use Rattle.scope.specs.Numbers.{every, same}
-use Rattle.scope.specs.Naturals.{Natural, natural, ended, tooLong, readNatural}
+use Rattle.scope.specs.Naturals.{Natural, natural, ended, too_long, read_natural}
 use Rattle.scope.specs.Rows.{Row, row, lent, left, holds}
 
 pub data Known : Type 0 where
@@ -16,20 +16,20 @@ unfoldable pub reads : (n : ℕ) → Natural → Bool
 unfolding every
 reads n (natural m rest) = every (eqb m n ∷ eqb (length rest) 0 ∷ [])
 reads n ended = false
-reads n tooLong = false
+reads n too_long = false
 
-unfoldable pub isSo : Known → Bool
-unfolding holds codeBy log2By low_bits same every reads readNatural
-isSo (coded n code) = every (same (codeNatural n) code ∷ reads n (readNatural code) ∷ [])
-isSo (runs r) = holds r
+unfoldable pub is_so : Known → Bool
+unfolding holds code_by log2_by low_bits same every reads read_natural
+is_so (coded n code) = every (same (code_natural n) code ∷ reads n (read_natural code) ∷ [])
+is_so (runs r) = holds r
 
-unfoldable pub allSo : List Known → Bool
-unfolding isSo
-allSo [] = true
-allSo (k ∷ ks) = elim (isSo k) [ true ↦ allSo ks | false ↦ false ]
+unfoldable pub all_so : List Known → Bool
+unfolding is_so
+all_so [] = true
+all_so (k ∷ ks) = elim (is_so k) [ true ↦ all_so ks | false ↦ false ]
 
-knownRuns : List Known
-knownRuns =
+known_runs : List Known
+known_runs =
     coded 2 (1 ∷ 0 ∷ 0 ∷ [])
     ∷ coded 4 (1 ∷ 1 ∷ 0 ∷ 0 ∷ 0 ∷ 0 ∷ [])
     ∷ coded 8 (1 ∷ 1 ∷ 0 ∷ 1 ∷ 0 ∷ 0 ∷ 0 ∷ [])
@@ -63,6 +63,6 @@ knownRuns =
     (left 0 0 0xff 0xffffffff_ffffffff_ffffffff 0xff))
     ∷ []
 
-known-runs : allSo knownRuns ≡ true
-unfolding knownRuns allSo
-known-runs = refl
+known_runs_lem : all_so known_runs ≡ true
+unfolding known_runs all_so
+known_runs_lem = refl

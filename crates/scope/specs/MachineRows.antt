@@ -6,8 +6,8 @@ use Rattle.report.specs.Types.{one, sum, word_ty}
 use Rattle.report.specs.Values.{Val, ⟨⟩, inl, ◌&◌, Cells}
 use Rattle.report.specs.Terms.{Term, iden, comp, unit, injl, injr, case, pair, take, drop, assertl, assertr, fail, witness, word, disconnect, bad}
 use Rattle.report.specs.Meaning.{Out, done, failed, pruned, stuck}
-use Rattle.scope.specs.Numbers.{tabulateFrom}
-use Rattle.scope.specs.Machine.{Frame, frame, frameNumbersOf, frame_at, State, state, Step, putBits, copyCells, newFrame, moveFrame, dropFrame, writeBits, skip, copy, fwd, back, peek, input, output, exec, machine, answer}
+use Rattle.scope.specs.Numbers.{tabulate_from}
+use Rattle.scope.specs.Machine.{Frame, frame, frame_numbers_of, frame_at, State, state, Step, put_bits, copy_cells, new_frame, move_frame, drop_frame, write_bits, skip, copy, fwd, back, peek, input, output, exec, machine, answer}
 
 -- cells that begin with these bits, and hold one and the same after them
 abbrev cells : List Bit → (rest : Bit) → Cells
@@ -16,41 +16,41 @@ cells bits rest p = get_or bits p rest
 -- n cells of a state from a place on, its frames, and the first cell above them
 pub record View : Type 0 where
   pub bits : List Bit
-  pub readFrames : List Frame
-  pub writeFrames : List Frame
+  pub read_frames : List Frame
+  pub write_frames : List Frame
   pub free : ℕ
 
 abbrev view : List Bit → (reads writes : List Frame) → (next : ℕ) → View
-view bs rs ws nx = record { bits = bs; readFrames = rs; writeFrames = ws; free = nx }
+view bs rs ws nx = record { bits = bs; read_frames = rs; write_frames = ws; free = nx }
 
 abbrev seen : (from n : ℕ) → State → View
-seen from n s = view (tabulateFrom from n s.cells) s.reads s.writes s.next
+seen from n s = view (tabulate_from from n s.cells) s.reads s.writes s.next
 
 unfoldable pub shown : (from n : ℕ) → Step → Out View View
-unfolding tabulateFrom
+unfolding tabulate_from
 shown from n (done s) = done (seen from n s)
 shown from n (failed p s) = failed p (seen from n s)
 shown from n (pruned p s) = pruned p (seen from n s)
 shown from n stuck = stuck
 
 -- three numbers a record; a number past the end is 0
-frame-records : Hold (
+frame_records_lem : Hold (
     frame_at (9 ∷ 1 ∷ 2 ∷ 3 ∷ []) 1 is frame 1 2 3
     ∷ frame_at [] 0 is frame 0 0 0
     ∷ [])
 unfolding Hold
-frame-records = refl
+frame_records_lem = refl
 
-frame-numbers : frameNumbersOf (frame 1 2 3) ≡ 1 ∷ 2 ∷ 3 ∷ []
-frame-numbers = refl
+frame_numbers_lem : frame_numbers_of (frame 1 2 3) ≡ 1 ∷ 2 ∷ 3 ∷ []
+frame_numbers_lem = refl
 
 bits_put : Hold (
-    tabulateFrom 0 5 (putBits (cells [] 1) 1 (0 ∷ 1 ∷ 0 ∷ [])) is (1 ∷ 0 ∷ 1 ∷ 0 ∷ 1 ∷ [])
+    tabulate_from 0 5 (put_bits (cells [] 1) 1 (0 ∷ 1 ∷ 0 ∷ [])) is (1 ∷ 0 ∷ 1 ∷ 0 ∷ 1 ∷ [])
     -- cells are copied one after the other, each from the cells as they then are
-    ∷ tabulateFrom 0 5 (copyCells (cells (1 ∷ 0 ∷ 1 ∷ []) 0) 0 2 3) is (1 ∷ 0 ∷ 1 ∷ 0 ∷ 1 ∷ [])
-    ∷ tabulateFrom 0 5 (copyCells (cells (1 ∷ []) 0) 0 1 3) is (1 ∷ 1 ∷ 1 ∷ 1 ∷ 0 ∷ [])
+    ∷ tabulate_from 0 5 (copy_cells (cells (1 ∷ 0 ∷ 1 ∷ []) 0) 0 2 3) is (1 ∷ 0 ∷ 1 ∷ 0 ∷ 1 ∷ [])
+    ∷ tabulate_from 0 5 (copy_cells (cells (1 ∷ []) 0) 0 1 3) is (1 ∷ 1 ∷ 1 ∷ 1 ∷ 0 ∷ [])
     ∷ [])
-unfolding Hold putBits copyCells tabulateFrom
+unfolding Hold put_bits copy_cells tabulate_from
 bits_put = refl
 
 -- a read frame of cells 0 to 2 with its cursor at 1, a write frame of cells 3 to 6 with its cursor at 5
@@ -67,26 +67,26 @@ up_to nx = state (cells [] 0) (frame 5 4 3 ∷ frame 1 0 2 ∷ []) (frame 2 2 2 
 
 rules : Hold (
     -- a frame above all frames, within the cells and the frames there are; old bits stay
-    shown 0 8 (newFrame 9 3 2 S) is done (view (1 ∷ 0 ∷ 1 ∷ 0 ∷ 0 ∷ 0 ∷ 0 ∷ 0 ∷ []) (frame 1 0 3 ∷ []) (frame 7 7 2 ∷ frame 5 3 4 ∷ []) 9)
-    ∷ shown 0 1 (newFrame 7 3 0 S) is done (view (1 ∷ []) (frame 1 0 3 ∷ []) (frame 7 7 0 ∷ frame 5 3 4 ∷ []) 7)
-    ∷ shown 0 0 (newFrame 8 3 2 S) is stuck
-    ∷ shown 0 0 (newFrame 9 2 2 S) is stuck
-    ∷ shown 0 0 (newFrame 9 4 2 (up_to 7)) is done (view [] (frame 5 4 3 ∷ frame 1 0 2 ∷ []) (frame 7 7 2 ∷ frame 2 2 2 ∷ []) 9)
-    ∷ shown 0 0 (newFrame 9 3 2 (up_to 7)) is stuck
+    shown 0 8 (new_frame 9 3 2 S) is done (view (1 ∷ 0 ∷ 1 ∷ 0 ∷ 0 ∷ 0 ∷ 0 ∷ 0 ∷ []) (frame 1 0 3 ∷ []) (frame 7 7 2 ∷ frame 5 3 4 ∷ []) 9)
+    ∷ shown 0 1 (new_frame 7 3 0 S) is done (view (1 ∷ []) (frame 1 0 3 ∷ []) (frame 7 7 0 ∷ frame 5 3 4 ∷ []) 7)
+    ∷ shown 0 0 (new_frame 8 3 2 S) is stuck
+    ∷ shown 0 0 (new_frame 9 2 2 S) is stuck
+    ∷ shown 0 0 (new_frame 9 4 2 (up_to 7)) is done (view [] (frame 5 4 3 ∷ frame 1 0 2 ∷ []) (frame 7 7 2 ∷ frame 2 2 2 ∷ []) 9)
+    ∷ shown 0 0 (new_frame 9 3 2 (up_to 7)) is stuck
     -- the write frame becomes the read frame, its cursor at its start
-    ∷ shown 0 3 (moveFrame S) is done (view (1 ∷ 0 ∷ 1 ∷ []) (frame 3 3 4 ∷ frame 1 0 3 ∷ []) [] 7)
-    ∷ shown 0 0 (moveFrame bare) is stuck
+    ∷ shown 0 3 (move_frame S) is done (view (1 ∷ 0 ∷ 1 ∷ []) (frame 3 3 4 ∷ frame 1 0 3 ∷ []) [] 7)
+    ∷ shown 0 0 (move_frame bare) is stuck
     -- the read frame goes, if it is the uppermost
-    ∷ shown 0 1 (dropFrame (up_to 7)) is done (view (0 ∷ []) (frame 1 0 2 ∷ []) (frame 2 2 2 ∷ []) 4)
-    ∷ shown 0 0 (dropFrame (up_to 6)) is stuck
-    ∷ shown 0 0 (dropFrame (up_to 8)) is stuck
-    ∷ shown 0 0 (dropFrame bare) is stuck
+    ∷ shown 0 1 (drop_frame (up_to 7)) is done (view (0 ∷ []) (frame 1 0 2 ∷ []) (frame 2 2 2 ∷ []) 4)
+    ∷ shown 0 0 (drop_frame (up_to 6)) is stuck
+    ∷ shown 0 0 (drop_frame (up_to 8)) is stuck
+    ∷ shown 0 0 (drop_frame bare) is stuck
     -- bits from the write cursor on, as far as the frame goes
-    ∷ shown 3 5 (writeBits (1 ∷ 1 ∷ []) S) is done (view (0 ∷ 0 ∷ 1 ∷ 1 ∷ 0 ∷ []) (frame 1 0 3 ∷ []) (frame 7 3 4 ∷ []) 7)
-    ∷ shown 3 5 (writeBits (1 ∷ []) S) is done (view (0 ∷ 0 ∷ 1 ∷ 0 ∷ 0 ∷ []) (frame 1 0 3 ∷ []) (frame 6 3 4 ∷ []) 7)
-    ∷ shown 0 0 (writeBits (1 ∷ 0 ∷ 1 ∷ []) S) is stuck
-    ∷ shown 0 0 (writeBits (1 ∷ []) bare) is stuck
-    ∷ shown 0 0 (writeBits [] bare) is done (view [] [] [] 7)
+    ∷ shown 3 5 (write_bits (1 ∷ 1 ∷ []) S) is done (view (0 ∷ 0 ∷ 1 ∷ 1 ∷ 0 ∷ []) (frame 1 0 3 ∷ []) (frame 7 3 4 ∷ []) 7)
+    ∷ shown 3 5 (write_bits (1 ∷ []) S) is done (view (0 ∷ 0 ∷ 1 ∷ 0 ∷ 0 ∷ []) (frame 1 0 3 ∷ []) (frame 6 3 4 ∷ []) 7)
+    ∷ shown 0 0 (write_bits (1 ∷ 0 ∷ 1 ∷ []) S) is stuck
+    ∷ shown 0 0 (write_bits (1 ∷ []) bare) is stuck
+    ∷ shown 0 0 (write_bits [] bare) is done (view [] [] [] 7)
     -- the write cursor alone
     ∷ shown 0 3 (skip 2 S) is done (view (1 ∷ 0 ∷ 1 ∷ []) (frame 1 0 3 ∷ []) (frame 7 3 4 ∷ []) 7)
     ∷ shown 0 0 (skip 3 S) is stuck
@@ -118,23 +118,23 @@ rules : Hold (
     ∷ shown 0 0 (output 9 0 2 bare) is stuck
     ∷ shown 0 0 (output 0 0 0 bare) is done (view [] [] [] 7)
     ∷ [])
-unfolding Hold shown newFrame moveFrame dropFrame writeBits skip copy fwd back input output
+unfolding Hold shown new_frame move_frame drop_frame write_bits skip copy fwd back input output
 rules = refl
 
 -- the bit at the read cursor, if the frame has one there; it is shown as it is, so that only its bit counts
-unfoldable pub bitShown : Out State Bit → Out (Unit {0}) Bit
-bitShown (done b) = done b
-bitShown (failed p s) = failed p tt
-bitShown (pruned p s) = pruned p tt
-bitShown stuck = stuck
+unfoldable pub bit_shown : Out State Bit → Out (Unit {0}) Bit
+bit_shown (done b) = done b
+bit_shown (failed p s) = failed p tt
+bit_shown (pruned p s) = pruned p tt
+bit_shown stuck = stuck
 
 peeks : Hold (
-    bitShown (peek S) is done 0
-    ∷ bitShown (peek (state (cells (1 ∷ 0 ∷ 1 ∷ []) 0) (frame 2 0 3 ∷ []) [] 7)) is done 1
-    ∷ bitShown (peek (state (cells [] 0) (frame 3 0 3 ∷ []) [] 7)) is stuck
-    ∷ bitShown (peek bare) is stuck
+    bit_shown (peek S) is done 0
+    ∷ bit_shown (peek (state (cells (1 ∷ 0 ∷ 1 ∷ []) 0) (frame 2 0 3 ∷ []) [] 7)) is done 1
+    ∷ bit_shown (peek (state (cells [] 0) (frame 3 0 3 ∷ []) [] 7)) is stuck
+    ∷ bit_shown (peek bare) is stuck
     ∷ [])
-unfolding Hold bitShown peek state
+unfolding Hold bit_shown peek state
 peeks = refl
 
 -- a read frame of cells 0 to 6, its cursor at the second, which begins with this tag; a write frame of cells 7 to 12, its cursor at the second; old bits
@@ -195,17 +195,17 @@ runs = refl
 abbrev inner : Term
 inner = comp one unit unit
 
-unfoldable pub isDone : Step → Bool
-isDone (done s) = true
-isDone (failed p s) = false
-isDone (pruned p s) = false
-isDone stuck = false
+unfoldable pub is_done : Step → Bool
+is_done (done s) = true
+is_done (failed p s) = false
+is_done (pruned p s) = false
+is_done stuck = false
 
 -- with as many frames as it takes, and with one less
 abbrev framed : Term → (tag frames : ℕ) → List Bool
-framed t tag n = isDone (exec 20 (suc n) t (on tag 0)) ∷ isDone (exec 20 n t (on tag 0)) ∷ []
+framed t tag n = is_done (exec 20 (suc n) t (on tag 0)) ∷ is_done (exec 20 n t (on tag 0)) ∷ []
 
-rooms-within : Hold (
+rooms_within : Hold (
     framed inner 0 2 is (true ∷ false ∷ [])
     ∷ framed (injl one one inner) 0 2 is (true ∷ false ∷ [])
     ∷ framed (injr one one inner) 0 2 is (true ∷ false ∷ [])
@@ -220,8 +220,8 @@ rooms-within : Hold (
     ∷ framed (comp one inner unit) 0 3 is (true ∷ false ∷ [])
     ∷ framed (comp one unit inner) 0 3 is (true ∷ false ∷ [])
     ∷ [])
-unfolding Hold isDone exec
-rooms-within = refl
+unfolding Hold is_done exec
+rooms_within = refl
 
 -- the word of 2 ^ k ones
 unfoldable pub ones : (k : ℕ) → Val

@@ -5,20 +5,20 @@ use Rattle.refusal.specs.declared.Answer.{Answer}
 use Rattle.refusal.specs.declared.Answer.TheVariants.{Refused}
 use Rattle.refusal.specs.declared.Refusal.TheVariants.{Header, TypeRecord as BadTypeRecord, Jet, NodeRepeated, BothHidden, CanonicalOrder, Closing, OneChildDisconnect, Arrow as BadArrow, Hash, OverLimit, Witness, Input, StoreShort, FailReached, PrunedReached}
 use Rattle.report.specs.Lines.{◌is◌, Hold}
-use Rattle.report.specs.Naturals.{codeNatural, codeBy, log2By, low_bits}
-use Rattle.report.specs.Nodes.{Node, comp, case, pair, disconnect1, injl, iden, unit, fail, hidden, codeNodes}
+use Rattle.report.specs.Naturals.{code_natural, code_by, log2_by, low_bits}
+use Rattle.report.specs.Nodes.{Node, comp, case, pair, disconnect1, injl, iden, unit, fail, hidden, code_nodes}
 use Rattle.scope.specs.Numbers.{zeros, tabulate}
 use Rattle.scope.specs.Types.{TypeRecord}
 use Rattle.scope.specs.Rows.{lent}
 use Rattle.scope.specs.Shorthand.{ty, to}
-use Rattle.scope.specs.Assembled.{packedUp, code, dossier, job}
+use Rattle.scope.specs.Assembled.{packed_up, code, dossier, job}
 
 -- what is said, in stores with room for 20 nodes and 128 bytes of hashes, and of so many bytes of cells, frames and bytes of answer
-abbrev saidIn : (cells frames answer : ℕ) → List ℕ → Answer
-saidIn c f a d = (job (lent 20 128 c f a 255) d).says
+abbrev said_in : (cells frames answer : ℕ) → List ℕ → Answer
+said_in c f a d = (job (lent 20 128 c f a 255) d).says
 
 abbrev said : List ℕ → Answer
-said d = saidIn 1 2 1 d
+said d = said_in 1 2 1 d
 
 -- unit; unit and a bit; unit, a bit, a bit beside unit, unit beside unit
 abbrev one : List TypeRecord
@@ -46,7 +46,7 @@ orders : Hold (
     -- 5 and 6: a unit that is never used, and then a jet
     ∷ said (dossier one (0xA9 ∷ 0x4F ∷ []) [] [] [] []) is Refused (Jet 2)
     -- 5 and 7: a hidden node under injl, and then a jet
-    ∷ said (dossier one (packedUp (codeNatural 3 ++ codeNodes 0 (h ∷ injl 0 ∷ []) ++ 1 ∷ 1 ∷ [])) [] [] [] []) is Refused (Jet 2)
+    ∷ said (dossier one (packed_up (code_natural 3 ++ code_nodes 0 (h ∷ injl 0 ∷ []) ++ 1 ∷ 1 ∷ [])) [] [] [] []) is Refused (Jet 2)
     -- 6 and 9: two equal hidden nodes, the right one first
     ∷ said (dossier one (code (h ∷ h ∷ case 1 0 ∷ [])) [] [] [] []) is Refused (CanonicalOrder 0)
     -- 8 and 10, 9 and 10: both hidden, or two equal ones, and a byte more
@@ -73,18 +73,18 @@ orders : Hold (
     -- 15 and 16: a witness bit and an input bit left over
     ∷ said (dossier one (code (unit ∷ [])) (to 0 0 ∷ []) (1 ∷ []) (1 ∷ []) []) is Refused (Witness 1)
     -- 16 and 17: no input bit, and no stores
-    ∷ saidIn 0 0 0 (dossier two (code (iden ∷ [])) (to 1 1 ∷ []) [] [] []) is Refused (Input 0)
+    ∷ said_in 0 0 0 (dossier two (code (iden ∷ [])) (to 1 1 ∷ []) [] [] []) is Refused (Input 0)
     -- the three of 17: all too short, frames and answer, the answer alone, none
-    ∷ saidIn 0 0 0 (dossier two (code (unit ∷ injl 0 ∷ [])) (to 0 0 ∷ to 0 1 ∷ []) [] [] []) is Refused (StoreShort 0)
-    ∷ saidIn 1 1 0 (dossier two (code (unit ∷ injl 0 ∷ [])) (to 0 0 ∷ to 0 1 ∷ []) [] [] []) is Refused (StoreShort 1)
-    ∷ saidIn 1 2 0 (dossier two (code (unit ∷ injl 0 ∷ [])) (to 0 0 ∷ to 0 1 ∷ []) [] [] []) is Refused (StoreShort 2)
+    ∷ said_in 0 0 0 (dossier two (code (unit ∷ injl 0 ∷ [])) (to 0 0 ∷ to 0 1 ∷ []) [] [] []) is Refused (StoreShort 0)
+    ∷ said_in 1 1 0 (dossier two (code (unit ∷ injl 0 ∷ [])) (to 0 0 ∷ to 0 1 ∷ []) [] [] []) is Refused (StoreShort 1)
+    ∷ said_in 1 2 0 (dossier two (code (unit ∷ injl 0 ∷ [])) (to 0 0 ∷ to 0 1 ∷ []) [] [] []) is Refused (StoreShort 2)
     -- 17 and 18, 17 and 19: a store too short for a run that would fail
-    ∷ saidIn 0 1 0 (dossier one (code (fail (zeros 64) ∷ [])) (to 0 0 ∷ []) [] [] []) is Refused (StoreShort 1)
+    ∷ said_in 0 1 0 (dossier one (code (fail (zeros 64) ∷ [])) (to 0 0 ∷ []) [] [] []) is Refused (StoreShort 1)
     -- 18 and 19 come as the run meets them
     ∷ said (dossier four (code (unit ∷ h ∷ case 0 1 ∷ fail (zeros 64) ∷ pair 2 3 ∷ [])) (to 3 0 ∷ to 0 0 ∷ to 2 0 ∷ to 2 0 ∷ to 2 3 ∷ []) [] (1 ∷ []) [])
     is Refused (PrunedReached 2)
     ∷ said (dossier four (code (fail (zeros 64) ∷ unit ∷ h ∷ case 1 2 ∷ pair 0 3 ∷ [])) (to 2 0 ∷ to 3 0 ∷ to 0 0 ∷ to 2 0 ∷ to 2 3 ∷ []) [] (1 ∷ []) [])
     is Refused (FailReached 0)
     ∷ [])
-unfolding Hold job dossier code packedUp codeNodes codeBy log2By low_bits tabulate
+unfolding Hold job dossier code packed_up code_nodes code_by log2_by low_bits tabulate
 orders = refl

@@ -7,16 +7,16 @@ use Rattle.report.specs.Nodes.{Node}
 use Rattle.report.specs.Nodes as Node
 use Rattle.report.specs.Terms.{iden, comp, unit, injl, injr, case, pair, take, drop, assertl, assertr, fail, witness, word, disconnect, bad}
 use Rattle.scope.specs.Types.{TypeRecord}
-use Rattle.scope.specs.Program.{Program, valueFrom, sourceTy, targetTy, termOf, termAt, last, whole, wholeSource, wholeTarget}
-use Rattle.scope.specs.Bounds.{wholeCells, wholeFrames, wholeCost}
+use Rattle.scope.specs.Program.{Program, value_from, source_ty, target_ty, term_of, term_at, last, whole, whole_source, whole_target}
+use Rattle.scope.specs.Bounds.{whole_cells, whole_frames, whole_cost}
 use Rattle.scope.specs.Shorthand.{ty, to}
 
-values-from : Hold (
-    valueFrom b2 (1 ∷ 0 ∷ 1 ∷ []) is (i & o)
-    ∷ valueFrom b2 (1 ∷ []) is ⟨⟩
+values_from_lem : Hold (
+    value_from b2 (1 ∷ 0 ∷ 1 ∷ []) is (i & o)
+    ∷ value_from b2 (1 ∷ []) is ⟨⟩
     ∷ [])
-unfolding Hold valueFrom
-values-from = refl
+unfolding Hold value_from
+values_from_lem = refl
 
 -- unit, b1, b2, b1 + b2, (b1 + b2) × unit, b2 × (b1 + b2)
 abbrev types : List TypeRecord
@@ -32,36 +32,36 @@ P = record {
   hash = λ j. get_or (⟨⟩ ∷ o ∷ i ∷ []) j ⟨⟩;
 }
 
-arrows-typed : Hold (
-    sourceTy P 3 is prod (sum b1 b2) one
-    ∷ targetTy P 3 is prod b2 (sum b1 b2)
+arrows_typed : Hold (
+    source_ty P 3 is prod (sum b1 b2) one
+    ∷ target_ty P 3 is prod b2 (sum b1 b2)
     ∷ [])
-unfolding Hold sourceTy targetTy
-arrows-typed = refl
+unfolding Hold source_ty target_ty
+arrows_typed = refl
 
 terms : Hold (
-    termOf P 3 (Node.comp 0 1) fail is comp b2 (fail 0) (fail 1)
-    ∷ termOf P 3 (Node.pair 0 1) fail is pair b2 (fail 0) (fail 1)
-    ∷ termOf P 3 (Node.case 0 1) fail is case b1 b2 (fail 0) (fail 1)
-    ∷ termOf P 3 (Node.case 0 2) fail is assertl 3 b1 b2 (fail 0)
-    ∷ termOf P 3 (Node.case 2 1) fail is assertr 3 b1 b2 (fail 1)
-    ∷ termOf P 3 (Node.case 2 2) fail is bad
-    ∷ termOf P 3 (Node.disconnect 0 1) fail is disconnect (prod (sum b1 b2) one) b2 (sum b1 b2) o (fail 0) (fail 1)
-    ∷ termOf P 4 (Node.injl 1) fail is injl b1 b2 (fail 1)
-    ∷ termOf P 4 (Node.injr 1) fail is injr b1 b2 (fail 1)
-    ∷ termOf P 3 (Node.take 0) fail is take (fail 0)
-    ∷ termOf P 3 (Node.drop 0) fail is drop (sum b1 b2) (fail 0)
-    ∷ termOf P 3 (Node.disconnect1 0) fail is bad
-    ∷ termOf P 3 Node.iden fail is iden (prod (sum b1 b2) one)
-    ∷ termOf P 3 Node.unit fail is unit
-    ∷ termOf P 4 Node.witness fail is witness (sum b1 b2) (inl i)
+    term_of P 3 (Node.comp 0 1) fail is comp b2 (fail 0) (fail 1)
+    ∷ term_of P 3 (Node.pair 0 1) fail is pair b2 (fail 0) (fail 1)
+    ∷ term_of P 3 (Node.case 0 1) fail is case b1 b2 (fail 0) (fail 1)
+    ∷ term_of P 3 (Node.case 0 2) fail is assertl 3 b1 b2 (fail 0)
+    ∷ term_of P 3 (Node.case 2 1) fail is assertr 3 b1 b2 (fail 1)
+    ∷ term_of P 3 (Node.case 2 2) fail is bad
+    ∷ term_of P 3 (Node.disconnect 0 1) fail is disconnect (prod (sum b1 b2) one) b2 (sum b1 b2) o (fail 0) (fail 1)
+    ∷ term_of P 4 (Node.injl 1) fail is injl b1 b2 (fail 1)
+    ∷ term_of P 4 (Node.injr 1) fail is injr b1 b2 (fail 1)
+    ∷ term_of P 3 (Node.take 0) fail is take (fail 0)
+    ∷ term_of P 3 (Node.drop 0) fail is drop (sum b1 b2) (fail 0)
+    ∷ term_of P 3 (Node.disconnect1 0) fail is bad
+    ∷ term_of P 3 Node.iden fail is iden (prod (sum b1 b2) one)
+    ∷ term_of P 3 Node.unit fail is unit
+    ∷ term_of P 4 Node.witness fail is witness (sum b1 b2) (inl i)
     -- past the values a witness is the empty one
-    ∷ termOf P 9 Node.witness fail is witness one ⟨⟩
-    ∷ termOf P 3 (Node.fail []) fail is fail 3
-    ∷ termOf P 3 (Node.hidden []) fail is bad
-    ∷ termOf P 0 (Node.word 2 (1 ∷ 0 ∷ [])) fail is word b2 (i & o)
+    ∷ term_of P 9 Node.witness fail is witness one ⟨⟩
+    ∷ term_of P 3 (Node.fail []) fail is fail 3
+    ∷ term_of P 3 (Node.hidden []) fail is bad
+    ∷ term_of P 0 (Node.word 2 (1 ∷ 0 ∷ [])) fail is word b2 (i & o)
     ∷ [])
-unfolding Hold termOf
+unfolding Hold term_of
 terms = refl
 
 -- comp of iden and injl, from b1 to b1 + b2
@@ -75,28 +75,28 @@ Q = record {
 }
 
 -- each node's term is made of its children's; past the table stands a node that can only fail
-terms-at : Hold (
-    termAt Q 0 is iden b1
-    ∷ termAt Q 1 is injl b1 b2 (iden b1)
+terms_at : Hold (
+    term_at Q 0 is iden b1
+    ∷ term_at Q 1 is injl b1 b2 (iden b1)
     ∷ whole Q is comp b1 (iden b1) (injl b1 b2 (iden b1))
-    ∷ termAt Q 3 is fail 3
+    ∷ term_at Q 3 is fail 3
     ∷ [])
-unfolding Hold termAt whole
-terms-at = refl
+unfolding Hold term_at whole
+terms_at = refl
 
 wholes : Hold (
-    wholeSource Q is b1
-    ∷ wholeTarget Q is sum b1 b2
+    whole_source Q is b1
+    ∷ whole_target Q is sum b1 b2
     ∷ [])
-unfolding Hold wholeSource wholeTarget
+unfolding Hold whole_source whole_target
 wholes = refl
 
 -- source 1, target 3, and 1 between; two frames and one; the cost
 needs : Hold (
     last Q is 2
-    ∷ wholeCells Q is 5
-    ∷ wholeFrames Q is 3
-    ∷ wholeCost Q is 403
+    ∷ whole_cells Q is 5
+    ∷ whole_frames Q is 3
+    ∷ whole_cost Q is 403
     ∷ [])
-unfolding Hold last wholeCells wholeFrames wholeCost
+unfolding Hold last whole_cells whole_frames whole_cost
 needs = refl

@@ -5,33 +5,33 @@ use Rattle.std.proofs.Math.Bool.{true, false}
 use mathlib.Core.List.{List, [], ◌∷◌, ◌++◌}
 use Prim.Native.Nat.{ℕ, zero, suc, ◌+◌, ◌-◌, ◌*◌, ◌^◌}
 use Rattle.std.proofs.Math.ListN.{length}
-use Rattle.limits.specs.Limits.{nodeCount, wordMost, hashBytes, failBytes}
+use Rattle.limits.specs.Limits.{node_count, word_most, hash_bytes, fail_bytes}
 use Rattle.refusal.specs.declared.Refusal.{Refusal}
 use Rattle.refusal.specs.declared.Refusal.TheVariants.{StreamEnded, Natural as BadNatural, Overlong, Jet, StoreShort}
-use Rattle.report.specs.Bits.{Bit, numberFrom, bytes_of}
+use Rattle.report.specs.Bits.{Bit, number_from, bytes_of}
 use Rattle.scope.specs.Check.{Check, passed, refused}
-use Rattle.scope.specs.Naturals.{Natural, natural, ended, tooLong, readNatural}
-use Rattle.scope.specs.Nodes.{Kind, kComp, kCase, kPair, kDisconnect, kInjl, kInjr, kTake, kDrop, kIden, kUnit, kFail, kDisconnect1, kWitness, kHidden, kWord, kindNumber, NodeRecord}
+use Rattle.scope.specs.Naturals.{Natural, natural, ended, too_long, read_natural}
+use Rattle.scope.specs.Nodes.{Kind, k_comp, k_case, k_pair, k_disconnect, k_injl, k_injr, k_take, k_drop, k_iden, k_unit, k_fail, k_disconnect1, k_witness, k_hidden, k_word, kind_number, NodeRecord}
 
 -- THE CODES: the bits that a node begins with, and its kind. Children, a word's number and bits, and stored bytes follow.
 abbrev pub codes : List (List Bit × Kind)
 codes =
-    (0 ∷ 0 ∷ 0 ∷ 0 ∷ 0 ∷ [], kComp) ∷ (0 ∷ 0 ∷ 0 ∷ 0 ∷ 1 ∷ [], kCase) ∷ (0 ∷ 0 ∷ 0 ∷ 1 ∷ 0 ∷ [], kPair) ∷ (0 ∷ 0 ∷ 0 ∷ 1 ∷ 1 ∷ [], kDisconnect)
-    ∷ (0 ∷ 0 ∷ 1 ∷ 0 ∷ 0 ∷ [], kInjl) ∷ (0 ∷ 0 ∷ 1 ∷ 0 ∷ 1 ∷ [], kInjr) ∷ (0 ∷ 0 ∷ 1 ∷ 1 ∷ 0 ∷ [], kTake) ∷ (0 ∷ 0 ∷ 1 ∷ 1 ∷ 1 ∷ [], kDrop)
-    ∷ (0 ∷ 1 ∷ 0 ∷ 0 ∷ 0 ∷ [], kIden) ∷ (0 ∷ 1 ∷ 0 ∷ 0 ∷ 1 ∷ [], kUnit) ∷ (0 ∷ 1 ∷ 0 ∷ 1 ∷ 0 ∷ [], kFail) ∷ (0 ∷ 1 ∷ 0 ∷ 1 ∷ 1 ∷ [], kDisconnect1)
-    ∷ (0 ∷ 1 ∷ 1 ∷ 0 ∷ [], kHidden) ∷ (0 ∷ 1 ∷ 1 ∷ 1 ∷ [], kWitness) ∷ (1 ∷ 0 ∷ [], kWord) ∷ []
+    (0 ∷ 0 ∷ 0 ∷ 0 ∷ 0 ∷ [], k_comp) ∷ (0 ∷ 0 ∷ 0 ∷ 0 ∷ 1 ∷ [], k_case) ∷ (0 ∷ 0 ∷ 0 ∷ 1 ∷ 0 ∷ [], k_pair) ∷ (0 ∷ 0 ∷ 0 ∷ 1 ∷ 1 ∷ [], k_disconnect)
+    ∷ (0 ∷ 0 ∷ 1 ∷ 0 ∷ 0 ∷ [], k_injl) ∷ (0 ∷ 0 ∷ 1 ∷ 0 ∷ 1 ∷ [], k_injr) ∷ (0 ∷ 0 ∷ 1 ∷ 1 ∷ 0 ∷ [], k_take) ∷ (0 ∷ 0 ∷ 1 ∷ 1 ∷ 1 ∷ [], k_drop)
+    ∷ (0 ∷ 1 ∷ 0 ∷ 0 ∷ 0 ∷ [], k_iden) ∷ (0 ∷ 1 ∷ 0 ∷ 0 ∷ 1 ∷ [], k_unit) ∷ (0 ∷ 1 ∷ 0 ∷ 1 ∷ 0 ∷ [], k_fail) ∷ (0 ∷ 1 ∷ 0 ∷ 1 ∷ 1 ∷ [], k_disconnect1)
+    ∷ (0 ∷ 1 ∷ 1 ∷ 0 ∷ [], k_hidden) ∷ (0 ∷ 1 ∷ 1 ∷ 1 ∷ [], k_witness) ∷ (1 ∷ 0 ∷ [], k_word) ∷ []
 
 -- what can be wrong at a node
 pub data Fault : Type 0 where
-  streamEnded lengthTooLong overBound aJet hashesShort : Fault
+  stream_ended length_too_long over_bound a_jet hashes_short : Fault
 
 -- a fault's refusal at node i
-unfoldable pub refusalAt : (i : ℕ) → Fault → Refusal
-refusalAt i streamEnded = StreamEnded i
-refusalAt i lengthTooLong = Overlong i
-refusalAt i overBound = BadNatural i
-refusalAt i aJet = Jet i
-refusalAt i hashesShort = StoreShort 4
+unfoldable pub refusal_at : (i : ℕ) → Fault → Refusal
+refusal_at i stream_ended = StreamEnded i
+refusal_at i length_too_long = Overlong i
+refusal_at i over_bound = BadNatural i
+refusal_at i a_jet = Jet i
+refusal_at i hashes_short = StoreShort 4
 
 -- a reader starts at a bit position, and gives a result and the position after it, or a fault
 pub data Got (X : Type 0) : Type 0 where
@@ -66,14 +66,14 @@ item kind first second stored = give (record { node = record { kind = kind; firs
 module _ (bits : List Bit) where
   -- the next k bits
   unfoldable pub next : (k : ℕ) → Reader (List Bit)
-  next k at = elim (leb (at + k) (length bits)) [ true ↦ got (take k (drop at bits)) (at + k) | false ↦ fault streamEnded ]
+  next k at = elim (leb (at + k) (length bits)) [ true ↦ got (take k (drop at bits)) (at + k) | false ↦ fault stream_ended ]
 
   -- the next k bits as a number
   unfoldable pub code : (k : ℕ) → Reader ℕ
-  unfolding next numberFrom ◌>>=◌ give
+  unfolding next number_from ◌>>=◌ give
   code k = do
     bs ← next k
-    give (numberFrom 0 bs)
+    give (number_from 0 bs)
 
   -- how many bits were taken of a list, of which these are left
   abbrev pub taken : (all rest : List Bit) → ℕ
@@ -81,20 +81,20 @@ module _ (bits : List Bit) where
 
   -- what a natural that was read from the bits l at a position answers, with its bound
   unfoldable pub bounded : (most at : ℕ) → (l : List Bit) → Natural → Got ℕ
-  bounded most at l (natural n rest) = elim (leb n most) [ true ↦ got n (at + taken l rest) | false ↦ fault overBound ]
-  bounded most at l ended = fault streamEnded
-  bounded most at l tooLong = fault lengthTooLong
+  bounded most at l (natural n rest) = elim (leb n most) [ true ↦ got n (at + taken l rest) | false ↦ fault over_bound ]
+  bounded most at l ended = fault stream_ended
+  bounded most at l too_long = fault length_too_long
 
   -- a natural of at most `most`
-  unfoldable pub naturalUpTo : (most : ℕ) → Reader ℕ
-  unfolding bounded readNatural
-  naturalUpTo most at = bounded most at (drop at bits) (readNatural (drop at bits))
+  unfoldable pub natural_up_to : (most : ℕ) → Reader ℕ
+  unfolding bounded read_natural
+  natural_up_to most at = bounded most at (drop at bits) (read_natural (drop at bits))
 
   -- a child of node i, told by its distance, 1 to i
   unfoldable pub child : (i : ℕ) → Reader ℕ
-  unfolding naturalUpTo ◌>>=◌ give
+  unfolding natural_up_to ◌>>=◌ give
   child i = do
-    distance ← naturalUpTo i
+    distance ← natural_up_to i
     give (i - distance)
 
   -- k whole bytes
@@ -116,37 +116,37 @@ module _ (bits : List Bit) where
   combinator i held (suc zero) = do
     sub ← code 2
     only ← child i
-    item (kindNumber kInjl + sub) only 0 []
+    item (kind_number k_injl + sub) only 0 []
   combinator i held (suc (suc zero)) = do
     sub ← code 2
     elim (eqb sub 3) [
       | true ↦ (do
         only ← child i
-        item (kindNumber kDisconnect1) only 0 [])
+        item (kind_number k_disconnect1) only 0 [])
       | false ↦ elim (eqb sub 2) [
         | true ↦ (do
-          bytes ← octets failBytes
-          item (kindNumber kFail) held 0 bytes)
-        | false ↦ item (kindNumber kIden + sub) 0 0 []
+          bytes ← octets fail_bytes
+          item (kind_number k_fail) held 0 bytes)
+        | false ↦ item (kind_number k_iden + sub) 0 0 []
       ]
     ]
   combinator i held (suc (suc (suc k))) = do
     sub ← code 1
     elim (eqb sub 1) [
-      | true ↦ item (kindNumber kWitness) 0 0 []
+      | true ↦ item (kind_number k_witness) 0 0 []
       | false ↦ (do
-        bytes ← octets hashBytes
-        item (kindNumber kHidden) held 0 bytes)
+        bytes ← octets hash_bytes
+        item (kind_number k_hidden) held 0 bytes)
     ]
 
   -- a word after its `10`: n, then 2^(n - 1) bits
   unfoldable pub word_item : Reader Item
-  unfolding naturalUpTo next here item ◌>>=◌
+  unfolding natural_up_to next here item ◌>>=◌
   word_item = do
-    n ← naturalUpTo wordMost
+    n ← natural_up_to word_most
     first ← here
     bs ← next (2 ^ (n - 1))
-    item (kindNumber kWord) n first []
+    item (kind_number k_word) n first []
 
   -- node i, where the hash store holds `held` bytes
   unfoldable pub node : (i held : ℕ) → Reader Item
@@ -159,15 +159,15 @@ module _ (bits : List Bit) where
         combinator i held two)
       | false ↦ (do
         jet ← code 1
-        elim (eqb jet 1) [ true ↦ stop aJet | false ↦ word_item ])
+        elim (eqb jet 1) [ true ↦ stop a_jet | false ↦ word_item ])
     ]
 
   -- the same, with room for so many bytes in the hash store
-  unfoldable pub nodeIn : (room i held : ℕ) → Reader Item
+  unfoldable pub node_in : (room i held : ℕ) → Reader Item
   unfolding node stop give ◌>>=◌
-  nodeIn room i held = do
+  node_in room i held = do
     x ← node i held
-    elim (leb (held + length x.stored) room) [ true ↦ give x | false ↦ stop hashesShort ]
+    elim (leb (held + length x.stored) room) [ true ↦ give x | false ↦ stop hashes_short ]
 
 -- the records that were read, the bytes of the hash store, and the position after the last node
 pub record NodeTable : Type 0 where
@@ -176,18 +176,18 @@ pub record NodeTable : Type 0 where
   pub end : ℕ
 
 -- k nodes from node i on
-unfoldable pub nodesFrom : (bits : List Bit) → (room k i : ℕ) → List NodeRecord → List ℕ → (at : ℕ) → Check NodeTable
-unfolding nodeIn refusalAt
-nodesFrom bits room zero i records hashes at = passed (record { records = records; hashes = hashes; end = at })
-nodesFrom bits room (suc k) i records hashes at = elim (nodeIn bits room i (length hashes) at) [
-  | got x next ↦ nodesFrom bits room k (suc i) (records ++ x.node ∷ []) (hashes ++ x.stored) next
-  | fault e ↦ refused (refusalAt i e)
+unfoldable pub nodes_from : (bits : List Bit) → (room k i : ℕ) → List NodeRecord → List ℕ → (at : ℕ) → Check NodeTable
+unfolding node_in refusal_at
+nodes_from bits room zero i records hashes at = passed (record { records = records; hashes = hashes; end = at })
+nodes_from bits room (suc k) i records hashes at = elim (node_in bits room i (length hashes) at) [
+  | got x next ↦ nodes_from bits room k (suc i) (records ++ x.node ∷ []) (hashes ++ x.stored) next
+  | fault e ↦ refused (refusal_at i e)
 ]
 
 -- all nodes, into a node store for `records` records and a hash store of `bytes` bytes
-unfoldable pub readNodes : (bits : List Bit) → (records bytes : ℕ) → Check NodeTable
-unfolding naturalUpTo nodesFrom refusalAt
-readNodes bits records bytes = elim (naturalUpTo bits nodeCount 0) [
-  | got n next ↦ elim (leb n records) [ true ↦ nodesFrom bits bytes n 0 [] [] next | false ↦ refused (StoreShort 3) ]
-  | fault e ↦ refused (refusalAt 0 e)
+unfoldable pub read_nodes : (bits : List Bit) → (records bytes : ℕ) → Check NodeTable
+unfolding natural_up_to nodes_from refusal_at
+read_nodes bits records bytes = elim (natural_up_to bits node_count 0) [
+  | got n next ↦ elim (leb n records) [ true ↦ nodes_from bits bytes n 0 [] [] next | false ↦ refused (StoreShort 3) ]
+  | fault e ↦ refused (refusal_at 0 e)
 ]

@@ -1,15 +1,15 @@
 -- A computed run as a row of a table: a dossier and five stores in; an answer, the bounds and five stores out; compared by one test.
 -- Bytes and numbers are written as one long hexadecimal number, the first byte highest, as a dossier's own numbers are.
 use Rattle.std.specs.Prelude.{Bool, true, false, List, [], ◌∷◌, ℕ, zero, suc, ◌+◌, ◌*◌, ◌/◌, ◌%◌, ◌^◌, length, replicate}
-use Rattle.limits.specs.Limits.{nodeNumbers, frameNumbers}
+use Rattle.limits.specs.Limits.{node_numbers, frame_numbers}
 use Rattle.refusal.specs.declared.Answer.{Answer}
 use Rattle.refusal.specs.declared.Answer.TheVariants.{Value, Refused}
 use Rattle.refusal.specs.Numbers.{number_of, place_of}
 use Rattle.scope.specs.Check.{Check, passed, refused, ◌>>=◌}
 use Rattle.scope.specs.Numbers.{every, same}
 use Rattle.scope.specs.Program.{Program}
-use Rattle.scope.specs.Bounds.{checkBounds, wholeCells, wholeFrames, wholeCost}
-use Rattle.scope.specs.Run.{Ended, run, checkDossier, tables_of, program_of}
+use Rattle.scope.specs.Bounds.{check_bounds, whole_cells, whole_frames, whole_cost}
+use Rattle.scope.specs.Run.{Ended, run, check_dossier, tables_of, program_of}
 
 -- k digits of a number to a base, the highest first
 unfoldable pub digits : (base k n : ℕ) → List ℕ
@@ -68,39 +68,39 @@ said (Refused r) = number_of r ∷ place_of r ∷ []
 
 -- cells, frames and cost of the whole program
 unfoldable pub needed : Check Program → List ℕ
-unfolding wholeCells wholeFrames wholeCost
-needed (passed P) = wholeCells P ∷ wholeFrames P ∷ wholeCost P ∷ []
+unfolding whole_cells whole_frames whole_cost
+needed (passed P) = whole_cells P ∷ whole_frames P ∷ whole_cost P ∷ []
 needed (refused r) = []
 
 -- the program of a dossier that passes up to 14
-unfoldable pub programIn : (dossier nodes hashes : List ℕ) → Check Program
-unfolding ◌>>=◌ checkDossier program_of tables_of checkBounds
-programIn d nodes hashes = do
-  t ← checkDossier d nodes hashes
-  bounded ← checkBounds (program_of (tables_of d t) [])
+unfoldable pub program_in : (dossier nodes hashes : List ℕ) → Check Program
+unfolding ◌>>=◌ check_dossier program_of tables_of check_bounds
+program_in d nodes hashes = do
+  t ← check_dossier d nodes hashes
+  bounded ← check_bounds (program_of (tables_of d t) [])
   passed (program_of (tables_of d t) [])
 
 -- the run says and leaves what the row has
 unfoldable pub holds : Row → Bool
-unfolding run programIn needed digits said every same
+unfolding run program_in needed digits said every same
 holds r =
     let s = r.stores in
     let l = r.leaves in
     let d = bytes r.size r.dossier in
-    let nodes = replicate (nodeNumbers * s.nodes) (s.fill * 0x01010101) in
+    let nodes = replicate (node_numbers * s.nodes) (s.fill * 0x01010101) in
     let hashes = replicate s.hashes s.fill in
     let e = run d nodes hashes (replicate s.cells s.fill)
-    (replicate (frameNumbers * s.frames) (s.fill * 0x01010101)) (replicate s.answer s.fill) in
+    (replicate (frame_numbers * s.frames) (s.fill * 0x01010101)) (replicate s.answer s.fill) in
     every (same (said e.says) r.says
-    ∷ same (needed (programIn d nodes hashes)) r.needs
-    ∷ same e.nodes (numbers (nodeNumbers * s.nodes) l.nodes)
+    ∷ same (needed (program_in d nodes hashes)) r.needs
+    ∷ same e.nodes (numbers (node_numbers * s.nodes) l.nodes)
     ∷ same e.hashes (bytes s.hashes l.hashes)
     ∷ same e.cells (bytes s.cells l.cells)
-    ∷ same e.frames (numbers (frameNumbers * s.frames) l.frames)
+    ∷ same e.frames (numbers (frame_numbers * s.frames) l.frames)
     ∷ same e.answer (bytes s.answer l.answer)
     ∷ [])
 
-unfoldable pub allHold : List Row → Bool
+unfoldable pub all_hold : List Row → Bool
 unfolding holds
-allHold [] = true
-allHold (r ∷ rs) = elim (holds r) [ true ↦ allHold rs | false ↦ false ]
+all_hold [] = true
+all_hold (r ∷ rs) = elim (holds r) [ true ↦ all_hold rs | false ↦ false ]

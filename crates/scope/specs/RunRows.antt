@@ -1,6 +1,6 @@
 -- The parts of the whole job, computed: the program of a dossier's tables, stores as cells and back, and how each end leaves cells, frames and answer.
 use Rattle.std.specs.Prelude.{◌≡◌, refl, List, [], ◌∷◌, ◌++◌, ℕ, zero, suc, ◌+◌, get_or, replicate}
-use Rattle.limits.specs.Limits.{hashBytes}
+use Rattle.limits.specs.Limits.{hash_bytes}
 use Rattle.refusal.specs.declared.Answer.{Answer}
 use Rattle.refusal.specs.declared.Answer.TheVariants.{Value, Refused}
 use Rattle.refusal.specs.declared.Refusal.TheVariants.{Arrow as BadArrow, Hash, Witness, Input, StoreShort, FailReached, PrunedReached}
@@ -14,9 +14,9 @@ use Rattle.scope.specs.Types.{TypeRecord}
 use Rattle.scope.specs.Arrows.{Arrow}
 use Rattle.scope.specs.Program.{Program}
 use Rattle.scope.specs.Machine.{State, state}
-use Rattle.scope.specs.Run.{Tables, program_of, checkTables, Left, leftWith, cells_of, packed, cleared, written, ends, runTables, tables_of}
+use Rattle.scope.specs.Run.{Tables, program_of, check_tables, Left, left_with, cells_of, packed, cleared, written, ends, run_tables, tables_of}
 use Rattle.scope.specs.Shorthand.{ty, to, row, table}
-use Rattle.scope.specs.HeaderRows.{with, bytesOf32}
+use Rattle.scope.specs.HeaderRows.{with, bytes_of32}
 
 -- the value of 2 ^ k times the same bit
 unfoldable pub word_of : (k : ℕ) → Val → Val
@@ -26,31 +26,31 @@ word_of (suc k) v = word_of k v & word_of k v
 abbrev types : List TypeRecord
 types = ty 0 0 0 ∷ ty 1 0 0 ∷ ty 2 1 1 ∷ ty 1 1 2 ∷ []
 
-abbrev tables : List Node → List Arrow → (given witness : List ℕ) → (witnessBits : ℕ) → (input : List ℕ) → (inputBits : ℕ) → Tables
-tables ns arrows g w wb inp ib = record { types = types; nodes = ns; arrows = arrows; given = g; witness = w; witnessBits = wb; input = inp; inputBits = ib }
+abbrev tables : List Node → List Arrow → (given witness : List ℕ) → (witness_bits : ℕ) → (input : List ℕ) → (input_bits : ℕ) → Tables
+tables ns arrows g w wb inp ib = record { types = types; nodes = ns; arrows = arrows; given = g; witness = w; witness_bits = wb; input = inp; input_bits = ib }
 
 -- two disconnects, whose right children are nodes 1 and 0, with hashes of ones and of zeros
 abbrev P : Program
-P = program_of (tables (iden ∷ unit ∷ disconnect 0 1 ∷ disconnect 2 0 ∷ []) [] (replicate hashBytes 255 ++ zeros hashBytes) [] 0 [] 0) (⟨⟩ ∷ i ∷ [])
+P = program_of (tables (iden ∷ unit ∷ disconnect 0 1 ∷ disconnect 2 0 ∷ []) [] (replicate hash_bytes 255 ++ zeros hash_bytes) [] 0 [] 0) (⟨⟩ ∷ i ∷ [])
 
 -- each supplied hash goes to the right child of its own disconnect
-hashes-given : Hold (
+hashes_given : Hold (
     P.hash 1 is word_of 8 i
     ∷ P.hash 0 is word_of 8 o
     ∷ P.hash 2 is ⟨⟩
     ∷ get_or P.witnesses 1 ⟨⟩ is i
     ∷ [])
 unfolding Hold program_of word_of
-hashes-given = refl
+hashes_given = refl
 
 -- 11 and 12 come before 13
-tables-in-turn : Hold (
-    checkTables (tables (unit ∷ []) (to 3 0 ∷ []) [] [] 0 [] 0) is passed tt
-    ∷ checkTables (tables (unit ∷ []) (to 3 1 ∷ []) (zeros hashBytes) [] 0 [] 0) is refused (BadArrow 0)
-    ∷ checkTables (tables (unit ∷ []) (to 3 0 ∷ []) (zeros hashBytes) [] 0 [] 0) is refused (Hash 1)
+tables_in_turn : Hold (
+    check_tables (tables (unit ∷ []) (to 3 0 ∷ []) [] [] 0 [] 0) is passed tt
+    ∷ check_tables (tables (unit ∷ []) (to 3 1 ∷ []) (zeros hash_bytes) [] 0 [] 0) is refused (BadArrow 0)
+    ∷ check_tables (tables (unit ∷ []) (to 3 0 ∷ []) (zeros hash_bytes) [] 0 [] 0) is refused (Hash 1)
     ∷ [])
-unfolding Hold checkTables
-tables-in-turn = refl
+unfolding Hold check_tables
+tables_in_turn = refl
 
 -- the sections of the dossier of HeaderRows, whatever its version, whose nodes were decoded
 abbrev T : Tables
@@ -60,26 +60,26 @@ sections : Hold (
     T.given is tabulate 32 (λ k. 120 + k)
     ∷ T.witness is (117 ∷ 118 ∷ [])
     ∷ T.input is (119 ∷ [])
-    ∷ (T.witnessBits ∷ T.inputBits ∷ []) is (9 ∷ 3 ∷ [])
+    ∷ (T.witness_bits ∷ T.input_bits ∷ []) is (9 ∷ 3 ∷ [])
     ∷ [])
-unfolding Hold tables_of bytesOf32 tabulate
+unfolding Hold tables_of bytes_of32 tabulate
 sections = refl
 
-types-of-dossier : T.types ≡ ty 100 0x6566 0x6768 ∷ ty 105 0x6A6B 0x6C6D ∷ []
-unfolding tables_of bytesOf32 tabulate
-types-of-dossier = refl
+types_of_dossier : T.types ≡ ty 100 0x6566 0x6768 ∷ ty 105 0x6A6B 0x6C6D ∷ []
+unfolding tables_of bytes_of32 tabulate
+types_of_dossier = refl
 
-arrows-of-dossier : T.arrows ≡ to 0x7172 0x7374 ∷ []
-unfolding tables_of bytesOf32 tabulate
-arrows-of-dossier = refl
+arrows_of_dossier : T.arrows ≡ to 0x7172 0x7374 ∷ []
+unfolding tables_of bytes_of32 tabulate
+arrows_of_dossier = refl
 
 -- the word's bits are the program's, the hidden node's bytes the hash store's
-nodes-of-dossier : T.nodes ≡ word 4 (1 ∷ 0 ∷ 1 ∷ 1 ∷ 1 ∷ 0 ∷ 0 ∷ 1 ∷ []) ∷ hidden (tabulate 32 (λ k. k + 1)) ∷ []
-unfolding tables_of bytesOf32 tabulate
-nodes-of-dossier = refl
+nodes_of_dossier : T.nodes ≡ word 4 (1 ∷ 0 ∷ 1 ∷ 1 ∷ 1 ∷ 0 ∷ 0 ∷ 1 ∷ []) ∷ hidden (tabulate 32 (λ k. k + 1)) ∷ []
+unfolding tables_of bytes_of32 tabulate
+nodes_of_dossier = refl
 
 -- cells are the bits of bytes, 0 past them, and bytes again
-cells-and-bytes : Hold (
+cells_and_bytes : Hold (
     (cells_of (128 ∷ 1 ∷ []) 0 ∷ cells_of (128 ∷ 1 ∷ []) 15 ∷ cells_of (255 ∷ []) 8 ∷ []) is (1 ∷ 1 ∷ 0 ∷ [])
     ∷ packed 2 (cells_of (128 ∷ 7 ∷ 9 ∷ [])) is (128 ∷ 7 ∷ [])
     -- frame records within the bound are zero
@@ -91,7 +91,7 @@ cells-and-bytes : Hold (
     ∷ written (1 ∷ 0 ∷ 0 ∷ 0 ∷ 0 ∷ 0 ∷ 0 ∷ 0 ∷ 1 ∷ []) (7 ∷ 8 ∷ 9 ∷ []) is (128 ∷ 128 ∷ 9 ∷ [])
     ∷ [])
 unfolding Hold cells_of packed cleared written
-cells-and-bytes = refl
+cells_and_bytes = refl
 
 abbrev left : Answer → (cells frames answer : List ℕ) → Left
 left says c f a = record { says = says; cells = c; frames = f; answer = a }
@@ -104,27 +104,27 @@ Q = program_of (tables (iden ∷ injl 0 ∷ comp 0 1 ∷ []) (to 1 1 ∷ to 1 3 
 abbrev S : State
 S = state (cells_of (0b10110110 ∷ 0b00000001 ∷ [])) [] [] 0
 
-each-end : Hold (
+each_end : Hold (
     ends Q (done S) (9 ∷ 9 ∷ []) (replicate 12 8) (7 ∷ 7 ∷ []) is left (Value 2) (0b10110110 ∷ 1 ∷ []) (zeros 9 ++ replicate 3 8) (64 ∷ 7 ∷ [])
     ∷ ends Q (failed 3 S) (9 ∷ 9 ∷ []) (replicate 12 8) (7 ∷ 7 ∷ []) is left (Refused (FailReached 3))
     (0b10110110 ∷ 1 ∷ []) (zeros 9 ++ replicate 3 8) (7 ∷ 7 ∷ [])
     ∷ ends Q (pruned 4 S) (9 ∷ 9 ∷ []) (replicate 12 8) (7 ∷ 7 ∷ []) is left (Refused (PrunedReached 4))
     (0b10110110 ∷ 1 ∷ []) (zeros 9 ++ replicate 3 8) (7 ∷ 7 ∷ [])
     ∷ ends Q stuck (9 ∷ 9 ∷ []) (replicate 12 8) (7 ∷ 7 ∷ []) is left (Refused (StoreShort 0)) (9 ∷ 9 ∷ []) (replicate 12 8) (7 ∷ 7 ∷ [])
-    ∷ leftWith (Value 1) (9 ∷ []) (8 ∷ []) (7 ∷ []) is left (Value 1) (9 ∷ []) (8 ∷ []) (7 ∷ [])
+    ∷ left_with (Value 1) (9 ∷ []) (8 ∷ []) (7 ∷ []) is left (Value 1) (9 ∷ []) (8 ∷ []) (7 ∷ [])
     ∷ [])
-unfolding Hold ends program_of state cells_of leftWith
-each-end = refl
+unfolding Hold ends program_of state cells_of left_with
+each_end = refl
 
 -- 15, 16, 17 in turn, each with all later ones wrong too; then the run
-abbrev ran : (witness : List ℕ) → (witnessBits : ℕ) → (input : List ℕ) → (inputBits : ℕ) → (cells frames answer : List ℕ) → Left
-ran w wb inp ib c f a = runTables (tables (witness ∷ injl 0 ∷ comp 0 1 ∷ []) (to 1 1 ∷ to 1 3 ∷ to 1 3 ∷ []) [] w wb inp ib) c f a
+abbrev ran : (witness : List ℕ) → (witness_bits : ℕ) → (input : List ℕ) → (input_bits : ℕ) → (cells frames answer : List ℕ) → Left
+ran w wb inp ib c f a = run_tables (tables (witness ∷ injl 0 ∷ comp 0 1 ∷ []) (to 1 1 ∷ to 1 3 ∷ to 1 3 ∷ []) [] w wb inp ib) c f a
 
-runs-in-turn : Hold (
+runs_in_turn : Hold (
     ran [] 0 [] 0 [] [] [] is left (Refused (Witness 0)) [] [] []
     ∷ ran (128 ∷ []) 1 [] 0 [] [] [] is left (Refused (Input 0)) [] [] []
     ∷ ran (128 ∷ []) 1 (0 ∷ []) 1 [] (9 ∷ []) [] is left (Refused (StoreShort 0)) [] (9 ∷ []) []
     ∷ ran (128 ∷ []) 1 (0 ∷ []) 1 (0 ∷ 255 ∷ []) (replicate 10 9) (255 ∷ 255 ∷ []) is left (Value 2) (0b00011000 ∷ 255 ∷ []) (zeros 9 ++ 9 ∷ []) (64 ∷ 255 ∷ [])
     ∷ [])
-unfolding Hold runTables
-runs-in-turn = refl
+unfolding Hold run_tables
+runs_in_turn = refl

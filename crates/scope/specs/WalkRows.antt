@@ -1,15 +1,15 @@
 -- The walk and the closing, computed: hidden nodes under each kind of parent, 6 to 9 at their places and within one step, 10 and the end of
 -- the bits, decoding as a whole, and what it leaves in the two stores.
 use Rattle.std.specs.Prelude.{refl, true, false, [], ◌∷◌, ◌+◌, ◌-◌}
-use Rattle.limits.specs.Limits.{dossierBytes}
+use Rattle.limits.specs.Limits.{dossier_bytes}
 use Rattle.refusal.specs.declared.Refusal.TheVariants.{Header, StreamEnded, Natural as BadNatural, Overlong, Jet, CanonicalOrder, HiddenElsewhere, BothHidden, NodeRepeated, Closing, StoreShort}
 use Rattle.report.specs.Lines.{◌is◌, Hold}
 use Rattle.report.specs.Nodes.{Node, comp, case, pair, disconnect, injl, injr, take, drop, disconnect1, iden, unit, witness, fail, hidden, word}
 use Rattle.scope.specs.Check.{Check, passed, refused}
 use Rattle.scope.specs.Numbers.{zeros}
-use Rattle.scope.specs.Nodes.{nodesOf}
-use Rattle.scope.specs.Walk.{hiddenAt, allowed, walkFrom, checkWalk}
-use Rattle.scope.specs.Closing.{closes, decode, nodesLeft, hashesLeft}
+use Rattle.scope.specs.Nodes.{nodes_of}
+use Rattle.scope.specs.Walk.{hidden_at, allowed, walk_from, check_walk}
+use Rattle.scope.specs.Closing.{closes, decode, nodes_left, hashes_left}
 use Rattle.scope.specs.Shorthand.{row, table}
 
 abbrev h : Node
@@ -23,16 +23,16 @@ abbrev judged : Node → Check (Unit {0})
 judged n = allowed (h ∷ unit ∷ g ∷ fail (1 ∷ 4 ∷ []) ∷ unit ∷ []) 5 n
 
 -- a hidden node is; a record of no kind, and what stands past the table, is not
-hidden-records : Hold (
-    hiddenAt (nodesOf [] [] (row 13 0 0 ∷ row 15 0 0 ∷ [])) 0 is true
-    ∷ hiddenAt (nodesOf [] [] (row 13 0 0 ∷ row 15 0 0 ∷ [])) 1 is false
-    ∷ hiddenAt (nodesOf [] [] (row 13 0 0 ∷ row 15 0 0 ∷ [])) 2 is false
+hidden_records : Hold (
+    hidden_at (nodes_of [] [] (row 13 0 0 ∷ row 15 0 0 ∷ [])) 0 is true
+    ∷ hidden_at (nodes_of [] [] (row 13 0 0 ∷ row 15 0 0 ∷ [])) 1 is false
+    ∷ hidden_at (nodes_of [] [] (row 13 0 0 ∷ row 15 0 0 ∷ [])) 2 is false
     ∷ [])
-unfolding Hold hiddenAt nodesOf
-hidden-records = refl
+unfolding Hold hidden_at nodes_of
+hidden_records = refl
 
 -- no parent but a case may have a hidden child, on either side, and a case only one; no hidden hash stands twice
-hidden-nodes : Hold (
+hidden_nodes : Hold (
     judged (comp 1 4) is passed tt
     ∷ judged (comp 0 1) is refused (HiddenElsewhere 5)
     ∷ judged (comp 1 0) is refused (HiddenElsewhere 5)
@@ -69,53 +69,53 @@ hidden-nodes : Hold (
     ∷ allowed (h ∷ g ∷ g ∷ []) 1 g is passed tt
     ∷ [])
 unfolding Hold allowed
-hidden-nodes = refl
+hidden_nodes = refl
 
 walks : Hold (
-    checkWalk (unit ∷ []) is passed tt
-    ∷ checkWalk (unit ∷ iden ∷ comp 0 1 ∷ []) is passed tt
-    ∷ checkWalk (unit ∷ iden ∷ comp 1 0 ∷ []) is refused (CanonicalOrder 0)
-    ∷ checkWalk (unit ∷ iden ∷ injl 0 ∷ []) is refused (CanonicalOrder 1)
-    ∷ checkWalk (unit ∷ iden ∷ []) is refused (CanonicalOrder 0)
+    check_walk (unit ∷ []) is passed tt
+    ∷ check_walk (unit ∷ iden ∷ comp 0 1 ∷ []) is passed tt
+    ∷ check_walk (unit ∷ iden ∷ comp 1 0 ∷ []) is refused (CanonicalOrder 0)
+    ∷ check_walk (unit ∷ iden ∷ injl 0 ∷ []) is refused (CanonicalOrder 1)
+    ∷ check_walk (unit ∷ iden ∷ []) is refused (CanonicalOrder 0)
     -- a node used twice is done once
-    ∷ checkWalk (unit ∷ injl 0 ∷ injr 0 ∷ pair 1 2 ∷ []) is passed tt
-    ∷ checkWalk (unit ∷ injl 0 ∷ injr 0 ∷ pair 2 1 ∷ []) is refused (CanonicalOrder 1)
-    ∷ checkWalk (unit ∷ comp 0 0 ∷ []) is passed tt
+    ∷ check_walk (unit ∷ injl 0 ∷ injr 0 ∷ pair 1 2 ∷ []) is passed tt
+    ∷ check_walk (unit ∷ injl 0 ∷ injr 0 ∷ pair 2 1 ∷ []) is refused (CanonicalOrder 1)
+    ∷ check_walk (unit ∷ comp 0 0 ∷ []) is passed tt
     -- assertions; a hidden node under two cases; two with unlike hashes
-    ∷ checkWalk (unit ∷ h ∷ case 0 1 ∷ []) is passed tt
-    ∷ checkWalk (h ∷ unit ∷ case 0 1 ∷ []) is passed tt
-    ∷ checkWalk (unit ∷ h ∷ case 0 1 ∷ case 1 0 ∷ pair 2 3 ∷ []) is passed tt
-    ∷ checkWalk (unit ∷ h ∷ case 0 1 ∷ g ∷ case 2 3 ∷ []) is passed tt
-    ∷ checkWalk (unit ∷ h ∷ case 0 1 ∷ h ∷ case 2 3 ∷ []) is refused (NodeRepeated 3)
-    ∷ checkWalk (h ∷ take 0 ∷ []) is refused (HiddenElsewhere 1)
-    ∷ checkWalk (h ∷ case 0 0 ∷ []) is refused (BothHidden 1)
+    ∷ check_walk (unit ∷ h ∷ case 0 1 ∷ []) is passed tt
+    ∷ check_walk (h ∷ unit ∷ case 0 1 ∷ []) is passed tt
+    ∷ check_walk (unit ∷ h ∷ case 0 1 ∷ case 1 0 ∷ pair 2 3 ∷ []) is passed tt
+    ∷ check_walk (unit ∷ h ∷ case 0 1 ∷ g ∷ case 2 3 ∷ []) is passed tt
+    ∷ check_walk (unit ∷ h ∷ case 0 1 ∷ h ∷ case 2 3 ∷ []) is refused (NodeRepeated 3)
+    ∷ check_walk (h ∷ take 0 ∷ []) is refused (HiddenElsewhere 1)
+    ∷ check_walk (h ∷ case 0 0 ∷ []) is refused (BothHidden 1)
     -- a hidden last node
-    ∷ checkWalk (h ∷ []) is refused (HiddenElsewhere 0)
+    ∷ check_walk (h ∷ []) is refused (HiddenElsewhere 0)
     -- within one step 6 comes before 7, 8 and 9
-    ∷ checkWalk (h ∷ unit ∷ take 0 ∷ []) is refused (CanonicalOrder 1)
-    ∷ checkWalk (h ∷ unit ∷ case 0 0 ∷ []) is refused (CanonicalOrder 1)
-    ∷ checkWalk (h ∷ unit ∷ h ∷ case 0 2 ∷ []) is refused (CanonicalOrder 1)
-    ∷ checkWalk (h ∷ unit ∷ h ∷ []) is refused (CanonicalOrder 0)
+    ∷ check_walk (h ∷ unit ∷ take 0 ∷ []) is refused (CanonicalOrder 1)
+    ∷ check_walk (h ∷ unit ∷ case 0 0 ∷ []) is refused (CanonicalOrder 1)
+    ∷ check_walk (h ∷ unit ∷ h ∷ case 0 2 ∷ []) is refused (CanonicalOrder 1)
+    ∷ check_walk (h ∷ unit ∷ h ∷ []) is refused (CanonicalOrder 0)
     -- along the walk the first fault is told, whatever its number
-    ∷ checkWalk (h ∷ take 0 ∷ unit ∷ iden ∷ comp 3 2 ∷ comp 1 4 ∷ []) is refused (HiddenElsewhere 1)
-    ∷ checkWalk (h ∷ case 0 0 ∷ h ∷ take 2 ∷ pair 1 3 ∷ []) is refused (BothHidden 1)
-    ∷ checkWalk (h ∷ h ∷ case 0 1 ∷ []) is refused (NodeRepeated 1)
+    ∷ check_walk (h ∷ take 0 ∷ unit ∷ iden ∷ comp 3 2 ∷ comp 1 4 ∷ []) is refused (HiddenElsewhere 1)
+    ∷ check_walk (h ∷ case 0 0 ∷ h ∷ take 2 ∷ pair 1 3 ∷ []) is refused (BothHidden 1)
+    ∷ check_walk (h ∷ h ∷ case 0 1 ∷ []) is refused (NodeRepeated 1)
     ∷ [])
-unfolding Hold checkWalk
+unfolding Hold check_walk
 walks = refl
 
 -- from a node on: what is done before stays done; a node past the table is passed over
 walks_from : Hold (
-    walkFrom (unit ∷ injl 0 ∷ iden ∷ []) 1 [] is passed (0 ∷ 1 ∷ [])
-    ∷ walkFrom (unit ∷ injl 0 ∷ iden ∷ []) 1 (0 ∷ []) is passed (0 ∷ 1 ∷ [])
-    ∷ walkFrom (unit ∷ injl 0 ∷ iden ∷ []) 1 (0 ∷ 1 ∷ []) is passed (0 ∷ 1 ∷ [])
-    ∷ walkFrom (unit ∷ injl 0 ∷ iden ∷ []) 3 (0 ∷ []) is passed (0 ∷ [])
-    ∷ walkFrom (unit ∷ case 0 7 ∷ []) 1 [] is passed (0 ∷ 1 ∷ [])
+    walk_from (unit ∷ injl 0 ∷ iden ∷ []) 1 [] is passed (0 ∷ 1 ∷ [])
+    ∷ walk_from (unit ∷ injl 0 ∷ iden ∷ []) 1 (0 ∷ []) is passed (0 ∷ 1 ∷ [])
+    ∷ walk_from (unit ∷ injl 0 ∷ iden ∷ []) 1 (0 ∷ 1 ∷ []) is passed (0 ∷ 1 ∷ [])
+    ∷ walk_from (unit ∷ injl 0 ∷ iden ∷ []) 3 (0 ∷ []) is passed (0 ∷ [])
+    ∷ walk_from (unit ∷ case 0 7 ∷ []) 1 [] is passed (0 ∷ 1 ∷ [])
     -- a node comes when as many are done as stand before it, no fewer and no more
-    ∷ walkFrom (unit ∷ iden ∷ []) 1 [] is refused (CanonicalOrder 0)
-    ∷ walkFrom (unit ∷ iden ∷ []) 0 (5 ∷ 6 ∷ []) is refused (CanonicalOrder 2)
+    ∷ walk_from (unit ∷ iden ∷ []) 1 [] is refused (CanonicalOrder 0)
+    ∷ walk_from (unit ∷ iden ∷ []) 0 (5 ∷ 6 ∷ []) is refused (CanonicalOrder 2)
     ∷ [])
-unfolding Hold walkFrom
+unfolding Hold walk_from
 walks_from = refl
 
 -- fewer than eight bits after the position, all zero
@@ -149,19 +149,19 @@ decoded : Hold (
     ∷ decode (0xEC ∷ 0 ∷ 0 ∷ []) 4096 0 is refused (StreamEnded 0)
     ∷ decode (0xEC ∷ 0 ∷ 0x10 ∷ []) 0 0 is refused (BadNatural 0)
     -- above the dossier's limit before all else
-    ∷ decode (zeros (dossierBytes + 1)) 0 0 is refused (Header 0)
+    ∷ decode (zeros (dossier_bytes + 1)) 0 0 is refused (Header 0)
     -- at the limit it is read: its count has a length that is too long
-    ∷ decode (0xF1 ∷ zeros (dossierBytes - 1)) 0 0 is refused (Overlong 0)
+    ∷ decode (0xF1 ∷ zeros (dossier_bytes - 1)) 0 0 is refused (Overlong 0)
     ∷ [])
 unfolding Hold decode
 decoded = refl
 
 -- a refusal leaves zeros alone; else the table, and zeros after it
-left-in-stores : Hold (
-    nodesLeft (passed (table (row 9 0 0 ∷ []) (7 ∷ []) 6)) (1 ∷ 1 ∷ 1 ∷ 1 ∷ 1 ∷ []) is (9 ∷ 0 ∷ 0 ∷ 0 ∷ 0 ∷ [])
-    ∷ nodesLeft (refused (Jet 1)) (1 ∷ 1 ∷ []) is (0 ∷ 0 ∷ [])
-    ∷ hashesLeft (passed (table (row 9 0 0 ∷ []) (7 ∷ []) 6)) (1 ∷ 1 ∷ []) is (7 ∷ 0 ∷ [])
-    ∷ hashesLeft (refused (Jet 1)) (1 ∷ 1 ∷ []) is (0 ∷ 0 ∷ [])
+left_in_stores : Hold (
+    nodes_left (passed (table (row 9 0 0 ∷ []) (7 ∷ []) 6)) (1 ∷ 1 ∷ 1 ∷ 1 ∷ 1 ∷ []) is (9 ∷ 0 ∷ 0 ∷ 0 ∷ 0 ∷ [])
+    ∷ nodes_left (refused (Jet 1)) (1 ∷ 1 ∷ []) is (0 ∷ 0 ∷ [])
+    ∷ hashes_left (passed (table (row 9 0 0 ∷ []) (7 ∷ []) 6)) (1 ∷ 1 ∷ []) is (7 ∷ 0 ∷ [])
+    ∷ hashes_left (refused (Jet 1)) (1 ∷ 1 ∷ []) is (0 ∷ 0 ∷ [])
     ∷ [])
-unfolding Hold nodesLeft hashesLeft
-left-in-stores = refl
+unfolding Hold nodes_left hashes_left
+left_in_stores = refl

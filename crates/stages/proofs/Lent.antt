@@ -8,164 +8,164 @@ use Prim.Native.Nat.{ℕ, ◌*◌, ◌<◌, ◌≤◌}
 use lib.Dec.{leb}
 use lib.ListN.{length}
 use borrow.Author.Tests.{leb-true, le-leb, lt-leb}
-use Rattle.limits.specs.Limits.{typeCount, nodeCount, dossierBytes}
+use Rattle.limits.specs.Limits.{type_count, node_count, dossier_bytes}
 use Rattle.refusal.specs.declared.Refusal.{Refusal}
 use Rattle.refusal.specs.declared.Refusal.TheVariants.{Header, NodeRecord as BadNodeRecord}
 use Rattle.scope.specs.Check.{Check, passed, refused, ◌>>=◌, require}
-use Rattle.scope.specs.Numbers.{streamOf}
-use Rattle.scope.specs.Types.{typeRecords, checkTypes}
-use Rattle.scope.specs.Nodes.{nodeRecords, nodesOf}
-use Rattle.scope.specs.Walk.{checkWalk}
-use Rattle.scope.specs.Arrows.{arrowRecords, checkArrows}
-use Rattle.scope.specs.Hashes.{checkHashes}
-use Rattle.scope.specs.Run.{checkTables}
-use Rattle.scope.specs.Stages.{counted, recordRule, checkRecords, lentTables, tablesLent, arrowStage, hashStage}
-use Rattle.common.specs.Checks.{both-passed, require-holds, each_holds, then-then, stops, passes}
-use Rattle.types.specs.Table.{countedTypes}
-use Rattle.table.specs.Lent.{lentNodes}
-use Rattle.table.specs.Stage.{countedRecords, countedWalk}
-use Rattle.table.proofs.AnyBits.{walk-any-bits}
-use Rattle.arrow.specs.Stage.{countedArrows}
-use Rattle.arrow.proofs.Stages.{arrows-counted}
-use Rattle.arrow.proofs.Alike.{arrows-alike}
-use Rattle.hashes.specs.Hashes.{countedHashes}
-use Rattle.hashes.proofs.Entries.{hashes-alike}
-use Rattle.stages.specs.Stage.{toldTables, toldArrows, toldHashes}
+use Rattle.scope.specs.Numbers.{stream_of}
+use Rattle.scope.specs.Types.{type_records, check_types}
+use Rattle.scope.specs.Nodes.{node_records, nodes_of}
+use Rattle.scope.specs.Walk.{check_walk}
+use Rattle.scope.specs.Arrows.{arrow_records, check_arrows}
+use Rattle.scope.specs.Hashes.{check_hashes}
+use Rattle.scope.specs.Run.{check_tables}
+use Rattle.scope.specs.Stages.{counted, record_rule, check_records, lent_tables, tables_lent, arrow_stage, hash_stage}
+use Rattle.common.specs.Checks.{both_passed, require_holds, each_holds, then_then, stops, passes}
+use Rattle.types.specs.Table.{counted_types}
+use Rattle.table.specs.Lent.{lent_nodes}
+use Rattle.table.specs.Stage.{counted_records, counted_walk}
+use Rattle.table.proofs.AnyBits.{walk_any_bits}
+use Rattle.arrow.specs.Stage.{counted_arrows}
+use Rattle.arrow.proofs.Stages.{arrows_counted}
+use Rattle.arrow.proofs.Alike.{arrows_alike}
+use Rattle.hashes.specs.Hashes.{counted_hashes}
+use Rattle.hashes.proofs.Entries.{hashes_alike}
+use Rattle.stages.specs.Stage.{told_tables, told_arrows, told_hashes}
 
 -- the tables, told what the check of the types said
 module _ (said : Check (Unit {0})) (types nodes program hashes : List ℕ) where
   -- what is left of the checks from the types' count on, from the records, from the program's length, from the types' rules
-  abbrev nodesWalk : Check (Unit {0})
-  nodesWalk = checkWalk (nodesOf (streamOf program) hashes (nodeRecords nodes))
+  abbrev nodes_walk : Check (Unit {0})
+  nodes_walk = check_walk (nodes_of (stream_of program) hashes (node_records nodes))
 
-  abbrev fromTypes : Check (Unit {0})
-  fromTypes = said >>= λ held. nodesWalk
+  abbrev from_types : Check (Unit {0})
+  from_types = said >>= λ held. nodes_walk
 
-  abbrev fromLength : Check (Unit {0})
-  fromLength = require (leb (length program) dossierBytes) (Header 0) >>= λ fits. fromTypes
+  abbrev from_length : Check (Unit {0})
+  from_length = require (leb (length program) dossier_bytes) (Header 0) >>= λ fits. from_types
 
-  abbrev fromRecords : Check (Unit {0})
-  fromRecords = checkRecords program hashes (nodeRecords nodes) >>= λ records. fromLength
+  abbrev from_records : Check (Unit {0})
+  from_records = check_records program hashes (node_records nodes) >>= λ records. from_length
 
-  abbrev fromCount : Check (Unit {0})
-  fromCount = counted (length (typeRecords types)) typeCount >>= λ some. fromRecords
+  abbrev from_count : Check (Unit {0})
+  from_count = counted (length (type_records types)) type_count >>= λ some. from_records
 
   abbrev pub tables : Check (Unit {0})
-  tables = toldTables said types nodes program hashes
+  tables = told_tables said types nodes program hashes
 
-  tables-by : (counted (length (nodeRecords nodes)) nodeCount >>= λ some. fromCount) ≡ tables
-  unfolding toldTables
-  tables-by = refl
+  tables_by : (counted (length (node_records nodes)) node_count >>= λ some. from_count) ≡ tables
+  unfolding told_tables
+  tables_by = refl
 
-  pub nodes-stop : {why : Refusal} → counted (length (nodeRecords nodes)) nodeCount ≡ refused why → counted (length (nodeRecords nodes)) nodeCount
+  pub nodes_stop : {why : Refusal} → counted (length (node_records nodes)) node_count ≡ refused why → counted (length (node_records nodes)) node_count
       ≡ tables
-  nodes-stop e = stops e (λ x. fromCount) ∙ tables-by
+  nodes_stop e = stops e (λ x. from_count) ∙ tables_by
 
   -- once the nodes are counted
-  module _ (some : counted (length (nodeRecords nodes)) nodeCount ≡ passed tt) where
-    from-count : fromCount ≡ tables
-    from-count = passes some (λ x. fromCount) ∙ tables-by
+  module _ (some : counted (length (node_records nodes)) node_count ≡ passed tt) where
+    from_count_lem : from_count ≡ tables
+    from_count_lem = passes some (λ x. from_count) ∙ tables_by
 
-    pub types-stop : {why : Refusal} → counted (length (typeRecords types)) typeCount ≡ refused why → counted (length (typeRecords types)) typeCount
+    pub types_stop : {why : Refusal} → counted (length (type_records types)) type_count ≡ refused why → counted (length (type_records types)) type_count
         ≡ tables
-    types-stop e = stops e (λ x. fromRecords) ∙ from-count
+    types_stop e = stops e (λ x. from_records) ∙ from_count_lem
 
-    records-are : countedRecords program hashes nodes ≡ checkRecords program hashes (nodeRecords nodes)
-    unfolding countedRecords
-    records-are = sym (passes some (λ x. checkRecords program hashes (nodeRecords nodes)))
+    records_are : counted_records program hashes nodes ≡ check_records program hashes (node_records nodes)
+    unfolding counted_records
+    records_are = sym (passes some (λ x. check_records program hashes (node_records nodes)))
 
     -- and the types
-    module _ (typed : counted (length (typeRecords types)) typeCount ≡ passed tt) where
-      from-records : fromRecords ≡ tables
-      from-records = passes typed (λ x. fromRecords) ∙ from-count
+    module _ (typed : counted (length (type_records types)) type_count ≡ passed tt) where
+      from_records_lem : from_records ≡ tables
+      from_records_lem = passes typed (λ x. from_records) ∙ from_count_lem
 
-      pub records-stop : {why : Refusal} → countedRecords program hashes nodes ≡ refused why → countedRecords program hashes nodes ≡ tables
-      records-stop e = records-are ∙ stops (sym records-are ∙ e) (λ x. fromLength) ∙ from-records
+      pub records_stop : {why : Refusal} → counted_records program hashes nodes ≡ refused why → counted_records program hashes nodes ≡ tables
+      records_stop e = records_are ∙ stops (sym records_are ∙ e) (λ x. from_length) ∙ from_records_lem
 
       -- and the records keep their rules
-      module _ (records : countedRecords program hashes nodes ≡ passed tt) where
-        from-length : fromLength ≡ tables
-        from-length = passes (sym records-are ∙ records) (λ x. fromLength) ∙ from-records
+      module _ (records : counted_records program hashes nodes ≡ passed tt) where
+        from_length_lem : from_length ≡ tables
+        from_length_lem = passes (sym records_are ∙ records) (λ x. from_length) ∙ from_records_lem
 
-        pub too_long : dossierBytes < length program → refused (Header 0) ≡ tables
+        pub too_long_lem : dossier_bytes < length program → refused (Header 0) ≡ tables
         unfolding require ◌>>=◌
-        too_long h = rw (lt-leb (length program) dossierBytes h) at from-length
+        too_long_lem h = rw (lt-leb (length program) dossier_bytes h) at from_length_lem
 
         -- and the program fits
-        module _ (fits : length program ≤ dossierBytes) where
-          from-types : fromTypes ≡ tables
+        module _ (fits : length program ≤ dossier_bytes) where
+          from_types_lem : from_types ≡ tables
           unfolding require ◌>>=◌
-          from-types = rw (le-leb (length program) dossierBytes fits) at from-length
+          from_types_lem = rw (le-leb (length program) dossier_bytes fits) at from_length_lem
 
-          pub rules-stop : {why : Refusal} → said ≡ refused why → said ≡ tables
-          rules-stop e = stops e (λ x. nodesWalk) ∙ from-types
+          pub rules_stop : {why : Refusal} → said ≡ refused why → said ≡ tables
+          rules_stop e = stops e (λ x. nodes_walk) ∙ from_types_lem
 
-          pub walk-last : said ≡ passed tt → countedWalk hashes nodes ≡ tables
-          unfolding countedWalk
-          walk-last e =
-              sym (passes some (λ x. checkWalk (lentNodes hashes nodes))) ∙ sym (walk-any-bits (streamOf program) hashes (nodeRecords nodes))
-              ∙ passes e (λ x. nodesWalk) ∙ from-types
+          pub walk_last : said ≡ passed tt → counted_walk hashes nodes ≡ tables
+          unfolding counted_walk
+          walk_last e =
+              sym (passes some (λ x. check_walk (lent_nodes hashes nodes))) ∙ sym (walk_any_bits (stream_of program) hashes (node_records nodes))
+              ∙ passes e (λ x. nodes_walk) ∙ from_types_lem
 
   -- tables that passed have a fine count of nodes
-  pub tables-counted : tables ≡ passed tt → counted (length (nodeRecords nodes)) nodeCount ≡ passed tt
-  tables-counted e = (both-passed (counted (length (nodeRecords nodes)) nodeCount) (λ x. fromCount) tt (tables-by ∙ e)).1
+  pub tables-counted : tables ≡ passed tt → counted (length (node_records nodes)) node_count ≡ passed tt
+  tables-counted e = (both_passed (counted (length (node_records nodes)) node_count) (λ x. from_count) tt (tables_by ∙ e)).1
 
   -- a program within the limit, and records that keep their rules
-  pub tables-kept : tables ≡ passed tt → (length program ≤ dossierBytes)
-      × ((i : ℕ) → i < length (nodeRecords nodes) → recordRule (8 * length program) (length hashes) (nodeRecords nodes) i ≡ true)
-  unfolding checkRecords
-  tables-kept e =
-      let a = both-passed (counted (length (nodeRecords nodes)) nodeCount) (λ x. fromCount) tt (tables-by ∙ e) in
-      let b = both-passed (counted (length (typeRecords types)) typeCount) (λ x. fromRecords) tt a.2 in
-      let c = both-passed (checkRecords program hashes (nodeRecords nodes)) (λ x. fromLength) tt b.2 in
-      let d = both-passed (require (leb (length program) dossierBytes) (Header 0)) (λ x. fromTypes) tt c.2 in (
-        leb-true (length program) dossierBytes (require-holds (leb (length program) dossierBytes) (Header 0) _ d.1),
-        each_holds (length (nodeRecords nodes)) (recordRule (8 * length program) (length hashes) (nodeRecords nodes)) BadNodeRecord _ c.1,
+  pub tables_kept : tables ≡ passed tt → (length program ≤ dossier_bytes)
+      × ((i : ℕ) → i < length (node_records nodes) → record_rule (8 * length program) (length hashes) (node_records nodes) i ≡ true)
+  unfolding check_records
+  tables_kept e =
+      let a = both_passed (counted (length (node_records nodes)) node_count) (λ x. from_count) tt (tables_by ∙ e) in
+      let b = both_passed (counted (length (type_records types)) type_count) (λ x. from_records) tt a.2 in
+      let c = both_passed (check_records program hashes (node_records nodes)) (λ x. from_length) tt b.2 in
+      let d = both_passed (require (leb (length program) dossier_bytes) (Header 0)) (λ x. from_types) tt c.2 in (
+        leb-true (length program) dossier_bytes (require_holds (leb (length program) dossier_bytes) (Header 0) _ d.1),
+        each_holds (length (node_records nodes)) (record_rule (8 * length program) (length hashes) (node_records nodes)) BadNodeRecord _ c.1,
       )
 
   -- their arrows, and their hashes
   module _ (arrows : List ℕ) where
-    pub told-arrows-stop : {why : Refusal} → tables ≡ refused why → tables ≡ toldArrows said types nodes arrows program hashes
-    unfolding toldArrows
-    told-arrows-stop e = stops e _
+    pub told_arrows_stop : {why : Refusal} → tables ≡ refused why → tables ≡ told_arrows said types nodes arrows program hashes
+    unfolding told_arrows
+    told_arrows_stop e = stops e _
 
-    pub told-arrows-last : tables ≡ passed tt → countedArrows types nodes arrows program hashes ≡ toldArrows said types nodes arrows program hashes
-    unfolding toldArrows
-    told-arrows-last e =
-        sym (arrows-counted types nodes arrows program hashes (tables-counted e))
-        ∙ arrows-alike types nodes arrows program hashes (tables-kept e).0 (tables-kept e).1
-        ∙ passes e (λ x. checkArrows (typeRecords types) (nodesOf (streamOf program) hashes (nodeRecords nodes)) (arrowRecords arrows))
+    pub told_arrows_last : tables ≡ passed tt → counted_arrows types nodes arrows program hashes ≡ told_arrows said types nodes arrows program hashes
+    unfolding told_arrows
+    told_arrows_last e =
+        sym (arrows_counted types nodes arrows program hashes (tables-counted e))
+        ∙ arrows_alike types nodes arrows program hashes (tables_kept e).0 (tables_kept e).1
+        ∙ passes e (λ x. check_arrows (type_records types) (nodes_of (stream_of program) hashes (node_records nodes)) (arrow_records arrows))
 
     -- arrows that passed have a fine count of nodes
-    arrows-some : toldArrows said types nodes arrows program hashes ≡ passed tt → counted (length (nodeRecords nodes)) nodeCount ≡ passed tt
-    unfolding toldArrows
-    arrows-some e =
+    arrows_some : told_arrows said types nodes arrows program hashes ≡ passed tt → counted (length (node_records nodes)) node_count ≡ passed tt
+    unfolding told_arrows
+    arrows_some e =
         tables-counted
-        (both-passed tables (λ x. checkArrows (typeRecords types) (nodesOf (streamOf program) hashes (nodeRecords nodes)) (arrowRecords arrows)) tt
+        (both_passed tables (λ x. check_arrows (type_records types) (nodes_of (stream_of program) hashes (node_records nodes)) (arrow_records arrows)) tt
         e).1
 
     module _ (given : List ℕ) where
-      pub told-hashes-stop : {why : Refusal} → toldArrows said types nodes arrows program hashes ≡ refused why
-          → toldArrows said types nodes arrows program hashes ≡ toldHashes said types nodes arrows program hashes given
-      unfolding toldHashes
-      told-hashes-stop e = stops e _
+      pub told_hashes_stop : {why : Refusal} → told_arrows said types nodes arrows program hashes ≡ refused why
+          → told_arrows said types nodes arrows program hashes ≡ told_hashes said types nodes arrows program hashes given
+      unfolding told_hashes
+      told_hashes_stop e = stops e _
 
-      pub told-hashes-last : toldArrows said types nodes arrows program hashes ≡ passed tt
-          → countedHashes nodes given ≡ toldHashes said types nodes arrows program hashes given
-      unfolding countedHashes toldHashes
-      told-hashes-last e =
-          sym (passes (arrows-some e) (λ x. checkHashes (lentNodes [] nodes) given))
-          ∙ sym (hashes-alike (streamOf program) hashes (nodeRecords nodes) given)
-          ∙ passes e (λ arrowed. checkHashes (nodesOf (streamOf program) hashes (nodeRecords nodes)) given)
+      pub told_hashes_last : told_arrows said types nodes arrows program hashes ≡ passed tt
+          → counted_hashes nodes given ≡ told_hashes said types nodes arrows program hashes given
+      unfolding counted_hashes told_hashes
+      told_hashes_last e =
+          sym (passes (arrows_some e) (λ x. check_hashes (lent_nodes [] nodes) given))
+          ∙ sym (hashes_alike (stream_of program) hashes (node_records nodes) given)
+          ∙ passes e (λ arrowed. check_hashes (nodes_of (stream_of program) hashes (node_records nodes)) given)
 
 -- TOLD WHAT THE CHECK OF THE TYPES SAYS, THE TABLES ARE THE STAGES
 module _ (types nodes program hashes : List ℕ) where
-  tables-told : toldTables (countedTypes types) types nodes program hashes ≡ lentTables types nodes program hashes
-  unfolding toldTables countedTypes lentTables ◌>>=◌
-  tables-told =
-      go (counted (length (nodeRecords nodes)) nodeCount) (counted (length (typeRecords types)) typeCount)
-      (checkRecords program hashes (nodeRecords nodes)) (require (leb (length program) dossierBytes) (Header 0))
-      (checkTypes (typeRecords types)) (checkWalk (nodesOf (streamOf program) hashes (nodeRecords nodes)))
+  tables_told : told_tables (counted_types types) types nodes program hashes ≡ lent_tables types nodes program hashes
+  unfolding told_tables counted_types lent_tables ◌>>=◌
+  tables_told =
+      go (counted (length (node_records nodes)) node_count) (counted (length (type_records types)) type_count)
+      (check_records program hashes (node_records nodes)) (require (leb (length program) dossier_bytes) (Header 0))
+      (check_types (type_records types)) (check_walk (nodes_of (stream_of program) hashes (node_records nodes)))
     where
       go : (some typed records fits rules walked : Check (Unit {0}))
           → (some >>= λ x. typed >>= λ x. records >>= λ x. fits >>= λ x. (typed >>= λ x. rules) >>= λ x. walked)
@@ -175,27 +175,27 @@ module _ (types nodes program hashes : List ℕ) where
       go (passed x) (passed y) records fits rules walked = refl
 
   module _ (arrows : List ℕ) where
-    pub arrows-told : (said : Check (Unit {0})) → said ≡ countedTypes types → toldArrows said types nodes arrows program hashes
-        ≡ arrowStage types nodes arrows program hashes
-    unfolding toldArrows arrowStage tablesLent
-    arrows-told said is =
-        ap (λ (c : Check (Unit {0})). c >>= λ tables. checkArrows (typeRecords types) (nodesOf (streamOf program) hashes (nodeRecords nodes))
-        (arrowRecords arrows))
-        (ap (λ (c : Check (Unit {0})). toldTables c types nodes program hashes) is ∙ tables-told)
+    pub arrows_told : (said : Check (Unit {0})) → said ≡ counted_types types → told_arrows said types nodes arrows program hashes
+        ≡ arrow_stage types nodes arrows program hashes
+    unfolding told_arrows arrow_stage tables_lent
+    arrows_told said is =
+        ap (λ (c : Check (Unit {0})). c >>= λ tables. check_arrows (type_records types) (nodes_of (stream_of program) hashes (node_records nodes))
+        (arrow_records arrows))
+        (ap (λ (c : Check (Unit {0})). told_tables c types nodes program hashes) is ∙ tables_told)
 
     -- the stage of the hashes goes on where that of the arrows passed
-    pub hash-stage-by : (given : List ℕ) → (arrowStage types nodes arrows program hashes >>= λ arrowed. checkHashes
-        (nodesOf (streamOf program) hashes (nodeRecords nodes)) given)
-        ≡ hashStage types nodes arrows program hashes given
-    unfolding arrowStage hashStage checkTables tablesLent
-    hash-stage-by given =
-        then-then (lentTables types nodes program hashes)
-        (λ x. checkArrows (typeRecords types) (nodesOf (streamOf program) hashes (nodeRecords nodes)) (arrowRecords arrows))
-        (λ arrowed. checkHashes (nodesOf (streamOf program) hashes (nodeRecords nodes)) given)
+    pub hash_stage_by : (given : List ℕ) → (arrow_stage types nodes arrows program hashes >>= λ arrowed. check_hashes
+        (nodes_of (stream_of program) hashes (node_records nodes)) given)
+        ≡ hash_stage types nodes arrows program hashes given
+    unfolding arrow_stage hash_stage check_tables tables_lent
+    hash_stage_by given =
+        then_then (lent_tables types nodes program hashes)
+        (λ x. check_arrows (type_records types) (nodes_of (stream_of program) hashes (node_records nodes)) (arrow_records arrows))
+        (λ arrowed. check_hashes (nodes_of (stream_of program) hashes (node_records nodes)) given)
 
-    pub hashes-told : (given : List ℕ) (said : Check (Unit {0})) → said ≡ countedTypes types
-        → toldHashes said types nodes arrows program hashes given ≡ hashStage types nodes arrows program hashes given
-    unfolding toldHashes
-    hashes-told given said is =
-        ap (λ (c : Check (Unit {0})). c >>= λ arrowed. checkHashes (nodesOf (streamOf program) hashes (nodeRecords nodes)) given)
-        (arrows-told said is) ∙ hash-stage-by given
+    pub hashes_told : (given : List ℕ) (said : Check (Unit {0})) → said ≡ counted_types types
+        → told_hashes said types nodes arrows program hashes given ≡ hash_stage types nodes arrows program hashes given
+    unfolding told_hashes
+    hashes_told given said is =
+        ap (λ (c : Check (Unit {0})). c >>= λ arrowed. check_hashes (nodes_of (stream_of program) hashes (node_records nodes)) given)
+        (arrows_told said is) ∙ hash_stage_by given

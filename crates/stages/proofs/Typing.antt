@@ -8,41 +8,41 @@ use native.Mathlib.Omega.{arith}
 use lib.ListN.{length}
 use Rattle.report.specs.Canonical.{children}
 use Rattle.scope.specs.Check.{passed}
-use Rattle.scope.specs.Numbers.{streamOf}
-use Rattle.scope.specs.Types.{typeRecords}
-use Rattle.scope.specs.Nodes.{nodeRecords, nodeAt}
-use Rattle.scope.specs.Arrows.{arrowRecords, checkArrows}
-use Rattle.scope.specs.Stages.{lentTables, tablesLent, arrowStage}
-use Rattle.common.specs.Checks.{then-passes}
+use Rattle.scope.specs.Numbers.{stream_of}
+use Rattle.scope.specs.Types.{type_records}
+use Rattle.scope.specs.Nodes.{node_records, node_at}
+use Rattle.scope.specs.Arrows.{arrow_records, check_arrows}
+use Rattle.scope.specs.Stages.{lent_tables, tables_lent, arrow_stage}
+use Rattle.common.specs.Checks.{then_passes}
 use Rattle.common.specs.Bits.{AllBelow}
-use Rattle.exactness.specs.Types.{types-pass}
+use Rattle.exactness.specs.Types.{types_pass}
 use Rattle.exactness.specs.NodeTyping.{ArrowsTyped}
 use Rattle.exactness.specs.Equal.{NoneEqual}
-use Rattle.exactness.specs.Arrows.{arrows-typed, typed-arrows}
-use Rattle.common.specs.Nodes.{length-nodes}
-use Rattle.stages.proofs.Passed.{nodesIn, LentPassed, lent-passed, lent_below, stage-passed}
+use Rattle.exactness.specs.Arrows.{arrows_typed, typed_arrows}
+use Rattle.common.specs.Nodes.{length_nodes}
+use Rattle.stages.proofs.Passed.{nodes_in, LentPassed, lent_passed, lent_below, stage_passed}
 
 module _ (types nodes arrows program hashes : List ℕ) where
-  below : LentPassed types nodes program hashes → (i : ℕ) → i < length (nodesIn nodes program hashes) → AllBelow i
-      (children (nodeAt (nodesIn nodes program hashes) i))
-  below p i h = lent_below types nodes program hashes p i (omega (arith, length-nodes (streamOf program) hashes (nodeRecords nodes)))
+  below : LentPassed types nodes program hashes → (i : ℕ) → i < length (nodes_in nodes program hashes) → AllBelow i
+      (children (node_at (nodes_in nodes program hashes) i))
+  below p i h = lent_below types nodes program hashes p i (omega (arith, length_nodes (stream_of program) hashes (node_records nodes)))
 
   -- THE STAGE OF THE ARROWS PASSES EXACTLY IF THE TABLES DO, EVERY NODE HAS THE REPORT'S TYPING AT ITS ARROW, AND NO TWO NODES ARE EQUAL
-  pub stage-typed : (arrowStage types nodes arrows program hashes ≡ passed tt)
-      ↔ ((lentTables types nodes program hashes ≡ passed tt) × ArrowsTyped (typeRecords types) (nodesIn nodes program hashes) (arrowRecords arrows)
-      × NoneEqual (nodesIn nodes program hashes) (arrowRecords arrows))
-  unfolding arrowStage tablesLent
-  stage-typed = (
+  pub stage_typed : (arrow_stage types nodes arrows program hashes ≡ passed tt)
+      ↔ ((lent_tables types nodes program hashes ≡ passed tt) × ArrowsTyped (type_records types) (nodes_in nodes program hashes) (arrow_records arrows)
+      × NoneEqual (nodes_in nodes program hashes) (arrow_records arrows))
+  unfolding arrow_stage tables_lent
+  stage_typed = (
     (λ e.
-        let a = stage-passed types nodes program hashes arrows e in
-        let p = lent-passed types nodes program hashes a.0 in
-        let t = arrows-typed (typeRecords types) (types-pass (typeRecords types) p.types-kept) (nodesIn nodes program hashes) (arrowRecords arrows)
+        let a = stage_passed types nodes program hashes arrows e in
+        let p = lent_passed types nodes program hashes a.0 in
+        let t = arrows_typed (type_records types) (types_pass (type_records types) p.types_kept) (nodes_in nodes program hashes) (arrow_records arrows)
         (below p) a.1 in
         (a.0, t.0, t.1)),
     (λ h.
-        let p = lent-passed types nodes program hashes h.0 in
-        then-passes (lentTables types nodes program hashes)
-        (λ tables. checkArrows (typeRecords types) (nodesIn nodes program hashes) (arrowRecords arrows)) tt h.0
-        ∙ typed-arrows (typeRecords types) (types-pass (typeRecords types) p.types-kept) (nodesIn nodes program hashes) (arrowRecords arrows)
+        let p = lent_passed types nodes program hashes h.0 in
+        then_passes (lent_tables types nodes program hashes)
+        (λ tables. check_arrows (type_records types) (nodes_in nodes program hashes) (arrow_records arrows)) tt h.0
+        ∙ typed_arrows (type_records types) (types_pass (type_records types) p.types_kept) (nodes_in nodes program hashes) (arrow_records arrows)
         (below p) h.1 h.2),
   )

@@ -1,8 +1,8 @@
 -- What a stage hands back, in the definitions: its verdict, and the checked type table.
 use Rattle.scope.specs.Check.{Check}
-use Rattle.common.specs.Answers.{checkOf}
+use Rattle.common.specs.Answers.{check_of}
 use Rattle.types.specs.declared.TypeTable.{TypeTable}
 use Rattle.stages.specs.declared.Staged.{Staged}
 
-abbrev pub stagedOf : Staged → Check (Unit {0}) × TypeTable
-stagedOf s = (checkOf s.answer, s.table)
+abbrev pub staged_of : Staged → Check (Unit {0}) × TypeTable
+staged_of s = (check_of s.answer, s.table)

@@ -2,11 +2,11 @@
 // for equal nodes), then the supplied hashes (13). The check of the types makes arrays of widths and of next records. A stage hands them
 // back with its verdict, so that who goes on after it checks no table twice and is told nothing by a caller.
 ghost use Rattle.std.specs.Prelude.{◌≡◌};
-ghost use Rattle.scope.specs.Stages.{arrowStage, hashStage};
-ghost use Rattle.types.specs.Table.{typeTable};
-ghost use Rattle.common.specs.Answers.{checkOf};
-ghost use Rattle.stages.specs.Answers.{stagedOf};
-ghost use Rattle.stages.specs.Stage.{toldTables, toldArrows, toldHashes};
+ghost use Rattle.scope.specs.Stages.{arrow_stage, hash_stage};
+ghost use Rattle.types.specs.Table.{type_table};
+ghost use Rattle.common.specs.Answers.{check_of};
+ghost use Rattle.stages.specs.Answers.{staged_of};
+ghost use Rattle.stages.specs.Stage.{told_tables, told_arrows, told_hashes};
 
 use common::Checked;
 use refusal::Refusal;
@@ -20,7 +20,7 @@ pub struct Staged {
 
 // Lent tables tested again, where the check of the types said this: 4 of the nodes, then of the types, 26, 1 for a program over the limit, 2, then 6 to 9.
 fn told_tables(held: Checked, types: &[u8], nodes: &[u32], program: &[u8], hashes: &[u8]) -> Checked
-    ensures { checkOf result ≡ toldTables (checkOf held) types.now nodes.now program.now hashes.now }
+    ensures { check_of result ≡ told_tables (check_of held) types.now nodes.now program.now hashes.now }
 {
     let some = table::check_count(nodes);
     let Checked::Passed = some else {
@@ -52,7 +52,7 @@ fn told_arrows(
     program: &[u8],
     hashes: &[u8],
 ) -> Checked
-    ensures { checkOf result ≡ toldArrows (checkOf held) types.now nodes.now arrows.now
+    ensures { check_of result ≡ told_arrows (check_of held) types.now nodes.now arrows.now
         program.now hashes.now }
 {
     let tables = told_tables(held, types, nodes, program, hashes);
@@ -72,7 +72,7 @@ fn told_hashes(
     hashes: &[u8],
     given: &[u8],
 ) -> Checked
-    ensures { checkOf result ≡ toldHashes (checkOf held) types.now nodes.now arrows.now
+    ensures { check_of result ≡ told_hashes (check_of held) types.now nodes.now arrows.now
         program.now hashes.now
         given.now }
 {
@@ -91,9 +91,9 @@ pub fn arrow_tables(
     program: &[u8],
     hashes: &[u8],
 ) -> Staged
-    ensures { stagedOf result ≡ (
-      arrowStage types.now nodes.now arrows.now program.now hashes.now,
-      typeTable types.now,
+    ensures { staged_of result ≡ (
+      arrow_stage types.now nodes.now arrows.now program.now hashes.now,
+      type_table types.now,
     ) }
 {
     let table = types::check_types(types);
@@ -112,10 +112,10 @@ pub fn hash_tables(
     hashes: &[u8],
     given: &[u8],
 ) -> Staged
-    ensures { stagedOf result ≡ (
-      hashStage types.now nodes.now arrows.now program.now hashes.now
+    ensures { staged_of result ≡ (
+      hash_stage types.now nodes.now arrows.now program.now hashes.now
           given.now,
-      typeTable types.now,
+      type_table types.now,
     ) }
 {
     let table = types::check_types(types);
@@ -133,7 +133,7 @@ pub fn arrow_stage(
     program: &[u8],
     hashes: &[u8],
 ) -> Checked
-    ensures { checkOf result ≡ arrowStage types.now nodes.now arrows.now program.now hashes.now }
+    ensures { check_of result ≡ arrow_stage types.now nodes.now arrows.now program.now hashes.now }
 {
     let staged = arrow_tables(types, nodes, arrows, program, hashes);
     staged.answer
@@ -148,7 +148,7 @@ pub fn hash_stage(
     hashes: &[u8],
     given: &[u8],
 ) -> Checked
-    ensures { checkOf result ≡ hashStage types.now nodes.now arrows.now program.now hashes.now
+    ensures { check_of result ≡ hash_stage types.now nodes.now arrows.now program.now hashes.now
         given.now }
 {
     let staged = hash_tables(types, nodes, arrows, program, hashes, given);

@@ -3,8 +3,8 @@ use mathlib.Core.Path.{◌≡◌, sym, ap, ◌∙◌}
 use Rattle.promise.specs.Outcomes.{OneResult}
 use Rattle.scope.specs.Nodes.{NodeRecord}
 use Rattle.table.specs.declared.NodeRecord.{NodeRecord as Lent}
-use Rattle.common.specs.Answers.{check-tells}
-use Rattle.table.specs.Answers.{recordOf}
+use Rattle.common.specs.Answers.{check_tells}
+use Rattle.table.specs.Answers.{record_of}
 use Rattle.table.proofs.check_count.Kinds as check-count-kinds
 use Rattle.table.proofs.check_count.Reads as check-count-reads
 use Rattle.table.proofs.check_records.Kinds as check-records-kinds
@@ -23,29 +23,29 @@ use Rattle.table.proofs.record_in.Kinds as record-in-kinds
 use Rattle.table.proofs.record_in.Reads as record-in-reads
 
 -- a record's numbers tell it
-pub record-tells : (r q : Lent) → recordOf r ≡ recordOf q → r ≡ q
-record-tells r q e = ap (λ (x : NodeRecord). record { kind = x.kind; first = x.first; second = x.second; third = x.third }) e
+pub record_tells : (r q : Lent) → record_of r ≡ record_of q → r ≡ q
+record_tells r q e = ap (λ (x : NodeRecord). record { kind = x.kind; first = x.first; second = x.second; third = x.third }) e
 
-pub record-in : OneResult 1 record-in-kinds.ps record-in-kinds.r record-in-reads.Post
-record-in κs a s t x y p q = record-tells s t (p ∙ sym q)
+pub record_in : OneResult 1 record-in-kinds.ps record-in-kinds.r record-in-reads.Post
+record_in κs a s t x y p q = record_tells s t (p ∙ sym q)
 
-pub record-at : OneResult 1 record-at-kinds.ps record-at-kinds.r record-at-reads.Post
-record-at κs a s t x y p q = record-tells s t (p ∙ sym q)
+pub record_at_lem : OneResult 1 record-at-kinds.ps record-at-kinds.r record-at-reads.Post
+record_at_lem κs a s t x y p q = record_tells s t (p ∙ sym q)
 
-pub record-holds : OneResult 0 record-holds-kinds.ps record-holds-kinds.r record-holds-reads.Post
-record-holds κs a s t x y p q = p ∙ sym q
+pub record_holds : OneResult 0 record-holds-kinds.ps record-holds-kinds.r record-holds-reads.Post
+record_holds κs a s t x y p q = p ∙ sym q
 
-pub check-count : OneResult 1 check-count-kinds.ps check-count-kinds.r check-count-reads.Post
-check-count κs a s t x y p q = check-tells s t (p ∙ sym q)
+pub check_count : OneResult 1 check-count-kinds.ps check-count-kinds.r check-count-reads.Post
+check_count κs a s t x y p q = check_tells s t (p ∙ sym q)
 
-pub check-records : OneResult 3 check-records-kinds.ps check-records-kinds.r check-records-reads.Post
-check-records κs a s t x y p q = check-tells s t (p ∙ sym q)
+pub check_records_lem : OneResult 3 check-records-kinds.ps check-records-kinds.r check-records-reads.Post
+check_records_lem κs a s t x y p q = check_tells s t (p ∙ sym q)
 
 pub walk : OneResult 2 walk-kinds.ps walk-kinds.r walk-reads.Post
-walk κs a s t x y p q = check-tells s t (p ∙ sym q)
+walk κs a s t x y p q = check_tells s t (p ∙ sym q)
 
-pub walk-stage : OneResult 3 walk-stage-kinds.ps walk-stage-kinds.r walk-stage-reads.Post
-walk-stage κs a s t x y p q = check-tells s t (p ∙ sym q)
+pub walk_stage_lem : OneResult 3 walk-stage-kinds.ps walk-stage-kinds.r walk-stage-reads.Post
+walk_stage_lem κs a s t x y p q = check_tells s t (p ∙ sym q)
 
-pub hidden_at : OneResult 1 hidden-at-kinds.ps hidden-at-kinds.r hidden-at-reads.Post
-hidden_at κs a s t x y p q = p ∙ sym q
+pub hidden_at_lem : OneResult 1 hidden-at-kinds.ps hidden-at-kinds.r hidden-at-reads.Post
+hidden_at_lem κs a s t x y p q = p ∙ sym q

@@ -7,111 +7,111 @@ use native.Mathlib.Omega.{arith}
 use lib.Dec.{leb}
 use lib.ListN.{length, get_or}
 use borrow.Author.Tests.{eq-eqb, ne_eqb, le-leb, lt-leb}
-use Rattle.limits.specs.Limits.{nodeCount, nodeNumbers, dossierBytes}
+use Rattle.limits.specs.Limits.{node_count, node_numbers, dossier_bytes}
 use Rattle.refusal.specs.declared.Refusal.{Refusal}
 use Rattle.refusal.specs.declared.Refusal.TheVariants.{Header, HiddenElsewhere, NodeRecord as BadNodeRecord}
-use Rattle.scope.specs.Check.{passed, refused, ◌>>=◌, require, firstFailing, each}
-use Rattle.scope.specs.Numbers.{streamOf}
-use Rattle.scope.specs.Nodes.{kind_of, NodeRecord, nodeRecords, nodesOf}
-use Rattle.scope.specs.Walk.{hiddenAt, checkWalk}
-use Rattle.scope.specs.Stages.{counted, numbersRule, noRecord, recordRule, checkRecords, walkStage}
-use Rattle.common.specs.Checks.{both-passed, then-then, then-passes, then-refuses}
-use Rattle.exactness.specs.Walk.{walkCount, check-walk-count}
+use Rattle.scope.specs.Check.{passed, refused, ◌>>=◌, require, first_failing, each}
+use Rattle.scope.specs.Numbers.{stream_of}
+use Rattle.scope.specs.Nodes.{kind_of, NodeRecord, node_records, nodes_of}
+use Rattle.scope.specs.Walk.{hidden_at, check_walk}
+use Rattle.scope.specs.Stages.{counted, numbers_rule, no_record, record_rule, check_records, walk_stage}
+use Rattle.common.specs.Checks.{both_passed, then_then, then_passes, then_refuses}
+use Rattle.exactness.specs.Walk.{walk_count, check_walk_count}
 use Rattle.common.specs.declared.Checked.{Checked}
 use Rattle.common.specs.declared.Checked.TheVariants.{Refused}
-use Rattle.common.specs.Answers.{checkOf}
-use Rattle.table.specs.Lent.{lentNodes}
-use Rattle.table.specs.Stage.{countedRecords, countedWalk}
-use Rattle.common.specs.Nodes.{length-records, length-nodes}
-use Rattle.table.proofs.Hashes.{hidden-alike}
-use Rattle.table.proofs.AnyBits.{walk-any-bits}
+use Rattle.common.specs.Answers.{check_of}
+use Rattle.table.specs.Lent.{lent_nodes}
+use Rattle.table.specs.Stage.{counted_records, counted_walk}
+use Rattle.common.specs.Nodes.{length_records, length_nodes}
+use Rattle.table.proofs.Hashes.{hidden_alike}
+use Rattle.table.proofs.AnyBits.{walk_any_bits}
 
 -- 4 refuses before 26 and before the walk
-pub count-refuses : (program hashes nodes : List ℕ) (c : Checked) (why : Refusal) → checkOf c ≡ counted (length (nodeRecords nodes)) nodeCount → c ≡ Refused why
-    → checkOf c ≡ countedRecords program hashes nodes
-unfolding countedRecords
-count-refuses program hashes nodes c why e told =
-    ap checkOf told ∙ sym (then-refuses _ (λ some. checkRecords program hashes (nodeRecords nodes)) why (sym e ∙ ap checkOf told))
+pub count_refuses : (program hashes nodes : List ℕ) (c : Checked) (why : Refusal) → check_of c ≡ counted (length (node_records nodes)) node_count → c ≡ Refused why
+    → check_of c ≡ counted_records program hashes nodes
+unfolding counted_records
+count_refuses program hashes nodes c why e told =
+    ap check_of told ∙ sym (then_refuses _ (λ some. check_records program hashes (node_records nodes)) why (sym e ∙ ap check_of told))
 
-pub count-refuses-walk : (hashes nodes : List ℕ) (c : Checked) (why : Refusal) → checkOf c ≡ counted (length (nodeRecords nodes)) nodeCount → c ≡ Refused why
-    → checkOf c ≡ countedWalk hashes nodes
-unfolding countedWalk
-count-refuses-walk hashes nodes c why e told =
-    ap checkOf told ∙ sym (then-refuses _ (λ some. checkWalk (lentNodes hashes nodes)) why (sym e ∙ ap checkOf told))
+pub count_refuses_walk : (hashes nodes : List ℕ) (c : Checked) (why : Refusal) → check_of c ≡ counted (length (node_records nodes)) node_count → c ≡ Refused why
+    → check_of c ≡ counted_walk hashes nodes
+unfolding counted_walk
+count_refuses_walk hashes nodes c why e told =
+    ap check_of told ∙ sym (then_refuses _ (λ some. check_walk (lent_nodes hashes nodes)) why (sym e ∙ ap check_of told))
 
 -- what a table's records are held to
-abbrev pub ruleOf : (program hashes nodes : List ℕ) → ℕ → Bool
-ruleOf program hashes nodes = recordRule (8 * length program) (length hashes) (nodeRecords nodes)
+abbrev pub rule_of : (program hashes nodes : List ℕ) → ℕ → Bool
+rule_of program hashes nodes = record_rule (8 * length program) (length hashes) (node_records nodes)
 
-pub rule-is : (program hashes nodes : List ℕ) (i : ℕ) (r : NodeRecord) → r ≡ get_or (nodeRecords nodes) i noRecord
-    → numbersRule (8 * length program) (length hashes) i (kind_of r.kind) r.first r.second r.third ≡ ruleOf program hashes nodes i
-unfolding recordRule
-rule-is program hashes nodes i r e =
-    ap (λ (x : NodeRecord). numbersRule (8 * length program) (length hashes) i (kind_of x.kind) x.first x.second x.third) e
+pub rule_is : (program hashes nodes : List ℕ) (i : ℕ) (r : NodeRecord) → r ≡ get_or (node_records nodes) i no_record
+    → numbers_rule (8 * length program) (length hashes) i (kind_of r.kind) r.first r.second r.third ≡ rule_of program hashes nodes i
+unfolding record_rule
+rule_is program hashes nodes i r e =
+    ap (λ (x : NodeRecord). numbers_rule (8 * length program) (length hashes) i (kind_of x.kind) x.first x.second x.third) e
 
-module _ (program hashes nodes : List ℕ) (fine : counted (length (nodeRecords nodes)) nodeCount ≡ passed tt) where
+module _ (program hashes nodes : List ℕ) (fine : counted (length (node_records nodes)) node_count ≡ passed tt) where
   -- 26 after a count that is fine: the first record that breaks its rule, or none
-  records-then : countedRecords program hashes nodes ≡ checkRecords program hashes (nodeRecords nodes)
-  unfolding countedRecords
-  records-then = then-passes _ (λ some. checkRecords program hashes (nodeRecords nodes)) tt fine
+  records_then : counted_records program hashes nodes ≡ check_records program hashes (node_records nodes)
+  unfolding counted_records
+  records_then = then_passes _ (λ some. check_records program hashes (node_records nodes)) tt fine
 
-  pub record-breaks : (i : ℕ) → firstFailing (ruleOf program hashes nodes) (length nodes / nodeNumbers) 0 ≡ i → i < length nodes / nodeNumbers
-      → refused (BadNodeRecord i) ≡ countedRecords program hashes nodes
-  unfolding checkRecords each require
-  record-breaks i e h = sym (records-then ∙ (rw (length-records nodes, e, ne_eqb i (length nodes / nodeNumbers) (omega arith))))
+  pub record_breaks : (i : ℕ) → first_failing (rule_of program hashes nodes) (length nodes / node_numbers) 0 ≡ i → i < length nodes / node_numbers
+      → refused (BadNodeRecord i) ≡ counted_records program hashes nodes
+  unfolding check_records each require
+  record_breaks i e h = sym (records_then ∙ (rw (length_records nodes, e, ne_eqb i (length nodes / node_numbers) (omega arith))))
 
-  pub records-hold : firstFailing (ruleOf program hashes nodes) (length nodes / nodeNumbers) 0 ≡ length nodes / nodeNumbers
-      → passed tt ≡ countedRecords program hashes nodes
-  unfolding checkRecords each require
-  records-hold e = sym (records-then ∙ (rw (length-records nodes, e, eq-eqb (length nodes / nodeNumbers) (length nodes / nodeNumbers) refl)))
+  pub records_hold : first_failing (rule_of program hashes nodes) (length nodes / node_numbers) 0 ≡ length nodes / node_numbers
+      → passed tt ≡ counted_records program hashes nodes
+  unfolding check_records each require
+  records_hold e = sym (records_then ∙ (rw (length_records nodes, e, eq-eqb (length nodes / node_numbers) (length nodes / node_numbers) refl)))
 
-module _ (hashes nodes : List ℕ) (fine : counted (length (nodeRecords nodes)) nodeCount ≡ passed tt) where
+module _ (hashes nodes : List ℕ) (fine : counted (length (node_records nodes)) node_count ≡ passed tt) where
   -- the walk after a count that is fine
-  pub walk-then : countedWalk hashes nodes ≡ checkWalk (lentNodes hashes nodes)
-  unfolding countedWalk
-  walk-then = then-passes _ (λ some. checkWalk (lentNodes hashes nodes)) tt fine
+  pub walk_then : counted_walk hashes nodes ≡ check_walk (lent_nodes hashes nodes)
+  unfolding counted_walk
+  walk_then = then_passes _ (λ some. check_walk (lent_nodes hashes nodes)) tt fine
 
-  by_count : countedWalk hashes nodes
-      ≡ (walkCount (lentNodes hashes nodes) (length nodes / nodeNumbers - 1) 0
-      >>= λ all. require (not (hiddenAt (lentNodes hashes nodes) (length nodes / nodeNumbers - 1))) (HiddenElsewhere (length nodes / nodeNumbers - 1)))
+  by_count : counted_walk hashes nodes
+      ≡ (walk_count (lent_nodes hashes nodes) (length nodes / node_numbers - 1) 0
+      >>= λ all. require (not (hidden_at (lent_nodes hashes nodes) (length nodes / node_numbers - 1))) (HiddenElsewhere (length nodes / node_numbers - 1)))
   by_count =
-      walk-then ∙ check-walk-count (lentNodes hashes nodes)
-      ∙ ap (λ (n : ℕ). walkCount (lentNodes hashes nodes) (n - 1) 0
-      >>= λ all. require (not (hiddenAt (lentNodes hashes nodes) (n - 1))) (HiddenElsewhere (n - 1)))
-      (length-nodes [] hashes (nodeRecords nodes) ∙ length-records nodes)
+      walk_then ∙ check_walk_count (lent_nodes hashes nodes)
+      ∙ ap (λ (n : ℕ). walk_count (lent_nodes hashes nodes) (n - 1) 0
+      >>= λ all. require (not (hidden_at (lent_nodes hashes nodes) (n - 1))) (HiddenElsewhere (n - 1)))
+      (length_nodes [] hashes (node_records nodes) ∙ length_records nodes)
 
   -- it stops on its way, or its last node is hidden, or it passes
-  pub walk-stops : (why : Refusal) → walkCount (lentNodes hashes nodes) (length nodes / nodeNumbers - 1) 0 ≡ refused why
-      → refused why ≡ countedWalk hashes nodes
-  walk-stops why e = sym (by_count ∙ then-refuses _ _ why e)
+  pub walk_stops : (why : Refusal) → walk_count (lent_nodes hashes nodes) (length nodes / node_numbers - 1) 0 ≡ refused why
+      → refused why ≡ counted_walk hashes nodes
+  walk_stops why e = sym (by_count ∙ then_refuses _ _ why e)
 
-  pub walk_ends : (k : ℕ) (b : Bool) → walkCount (lentNodes hashes nodes) (length nodes / nodeNumbers - 1) 0 ≡ passed k
-      → b ≡ hiddenAt (lentNodes [] nodes) (length nodes / nodeNumbers - 1)
-      → require (not b) (HiddenElsewhere (length nodes / nodeNumbers - 1)) ≡ countedWalk hashes nodes
+  pub walk_ends : (k : ℕ) (b : Bool) → walk_count (lent_nodes hashes nodes) (length nodes / node_numbers - 1) 0 ≡ passed k
+      → b ≡ hidden_at (lent_nodes [] nodes) (length nodes / node_numbers - 1)
+      → require (not b) (HiddenElsewhere (length nodes / node_numbers - 1)) ≡ counted_walk hashes nodes
   walk_ends k b e h =
-      let last = length nodes / nodeNumbers - 1 in
-      sym (by_count ∙ then-passes _ (λ all. require (not (hiddenAt (lentNodes hashes nodes) last)) (HiddenElsewhere last)) k e
-      ∙ ap (λ (x : Bool). require (not x) (HiddenElsewhere last)) (hidden-alike [] hashes (nodeRecords nodes) last ∙ sym h))
+      let last = length nodes / node_numbers - 1 in
+      sym (by_count ∙ then_passes _ (λ all. require (not (hidden_at (lent_nodes hashes nodes) last)) (HiddenElsewhere last)) k e
+      ∙ ap (λ (x : Bool). require (not x) (HiddenElsewhere last)) (hidden_alike [] hashes (node_records nodes) last ∙ sym h))
 
 -- the stage: 4 and 26 refuse, or the program is too long, or the walk answers
 module _ (program hashes nodes : List ℕ) where
-  stage-by : walkStage program hashes nodes
-      ≡ (countedRecords program hashes nodes >>= λ records. require (leb (length program) dossierBytes) (Header 0)
-      >>= λ fits. checkWalk (nodesOf (streamOf program) hashes (nodeRecords nodes)))
-  unfolding walkStage countedRecords
-  stage-by = sym (then-then (counted (length (nodeRecords nodes)) nodeCount) (λ some. checkRecords program hashes (nodeRecords nodes))
-      (λ records. require (leb (length program) dossierBytes) (Header 0) >>= λ fits. checkWalk (nodesOf (streamOf program) hashes (nodeRecords nodes))))
+  stage_by : walk_stage program hashes nodes
+      ≡ (counted_records program hashes nodes >>= λ records. require (leb (length program) dossier_bytes) (Header 0)
+      >>= λ fits. check_walk (nodes_of (stream_of program) hashes (node_records nodes)))
+  unfolding walk_stage counted_records
+  stage_by = sym (then_then (counted (length (node_records nodes)) node_count) (λ some. check_records program hashes (node_records nodes))
+      (λ records. require (leb (length program) dossier_bytes) (Header 0) >>= λ fits. check_walk (nodes_of (stream_of program) hashes (node_records nodes))))
 
-  pub stage-refused : (why : Refusal) → countedRecords program hashes nodes ≡ refused why → refused why ≡ walkStage program hashes nodes
-  stage-refused why e = sym (stage-by ∙ then-refuses _ _ why e)
+  pub stage_refused : (why : Refusal) → counted_records program hashes nodes ≡ refused why → refused why ≡ walk_stage program hashes nodes
+  stage_refused why e = sym (stage_by ∙ then_refuses _ _ why e)
 
-  pub stage-too-long : countedRecords program hashes nodes ≡ passed tt → dossierBytes < length program → refused (Header 0) ≡ walkStage program hashes nodes
+  pub stage_too_long : counted_records program hashes nodes ≡ passed tt → dossier_bytes < length program → refused (Header 0) ≡ walk_stage program hashes nodes
   unfolding require ◌>>=◌
-  stage-too-long e h = sym (stage-by ∙ (rw (e, lt-leb (length program) dossierBytes h)))
+  stage_too_long e h = sym (stage_by ∙ (rw (e, lt-leb (length program) dossier_bytes h)))
 
-  pub stage-walks : countedRecords program hashes nodes ≡ passed tt → length program ≤ dossierBytes → countedWalk hashes nodes ≡ walkStage program hashes nodes
-  unfolding require ◌>>=◌ countedRecords
-  stage-walks e h =
-      let p = both-passed (counted (length (nodeRecords nodes)) nodeCount) (λ some. checkRecords program hashes (nodeRecords nodes)) tt e in
-      walk-then hashes nodes p.1
-      ∙ sym (stage-by ∙ (rw (e, le-leb (length program) dossierBytes h)) ∙ walk-any-bits (streamOf program) hashes (nodeRecords nodes))
+  pub stage_walks : counted_records program hashes nodes ≡ passed tt → length program ≤ dossier_bytes → counted_walk hashes nodes ≡ walk_stage program hashes nodes
+  unfolding require ◌>>=◌ counted_records
+  stage_walks e h =
+      let p = both_passed (counted (length (node_records nodes)) node_count) (λ some. check_records program hashes (node_records nodes)) tt e in
+      walk_then hashes nodes p.1
+      ∙ sym (stage_by ∙ (rw (e, le-leb (length program) dossier_bytes h)) ∙ walk_any_bits (stream_of program) hashes (node_records nodes))

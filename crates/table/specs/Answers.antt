@@ -8,14 +8,14 @@ use Rattle.common.specs.declared.Checked.TheVariants.{Passed, Refused}
 use Rattle.table.specs.declared.Walked.{Walked}
 use Rattle.table.specs.declared.Walked.TheVariants.{Done, Refused as Stopped}
 
-abbrev pub recordOf : Lent → NodeRecord
-recordOf r = record { kind = r.kind; first = r.first; second = r.second; third = r.third }
+abbrev pub record_of : Lent → NodeRecord
+record_of r = record { kind = r.kind; first = r.first; second = r.second; third = r.third }
 
-abbrev pub walkedOf : Walked → Check ℕ
-walkedOf (Done k) = passed k
-walkedOf (Stopped why) = refused why
+abbrev pub walked_of : Walked → Check ℕ
+walked_of (Done k) = passed k
+walked_of (Stopped why) = refused why
 
 -- a walk's answer without its count
-abbrev pub finishOf : Walked → Check (Unit {0})
-finishOf (Done k) = passed tt
-finishOf (Stopped why) = refused why
+abbrev pub finish_of : Walked → Check (Unit {0})
+finish_of (Done k) = passed tt
+finish_of (Stopped why) = refused why

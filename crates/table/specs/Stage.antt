@@ -1,18 +1,18 @@
 -- The passes over a lent table that stages are made of. Each tests the count first, so that places and the depth of calls stay within bounds.
 use Rattle.std.specs.Prelude.{List, ℕ, length}
-use Rattle.limits.specs.Limits.{nodeCount}
+use Rattle.limits.specs.Limits.{node_count}
 use Rattle.scope.specs.Check.{Check, ◌>>=◌}
-use Rattle.scope.specs.Nodes.{nodeRecords}
-use Rattle.scope.specs.Walk.{checkWalk}
-use Rattle.scope.specs.Stages.{counted, checkRecords}
-use Rattle.table.specs.Lent.{lentNodes}
+use Rattle.scope.specs.Nodes.{node_records}
+use Rattle.scope.specs.Walk.{check_walk}
+use Rattle.scope.specs.Stages.{counted, check_records}
+use Rattle.table.specs.Lent.{lent_nodes}
 
 -- 4, then 26
-unfoldable pub countedRecords : (program hashes nodes : List ℕ) → Check (Unit {0})
-unfolding ◌>>=◌ counted checkRecords
-countedRecords program hashes nodes = counted (length (nodeRecords nodes)) nodeCount >>= λ some. checkRecords program hashes (nodeRecords nodes)
+unfoldable pub counted_records : (program hashes nodes : List ℕ) → Check (Unit {0})
+unfolding ◌>>=◌ counted check_records
+counted_records program hashes nodes = counted (length (node_records nodes)) node_count >>= λ some. check_records program hashes (node_records nodes)
 
 -- 4, then 6 to 9
-unfoldable pub countedWalk : (hashes nodes : List ℕ) → Check (Unit {0})
-unfolding ◌>>=◌ counted checkWalk
-countedWalk hashes nodes = counted (length (nodeRecords nodes)) nodeCount >>= λ some. checkWalk (lentNodes hashes nodes)
+unfoldable pub counted_walk : (hashes nodes : List ℕ) → Check (Unit {0})
+unfolding ◌>>=◌ counted check_walk
+counted_walk hashes nodes = counted (length (node_records nodes)) node_count >>= λ some. check_walk (lent_nodes hashes nodes)

@@ -9,10 +9,10 @@ use Rattle.report.specs.Types.{width}
 use Rattle.report.specs.Values.{Val, HasTy, compact}
 use Rattle.report.specs.Meaning.{done, failed, pruned, stuck, Means, eval}
 use Rattle.scope.specs.Machine.{Step}
-use Rattle.scope.specs.Program.{Program, whole, wholeSource, wholeTarget}
-use Rattle.scope.specs.Bounds.{wholeCells, wholeFrames}
+use Rattle.scope.specs.Program.{Program, whole, whole_source, whole_target}
+use Rattle.scope.specs.Bounds.{whole_cells, whole_frames}
 use Rattle.scope.specs.Run.{Ready, Left, cells_of, cleared, written, ends, ran}
-use Rattle.theory.specs.WholeRuns.{Ran, RanValue, RanFail, RanPrune}
+use Rattle.theory.specs.WholeRuns.{Ran, ran_value, ran_fail, ran_prune}
 use Rattle.theory.specs.Sound.{Sound}
 use Rattle.theory.specs.Programs.{run_of, run_ends}
 
@@ -32,45 +32,45 @@ output (failed p y) answer = answer
 output (pruned p y) answer = answer
 output stuck answer = answer
 
-module _ (P : Program) (ok : Sound P) (v : Val) (hv : HasTy v (wholeSource P)) (cells frames answer : List ℕ) where
+module _ (P : Program) (ok : Sound P) (v : Val) (hv : HasTy v (whole_source P)) (cells frames answer : List ℕ) where
   -- the run with its input and its stores
   abbrev left : Left
   left = ran (record { program = P; input = v }) cells frames answer
 
   -- what an end of the run says
-  said : {o : Means} {s : Step} → Ran (wholeTarget P) (width (wholeSource P)) (wholeCells P) (cells_of cells) o s → (ends P s cells frames answer).says ≡ told o
+  said : {o : Means} {s : Step} → Ran (whole_target P) (width (whole_source P)) (whole_cells P) (cells_of cells) o s → (ends P s cells frames answer).says ≡ told o
   unfolding ends told
-  said (RanValue k) = refl
-  said (RanFail k) = refl
-  said (RanPrune k) = refl
+  said (ran_value k) = refl
+  said (ran_fail k) = refl
+  said (ran_prune k) = refl
 
   -- what it leaves in the answer store
-  put-out : {o : Means} {s : Step} → Ran (wholeTarget P) (width (wholeSource P)) (wholeCells P) (cells_of cells) o s
+  put_out : {o : Means} {s : Step} → Ran (whole_target P) (width (whole_source P)) (whole_cells P) (cells_of cells) o s
       → (ends P s cells frames answer).answer ≡ output o answer
   unfolding ends output
-  put-out (RanValue k) = refl
-  put-out (RanFail k) = refl
-  put-out (RanPrune k) = refl
+  put_out (ran_value k) = refl
+  put_out (ran_fail k) = refl
+  put_out (ran_prune k) = refl
 
   -- what it leaves in the frame store
-  swept : {o : Means} {s : Step} → Ran (wholeTarget P) (width (wholeSource P)) (wholeCells P) (cells_of cells) o s
-      → (ends P s cells frames answer).frames ≡ cleared (wholeFrames P) frames
+  swept : {o : Means} {s : Step} → Ran (whole_target P) (width (whole_source P)) (whole_cells P) (cells_of cells) o s
+      → (ends P s cells frames answer).frames ≡ cleared (whole_frames P) frames
   unfolding ends
-  swept (RanValue k) = refl
-  swept (RanFail k) = refl
-  swept (RanPrune k) = refl
+  swept (ran_value k) = refl
+  swept (ran_fail k) = refl
+  swept (ran_prune k) = refl
 
   -- THE ANSWER TELLS THE MEANING: its value's count of bits, or 18 or 19 where and as it stops
-  pub run-says : left.says ≡ told (eval (whole P) v)
+  pub run_says : left.says ≡ told (eval (whole P) v)
   unfolding ran run_of
-  run-says = said (run_ends P ok v hv (cells_of cells))
+  run_says = said (run_ends P ok v hv (cells_of cells))
 
   -- the answer store holds the value's compact bits
-  pub run-output : left.answer ≡ output (eval (whole P) v) answer
+  pub run_output : left.answer ≡ output (eval (whole P) v) answer
   unfolding ran run_of
-  run-output = put-out (run_ends P ok v hv (cells_of cells))
+  run_output = put_out (run_ends P ok v hv (cells_of cells))
 
   -- frame records within the bound are zero
-  pub run-frames : left.frames ≡ cleared (wholeFrames P) frames
+  pub run_frames : left.frames ≡ cleared (whole_frames P) frames
   unfolding ran run_of
-  run-frames = swept (run_ends P ok v hv (cells_of cells))
+  run_frames = swept (run_ends P ok v hv (cells_of cells))

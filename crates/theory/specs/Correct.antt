@@ -19,42 +19,42 @@ use Rattle.theory.specs.Frames.{bare, does}
 -- How a run of a term to B ends, at any point of a larger run: frames rs and ws, write cursor wr, nx the first free cell, of which it may use x, cells c.
 -- It never ends stuck.
 pub data Ends (B : Ty) (wr nx x : ℕ) (rs ws : List Frame) (c : Cells) : Means → Step → Type 0 where
-  Value : {v : Val} {d : Cells} → value_at B d wr ≡ v → Kept wr (width B) nx x c d
+  of_value : {v : Val} {d : Cells} → value_at B d wr ≡ v → Kept wr (width B) nx x c d
       → Ends B wr nx x rs ws c (done v) (done (state d rs (advance (width B) ws) nx))
-  Fails : {p : ℕ} {s : State} → Kept wr (width B) nx x c s.cells → Ends B wr nx x rs ws c (failed p tt) (failed p s)
-  Prunes : {p : ℕ} {s : State} → Kept wr (width B) nx x c s.cells → Ends B wr nx x rs ws c (pruned p tt) (pruned p s)
+  of_fails : {p : ℕ} {s : State} → Kept wr (width B) nx x c s.cells → Ends B wr nx x rs ws c (failed p tt) (failed p s)
+  of_prunes : {p : ℕ} {s : State} → Kept wr (width B) nx x c s.cells → Ends B wr nx x rs ws c (pruned p tt) (pruned p s)
 
 module _ (B : Ty) (wr nx x : ℕ) (rs ws : List Frame) (c : Cells) where
   -- the cells' agreement and the frames' come to the same end
   ends : {o : Means} {r : Out Cells Cells} → Agrees B wr nx x c o r → (e : Step)
       → bare e ≡ (r >>= λ c. done (state c rs (advance (width B) ws) nx)) → Ends B wr nx x rs ws c o e
   unfolding bare ◌>>=◌
-  ends (Agrees.Done {v} {d} q k) (done s) h =
+  ends (Agrees.of_done {v} {d} q k) (done s) h =
       let e : state d rs (advance (width B) ws) nx ≡ s = cc in
-      subst (λ (s : State). Ends B wr nx x rs ws c (done v) (done s)) e (Value q k)
-  ends (Agrees.Done q k) (failed p s) h = clash (cc)
-  ends (Agrees.Done q k) (pruned p s) h = clash (cc)
-  ends (Agrees.Done q k) stuck h = clash (cc)
-  ends (Agrees.Failed k) (done s) h = clash (cc)
-  ends (Agrees.Failed {p} {d} k) (failed p' s) h =
+      subst (λ (s : State). Ends B wr nx x rs ws c (done v) (done s)) e (of_value q k)
+  ends (Agrees.of_done q k) (failed p s) h = clash (cc)
+  ends (Agrees.of_done q k) (pruned p s) h = clash (cc)
+  ends (Agrees.of_done q k) stuck h = clash (cc)
+  ends (Agrees.of_failed k) (done s) h = clash (cc)
+  ends (Agrees.of_failed {p} {d} k) (failed p' s) h =
       let e : p ≡ p' = cc in let e' : d ≡ s.cells = cc in
-      rw e (Fails (rw e' at k))
-  ends (Agrees.Failed k) (pruned p s) h = clash (cc)
-  ends (Agrees.Failed k) stuck h = clash (cc)
-  ends (Agrees.Pruned k) (done s) h = clash (cc)
-  ends (Agrees.Pruned k) (failed p s) h = clash (cc)
-  ends (Agrees.Pruned {p} {d} k) (pruned p' s) h =
+      rw e (of_fails (rw e' at k))
+  ends (Agrees.of_failed k) (pruned p s) h = clash (cc)
+  ends (Agrees.of_failed k) stuck h = clash (cc)
+  ends (Agrees.of_pruned k) (done s) h = clash (cc)
+  ends (Agrees.of_pruned k) (failed p s) h = clash (cc)
+  ends (Agrees.of_pruned {p} {d} k) (pruned p' s) h =
       let e : p ≡ p' = cc in let e' : d ≡ s.cells = cc in
-      rw e (Prunes (rw e' at k))
-  ends (Agrees.Pruned k) stuck h = clash (cc)
+      rw e (of_prunes (rw e' at k))
+  ends (Agrees.of_pruned k) stuck h = clash (cc)
 
 -- MACHINE = MEANING, at any point of a run: the cells at the read cursor hold a value, the write frame has room, the two are apart, and
 -- there are as many cells and frames as the bounds say.
-pub exec-within : {t : Term} {A B : Ty} → Typed t A B → (size most : ℕ) (rs ws : List Frame) (rd wr nx : ℕ) (c : Cells)
+pub exec_within : {t : Term} {A B : Ty} → Typed t A B → (size most : ℕ) (rs ws : List Frame) (rd wr nx : ℕ) (c : Cells)
     → At rs rd (width A) → At ws wr (width B) → rd + width A ≤ nx → wr + width B ≤ nx → Apart rd (width A) wr (width B)
     → nx + (bounds t).cells ≤ size → length rs + length ws + (bounds t).frames ≤ most
     → Ends B wr nx (bounds t).cells rs ws c (eval t (value_at A c rd)) (exec size most t (state c rs ws nx))
-exec-within {t} {A} {B} h size most rs ws rd wr nx c hr hw ra wb apart hc hf =
+exec_within {t} {A} {B} h size most rs ws rd wr nx c hr hw ra wb apart hc hf =
     ends B wr nx (bounds t).cells rs ws c (meets h rd wr nx c ra wb apart) (exec size most t (state c rs ws nx))
     (does h size most rs ws rd wr nx c hr hw hc hf)
 
@@ -69,6 +69,6 @@ end_at B wr stuck = stuck
 -- A RUN ENDS AS THE MEANING DOES: with its value, or at its place and in its way
 pub ends_as : {B : Ty} {wr nx x : ℕ} {rs ws : List Frame} {c : Cells} {o : Means} {e : Step} → Ends B wr nx x rs ws c o e → end_at B wr e ≡ o
 unfolding end_at state
-ends_as (Value q k) = ap done q
-ends_as (Fails k) = refl
-ends_as (Prunes k) = refl
+ends_as (of_value q k) = ap done q
+ends_as (of_fails k) = refl
+ends_as (of_prunes k) = refl

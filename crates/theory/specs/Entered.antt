@@ -2,56 +2,56 @@
 -- and from a node that is entered each child that its run comes to, after what the machine does before that child.
 -- One rule for each way into a child. A case goes where the bit at its read cursor says; no run enters a branch that was pruned.
 use Rattle.std.specs.Prelude.{◌≡◌, false, [], ◌∷◌, ℕ, suc, ◌+◌}
-use Rattle.report.specs.Types.{width, padL, padR, left_of, rightOf, word_ty}
+use Rattle.report.specs.Types.{width, pad_l, pad_r, left_of, right_of, word_ty}
 use Rattle.report.specs.Values.{Val, Cells, padded}
 use Rattle.report.specs.Nodes.{comp, case, pair, disconnect, injl, injr, take, drop}
 use Rattle.report.specs.Meaning.{done, ◌>>=◌}
-use Rattle.scope.specs.Nodes.{nodeAt}
-use Rattle.scope.specs.Walk.{hiddenAt}
-use Rattle.scope.specs.Program.{Program, sourceTy, targetTy, termAt, last, wholeSource, wholeTarget}
-use Rattle.scope.specs.Bounds.{wholeCells, wholeFrames}
-use Rattle.scope.specs.Machine.{State, Step, state, newFrame, moveFrame, writeBits, skip, copy, fwd, peek, input, output, exec}
+use Rattle.scope.specs.Nodes.{node_at}
+use Rattle.scope.specs.Walk.{hidden_at}
+use Rattle.scope.specs.Program.{Program, source_ty, target_ty, term_at, last, whole_source, whole_target}
+use Rattle.scope.specs.Bounds.{whole_cells, whole_frames}
+use Rattle.scope.specs.Machine.{State, Step, state, new_frame, move_frame, write_bits, skip, copy, fwd, peek, input, output, exec}
 
 module _ (P : Program) where
   -- a new frame of n cells, within the program's bounds
   abbrev pub push : (n : ℕ) → State → Step
-  push n s = newFrame (wholeCells P) (wholeFrames P) n s
+  push n s = new_frame (whole_cells P) (whole_frames P) n s
 
   -- the run of node i within them
-  abbrev pub runNode : (i : ℕ) → State → Step
-  runNode i s = exec (wholeCells P) (wholeFrames P) (termAt P i) s
+  abbrev pub run_node : (i : ℕ) → State → Step
+  run_node i s = exec (whole_cells P) (whole_frames P) (term_at P i) s
 
   -- before the left child of disconnect i with the right child b: a read frame with b's hash and the source, and a write frame for B × C
   unfoldable pub handed : (i b : ℕ) → State → Step
-  unfolding ◌>>=◌ newFrame writeBits copy moveFrame padded
+  unfolding ◌>>=◌ new_frame write_bits copy move_frame padded
   handed i b s = do
-    s ← push (width (word_ty 8) + width (sourceTy P i)) s
-    s ← writeBits (padded (word_ty 8) (P.hash b)) s
-    s ← copy (width (sourceTy P i)) s
-    s ← moveFrame s
-    push (width (left_of (targetTy P i)) + width (sourceTy P b)) s
+    s ← push (width (word_ty 8) + width (source_ty P i)) s
+    s ← write_bits (padded (word_ty 8) (P.hash b)) s
+    s ← copy (width (source_ty P i)) s
+    s ← move_frame s
+    push (width (left_of (target_ty P i)) + width (source_ty P b)) s
 
   module _ (v : Val) (c : Cells) where
     -- the run on the input v, over old cells c, enters node i in state s
     pub data Entered : (i : ℕ) → (s : State) → Type 0 where
-      LastNode : {s t : State} → input (wholeCells P) (wholeFrames P) (width (wholeSource P)) (padded (wholeSource P) v) (state c [] [] 0) ≡ done s
-          → output (wholeCells P) (wholeFrames P) (width (wholeTarget P)) s ≡ done t → Entered (last P) t
-      CompLeft : {i a b : ℕ} {s t : State} → Entered i s → nodeAt P.nodes i ≡ comp a b → push (width (targetTy P a)) s ≡ done t → Entered a t
-      CompRight : {i a b : ℕ} {s s₁ s₂ t : State} → Entered i s → nodeAt P.nodes i ≡ comp a b → push (width (targetTy P a)) s ≡ done s₁
-          → runNode a s₁ ≡ done s₂ → moveFrame s₂ ≡ done t → Entered b t
-      PairLeft : {i a b : ℕ} {s : State} → Entered i s → nodeAt P.nodes i ≡ pair a b → Entered a s
-      PairRight : {i a b : ℕ} {s t : State} → Entered i s → nodeAt P.nodes i ≡ pair a b → runNode a s ≡ done t → Entered b t
-      InInjl : {i a : ℕ} {s s₁ t : State} → Entered i s → nodeAt P.nodes i ≡ injl a → writeBits (0 ∷ []) s ≡ done s₁
-          → skip (padL (left_of (targetTy P i)) (rightOf (targetTy P i))) s₁ ≡ done t → Entered a t
-      InInjr : {i a : ℕ} {s s₁ t : State} → Entered i s → nodeAt P.nodes i ≡ injr a → writeBits (1 ∷ []) s ≡ done s₁
-          → skip (padR (left_of (targetTy P i)) (rightOf (targetTy P i))) s₁ ≡ done t → Entered a t
-      CaseLeft : {i a b : ℕ} {s t : State} → Entered i s → nodeAt P.nodes i ≡ case a b → hiddenAt P.nodes a ≡ false → peek s ≡ done 0
-          → fwd (1 + padL (left_of (left_of (sourceTy P i))) (rightOf (left_of (sourceTy P i)))) s ≡ done t → Entered a t
-      CaseRight : {i a b k : ℕ} {s t : State} → Entered i s → nodeAt P.nodes i ≡ case a b → hiddenAt P.nodes b ≡ false → peek s ≡ done (suc k)
-          → fwd (1 + padR (left_of (left_of (sourceTy P i))) (rightOf (left_of (sourceTy P i)))) s ≡ done t → Entered b t
-      InTake : {i a : ℕ} {s : State} → Entered i s → nodeAt P.nodes i ≡ take a → Entered a s
-      InDrop : {i a : ℕ} {s t : State} → Entered i s → nodeAt P.nodes i ≡ drop a → fwd (width (left_of (sourceTy P i))) s ≡ done t → Entered a t
-      DisconnectLeft : {i a b : ℕ} {s t : State} → Entered i s → nodeAt P.nodes i ≡ disconnect a b → handed i b s ≡ done t → Entered a t
-      DisconnectRight : {i a b : ℕ} {s s₁ s₂ s₃ s₄ t : State} → Entered i s → nodeAt P.nodes i ≡ disconnect a b → handed i b s ≡ done s₁
-          → runNode a s₁ ≡ done s₂ → moveFrame s₂ ≡ done s₃ → copy (width (left_of (targetTy P i))) s₃ ≡ done s₄
-          → fwd (width (left_of (targetTy P i))) s₄ ≡ done t → Entered b t
+      last_node : {s t : State} → input (whole_cells P) (whole_frames P) (width (whole_source P)) (padded (whole_source P) v) (state c [] [] 0) ≡ done s
+          → output (whole_cells P) (whole_frames P) (width (whole_target P)) s ≡ done t → Entered (last P) t
+      comp_left : {i a b : ℕ} {s t : State} → Entered i s → node_at P.nodes i ≡ comp a b → push (width (target_ty P a)) s ≡ done t → Entered a t
+      comp_right : {i a b : ℕ} {s s₁ s₂ t : State} → Entered i s → node_at P.nodes i ≡ comp a b → push (width (target_ty P a)) s ≡ done s₁
+          → run_node a s₁ ≡ done s₂ → move_frame s₂ ≡ done t → Entered b t
+      pair_left : {i a b : ℕ} {s : State} → Entered i s → node_at P.nodes i ≡ pair a b → Entered a s
+      pair_right : {i a b : ℕ} {s t : State} → Entered i s → node_at P.nodes i ≡ pair a b → run_node a s ≡ done t → Entered b t
+      in_injl : {i a : ℕ} {s s₁ t : State} → Entered i s → node_at P.nodes i ≡ injl a → write_bits (0 ∷ []) s ≡ done s₁
+          → skip (pad_l (left_of (target_ty P i)) (right_of (target_ty P i))) s₁ ≡ done t → Entered a t
+      in_injr : {i a : ℕ} {s s₁ t : State} → Entered i s → node_at P.nodes i ≡ injr a → write_bits (1 ∷ []) s ≡ done s₁
+          → skip (pad_r (left_of (target_ty P i)) (right_of (target_ty P i))) s₁ ≡ done t → Entered a t
+      case_left : {i a b : ℕ} {s t : State} → Entered i s → node_at P.nodes i ≡ case a b → hidden_at P.nodes a ≡ false → peek s ≡ done 0
+          → fwd (1 + pad_l (left_of (left_of (source_ty P i))) (right_of (left_of (source_ty P i)))) s ≡ done t → Entered a t
+      case_right : {i a b k : ℕ} {s t : State} → Entered i s → node_at P.nodes i ≡ case a b → hidden_at P.nodes b ≡ false → peek s ≡ done (suc k)
+          → fwd (1 + pad_r (left_of (left_of (source_ty P i))) (right_of (left_of (source_ty P i)))) s ≡ done t → Entered b t
+      in_take : {i a : ℕ} {s : State} → Entered i s → node_at P.nodes i ≡ take a → Entered a s
+      in_drop : {i a : ℕ} {s t : State} → Entered i s → node_at P.nodes i ≡ drop a → fwd (width (left_of (source_ty P i))) s ≡ done t → Entered a t
+      disconnect_left : {i a b : ℕ} {s t : State} → Entered i s → node_at P.nodes i ≡ disconnect a b → handed i b s ≡ done t → Entered a t
+      disconnect_right : {i a b : ℕ} {s s₁ s₂ s₃ s₄ t : State} → Entered i s → node_at P.nodes i ≡ disconnect a b → handed i b s ≡ done s₁
+          → run_node a s₁ ≡ done s₂ → move_frame s₂ ≡ done s₃ → copy (width (left_of (target_ty P i))) s₃ ≡ done s₄
+          → fwd (width (left_of (target_ty P i))) s₄ ≡ done t → Entered b t

@@ -6,7 +6,7 @@ use Rattle.report.specs.Bits.{Bit}
 use Rattle.report.specs.Types.{Ty, width}
 use Rattle.report.specs.Values.{Val, HasTy, Cells, padded}
 use Rattle.report.specs.Meaning.{done}
-use Rattle.scope.specs.Machine.{Frame, frameFrom, State, state, need, forward, backward, inFrame, putBits, copyCells, newFrame, dropFrame, writeBits, skip, copy, fwd, back, peek}
+use Rattle.scope.specs.Machine.{Frame, frame_from, State, state, need, forward, backward, in_frame, put_bits, copy_cells, new_frame, drop_frame, write_bits, skip, copy, fwd, back, peek}
 use Rattle.exactness.specs.Values.{length-padded}
 
 -- n cells can be read or written at the cursor `at` of the active frame; where n is 0 there need be no frame
@@ -26,15 +26,15 @@ unfolding forward
 forward-forward m n f = rw (add_assoc f.cursor m n)
 
 -- 0 cells on is nowhere
-forward-none : (f : Frame) → forward 0 f ≡ f
+forward_none : (f : Frame) → forward 0 f ≡ f
 unfolding forward
-forward-none f = rw (add-zero f.cursor)
+forward_none f = rw (add-zero f.cursor)
 
 -- 0 cells on is nowhere
-pub advance-none : (fs : List Frame) → advance 0 fs ≡ fs
+pub advance_none : (fs : List Frame) → advance 0 fs ≡ fs
 unfolding advance
-advance-none [] = refl
-advance-none (f ∷ fs) = ap (◌∷ fs) (forward-none f)
+advance_none [] = refl
+advance_none (f ∷ fs) = ap (◌∷ fs) (forward_none f)
 
 -- twice on is once on
 pub advance-advance : (m n : ℕ) (fs : List Frame) → advance n (advance m fs) ≡ advance (m + n) fs
@@ -55,79 +55,79 @@ at_less [] at m n l h = omega arith
 at_less (f ∷ fs) at m n l h = (h.0, h.1, omega arith)
 
 -- and the rest of the room is left, m cells further on
-pub at-advance : (fs : List Frame) (at m n : ℕ) → At fs at (m + n) → At (advance m fs) (at + m) n
+pub at_advance : (fs : List Frame) (at m n : ℕ) → At fs at (m + n) → At (advance m fs) (at + m) n
 unfolding At advance forward
-at-advance [] at m n h = omega arith
-at-advance (f ∷ fs) at m n h = (omega arith, omega arith, omega arith)
+at_advance [] at m n h = omega arith
+at_advance (f ∷ fs) at m n h = (omega arith, omega arith, omega arith)
 
 -- a new write frame of n cells
-pub newFrame-does : (size most : ℕ) (c : Cells) (rs ws : List Frame) (nx n : ℕ) → nx + n ≤ size → length rs + length ws < most
-    → newFrame size most n (state c rs ws nx) ≡ done (state c rs (frameFrom nx n ∷ ws) (nx + n))
-unfolding newFrame need state
-newFrame-does size most c rs ws nx n h k = rw (le-leb (nx + n) size h, lt-ltb (length rs + length ws) most k)
+pub new_frame_does : (size most : ℕ) (c : Cells) (rs ws : List Frame) (nx n : ℕ) → nx + n ≤ size → length rs + length ws < most
+    → new_frame size most n (state c rs ws nx) ≡ done (state c rs (frame_from nx n ∷ ws) (nx + n))
+unfolding new_frame need state
+new_frame_does size most c rs ws nx n h k = rw (le-leb (nx + n) size h, lt-ltb (length rs + length ws) most k)
 
 -- bits into the write frame
-pub writeBits-does : (c : Cells) (rs ws : List Frame) (nx : ℕ) (bs : List Bit) (wr : ℕ) → At ws wr (length bs)
-    → writeBits bs (state c rs ws nx) ≡ done (state (putBits c wr bs) rs (advance (length bs) ws) nx)
-unfolding writeBits putBits At advance state need inFrame
-writeBits-does c rs ws nx [] wr h = rw (advance-none ws)
-writeBits-does c rs [] nx (b ∷ bs) wr h = absurd (not-suc-le-zero h)
-writeBits-does c rs (f ∷ ws) nx (b ∷ bs) wr h = rw (h.0, le-leb (wr + length (b ∷ bs)) (f.start + f.len) h.2)
+pub write_bits_does : (c : Cells) (rs ws : List Frame) (nx : ℕ) (bs : List Bit) (wr : ℕ) → At ws wr (length bs)
+    → write_bits bs (state c rs ws nx) ≡ done (state (put_bits c wr bs) rs (advance (length bs) ws) nx)
+unfolding write_bits put_bits At advance state need in_frame
+write_bits_does c rs ws nx [] wr h = rw (advance_none ws)
+write_bits_does c rs [] nx (b ∷ bs) wr h = absurd (not-suc-le-zero h)
+write_bits_does c rs (f ∷ ws) nx (b ∷ bs) wr h = rw (h.0, le-leb (wr + length (b ∷ bs)) (f.start + f.len) h.2)
 
 -- n cells passed over
-pub skip-does : (c : Cells) (rs ws : List Frame) (nx n wr : ℕ) → At ws wr n → skip n (state c rs ws nx) ≡ done (state c rs (advance n ws) nx)
-unfolding skip At advance state need inFrame
-skip-does c rs ws nx zero wr h = rw (advance-none ws)
-skip-does c rs [] nx (suc n) wr h = absurd (not-suc-le-zero h)
-skip-does c rs (f ∷ ws) nx (suc n) wr h = rw (h.0, le-leb (wr + suc n) (f.start + f.len) h.2)
+pub skip_does : (c : Cells) (rs ws : List Frame) (nx n wr : ℕ) → At ws wr n → skip n (state c rs ws nx) ≡ done (state c rs (advance n ws) nx)
+unfolding skip At advance state need in_frame
+skip_does c rs ws nx zero wr h = rw (advance_none ws)
+skip_does c rs [] nx (suc n) wr h = absurd (not-suc-le-zero h)
+skip_does c rs (f ∷ ws) nx (suc n) wr h = rw (h.0, le-leb (wr + suc n) (f.start + f.len) h.2)
 
 -- n cells copied
 pub copy_does : (c : Cells) (rs ws : List Frame) (nx n rd wr : ℕ) → At rs rd n → At ws wr n
-    → copy n (state c rs ws nx) ≡ done (state (copyCells c rd wr n) rs (advance n ws) nx)
-unfolding copy copyCells At advance state need inFrame
-copy_does c rs ws nx zero rd wr h k = rw (advance-none ws)
+    → copy n (state c rs ws nx) ≡ done (state (copy_cells c rd wr n) rs (advance n ws) nx)
+unfolding copy copy_cells At advance state need in_frame
+copy_does c rs ws nx zero rd wr h k = rw (advance_none ws)
 copy_does c [] ws nx (suc n) rd wr h k = absurd (not-suc-le-zero h)
 copy_does c (f ∷ rs) [] nx (suc n) rd wr h k = absurd (not-suc-le-zero k)
 copy_does c (f ∷ rs) (g ∷ ws) nx (suc n) rd wr h k =
     let l : f.cursor + suc n ≤ f.start + f.len = omega arith in
     let m : g.cursor + suc n ≤ g.start + g.len = omega arith in
     rw (le-leb (f.cursor + suc n) (f.start + f.len) l, le-leb (g.cursor + suc n) (g.start + g.len) m)
-    (ap₂ (λ x y. done (state (copyCells c x y (suc n)) (f ∷ rs) (forward (suc n) g ∷ ws) nx)) h.0 k.0)
+    (ap₂ (λ x y. done (state (copy_cells c x y (suc n)) (f ∷ rs) (forward (suc n) g ∷ ws) nx)) h.0 k.0)
 
 -- the read cursor n cells on
-pub fwd-does : (c : Cells) (rs ws : List Frame) (nx n rd : ℕ) → At rs rd n → fwd n (state c rs ws nx) ≡ done (state c (advance n rs) ws nx)
-unfolding fwd At advance state need inFrame
-fwd-does c rs ws nx zero rd h = rw (advance-none rs)
-fwd-does c [] ws nx (suc n) rd h = absurd (not-suc-le-zero h)
-fwd-does c (f ∷ rs) ws nx (suc n) rd h = rw (h.0, le-leb (rd + suc n) (f.start + f.len) h.2)
+pub fwd_does : (c : Cells) (rs ws : List Frame) (nx n rd : ℕ) → At rs rd n → fwd n (state c rs ws nx) ≡ done (state c (advance n rs) ws nx)
+unfolding fwd At advance state need in_frame
+fwd_does c rs ws nx zero rd h = rw (advance_none rs)
+fwd_does c [] ws nx (suc n) rd h = absurd (not-suc-le-zero h)
+fwd_does c (f ∷ rs) ws nx (suc n) rd h = rw (h.0, le-leb (rd + suc n) (f.start + f.len) h.2)
 
 -- and n cells back
-pub back-does : (c : Cells) (rs ws : List Frame) (nx n rd : ℕ) → At rs rd n → back n (state c (advance n rs) ws nx) ≡ done (state c rs ws nx)
+pub back_does : (c : Cells) (rs ws : List Frame) (nx n rd : ℕ) → At rs rd n → back n (state c (advance n rs) ws nx) ≡ done (state c rs ws nx)
 unfolding back At advance state need forward backward
-back-does c rs ws nx zero rd h = rw (advance-none rs)
-back-does c [] ws nx (suc n) rd h = absurd (not-suc-le-zero h)
-back-does c (f ∷ rs) ws nx (suc n) rd h =
+back_does c rs ws nx zero rd h = rw (advance_none rs)
+back_does c [] ws nx (suc n) rd h = absurd (not-suc-le-zero h)
+back_does c (f ∷ rs) ws nx (suc n) rd h =
     let e : f.cursor + suc n - suc n ≡ f.cursor = omega arith in
     let l : f.start + suc n ≤ f.cursor + suc n = omega arith in
     rw (le-leb (f.start + suc n) (f.cursor + suc n) l, e)
 
 -- the bit at the read cursor
-pub peek-does : (c : Cells) (rs ws : List Frame) (nx rd n : ℕ) → At rs rd (suc n) → peek (state c rs ws nx) ≡ done (c rd)
-unfolding peek At state need inFrame
-peek-does c [] ws nx rd n h = absurd (not-suc-le-zero h)
-peek-does c (f ∷ rs) ws nx rd n h =
+pub peek_does : (c : Cells) (rs ws : List Frame) (nx rd n : ℕ) → At rs rd (suc n) → peek (state c rs ws nx) ≡ done (c rd)
+unfolding peek At state need in_frame
+peek_does c [] ws nx rd n h = absurd (not-suc-le-zero h)
+peek_does c (f ∷ rs) ws nx rd n h =
     let l : rd + 1 ≤ f.start + f.len = omega arith in
     rw (h.0, le-leb (rd + 1) (f.start + f.len) l)
 
 -- the uppermost read frame goes
-pub dropFrame-does : (c : Cells) (f : Frame) (rs ws : List Frame) (nx : ℕ) → nx ≡ f.start + f.len
-    → dropFrame (state c (f ∷ rs) ws nx) ≡ done (state c rs ws f.start)
-unfolding dropFrame state need
-dropFrame-does c f rs ws nx e = rw (eq-eqb nx (f.start + f.len) e)
+pub drop_frame_does : (c : Cells) (f : Frame) (rs ws : List Frame) (nx : ℕ) → nx ≡ f.start + f.len
+    → drop_frame (state c (f ∷ rs) ws nx) ≡ done (state c rs ws f.start)
+unfolding drop_frame state need
+drop_frame_does c f rs ws nx e = rw (eq-eqb nx (f.start + f.len) e)
 
 -- a value's padded bits into a frame with room for its width
-pub value-does : (A : Ty) (v : Val) → HasTy v A → (rs ws : List Frame) (wr nx : ℕ) (c : Cells) → At ws wr (width A)
-    → writeBits (padded A v) (state c rs ws nx) ≡ done (state (putBits c wr (padded A v)) rs (advance (width A) ws) nx)
-value-does A v h rs ws wr nx c hw =
-    subst (λ (n : ℕ). writeBits (padded A v) (state c rs ws nx) ≡ done (state (putBits c wr (padded A v)) rs (advance n ws) nx))
-    (length-padded h) (writeBits-does c rs ws nx (padded A v) wr (rw (length-padded h) hw))
+pub value_does : (A : Ty) (v : Val) → HasTy v A → (rs ws : List Frame) (wr nx : ℕ) (c : Cells) → At ws wr (width A)
+    → write_bits (padded A v) (state c rs ws nx) ≡ done (state (put_bits c wr (padded A v)) rs (advance (width A) ws) nx)
+value_does A v h rs ws wr nx c hw =
+    subst (λ (n : ℕ). write_bits (padded A v) (state c rs ws nx) ≡ done (state (put_bits c wr (padded A v)) rs (advance n ws) nx))
+    (length-padded h) (write_bits_does c rs ws nx (padded A v) wr (rw (length-padded h) hw))

@@ -9,23 +9,23 @@ use Rattle.report.specs.Bits.{Bit, bits_of, bytes_of}
 use Rattle.report.specs.Types.{width}
 use Rattle.report.specs.Values.{Val, HasTy, Cells}
 use Rattle.report.specs.Meaning.{done, failed, pruned, Means}
-use Rattle.scope.specs.Numbers.{zeros, bytesFor, tabulateFrom, tabulate}
+use Rattle.scope.specs.Numbers.{zeros, bytes_for, tabulate_from, tabulate}
 use Rattle.scope.specs.Machine.{State, Step}
-use Rattle.scope.specs.Program.{Program, whole, wholeSource, wholeTarget}
-use Rattle.scope.specs.Bounds.{wholeCells}
+use Rattle.scope.specs.Program.{Program, whole, whole_source, whole_target}
+use Rattle.scope.specs.Bounds.{whole_cells}
 use Rattle.scope.specs.Run.{Ready, Left, cells_of, packed, written, ends, ran}
-use Rattle.common.specs.Bits.{AreBits, are-bits, bits_of_bytes, length-bytes}
-use Rattle.common.specs.Tables.{length-tabulate, tabulate-at}
-use Rattle.theory.specs.BinaryCells.{BitCells, BitsAfter, BitsDone, BitsFailed, BitsPruned, machine-bits}
-use Rattle.theory.specs.WholeRuns.{Ran, RanValue, RanFail, RanPrune}
+use Rattle.common.specs.Bits.{AreBits, are_bits, bits_of_bytes, length_bytes}
+use Rattle.common.specs.Tables.{length-tabulate, tabulate_at}
+use Rattle.theory.specs.BinaryCells.{BitCells, BitsAfter, bits_done, bits_failed, bits_pruned, machine_bits}
+use Rattle.theory.specs.WholeRuns.{Ran, ran_value, ran_fail, ran_prune}
 use Rattle.theory.specs.Sound.{Sound}
 use Rattle.theory.specs.Programs.{run_of, run_ends}
 
 -- s is the state in which a run ended, done or stopped
 pub data LastState : Step → State → Type 0 where
-  EndedIn : {s : State} → LastState (done s) s
-  FailedIn : {p : ℕ} {s : State} → LastState (failed p s) s
-  PrunedIn : {p : ℕ} {s : State} → LastState (pruned p s) s
+  ended_in : {s : State} → LastState (done s) s
+  failed_in : {p : ℕ} {s : State} → LastState (failed p s) s
+  pruned_in : {p : ℕ} {s : State} → LastState (pruned p s) s
 
 -- the cells that a run o leaves in a store, of which the first `total` are the bound's
 pub record CellsLeft (o : Step) (total : ℕ) (before after : List ℕ) : Type 0 where
@@ -38,17 +38,17 @@ pub record CellsLeft (o : Step) (total : ℕ) (before after : List ℕ) : Type 0
   pub beyond : (j : ℕ) → total ≤ j → j < 8 * length before → cells_of after j ≡ cells_of before j
 
 -- cells that are bits, as a list and packed into bytes
-bits-from : (i n : ℕ) (c : Cells) → BitCells c → AreBits (tabulateFrom i n c)
-unfolding tabulateFrom
-bits-from i zero c h = tt
-bits-from i (suc n) c h = (omega (arith, h i), bits-from (suc i) n c h)
+bits_from_lem : (i n : ℕ) (c : Cells) → BitCells c → AreBits (tabulate_from i n c)
+unfolding tabulate_from
+bits_from_lem i zero c h = tt
+bits_from_lem i (suc n) c h = (omega (arith, h i), bits_from_lem (suc i) n c h)
 
 -- a cell of packed cells
-packed-cell : (n : ℕ) (c : Cells) → BitCells c → (j : ℕ) → j < 8 * n → cells_of (packed n c) j ≡ c j
+packed_cell : (n : ℕ) (c : Cells) → BitCells c → (j : ℕ) → j < 8 * n → cells_of (packed n c) j ≡ c j
 unfolding cells_of packed tabulate
-packed-cell n c h j l =
-    ap (λ (bs : List Bit). get_or bs j 0) (bits_of_bytes n (tabulate (8 * n) c) (length-tabulate c (8 * n)) (bits-from 0 (8 * n) c h)).0
-    ∙ tabulate-at c (8 * n) j 0 l
+packed_cell n c h j l =
+    ap (λ (bs : List Bit). get_or bs j 0) (bits_of_bytes n (tabulate (8 * n) c) (length-tabulate c (8 * n)) (bits_from_lem 0 (8 * n) c h)).0
+    ∙ tabulate_at c (8 * n) j 0 l
 
 -- the cells of a store are bits
 bit_below : (bs : List Bit) → AreBits bs → (j : ℕ) → get_or bs j 0 ≤ 1
@@ -57,41 +57,41 @@ bit_below (b ∷ bs) h zero = omega (arith, h.0)
 bit_below (b ∷ bs) h (suc j) = bit_below bs h.1 j
 
 -- of every store
-pub store-bits : (cells : List ℕ) → BitCells (cells_of cells)
+pub store_bits : (cells : List ℕ) → BitCells (cells_of cells)
 unfolding cells_of
-store-bits cells j = bit_below (bits_of cells) (are-bits cells) j
+store_bits cells j = bit_below (bits_of cells) (are_bits cells) j
 
-module _ (P : Program) (ok : Sound P) (v : Val) (hv : HasTy v (wholeSource P)) (cells frames answer : List ℕ) where
+module _ (P : Program) (ok : Sound P) (v : Val) (hv : HasTy v (whole_source P)) (cells frames answer : List ℕ) where
   -- from the last state of the run
-  cells-of : (o : Step) (s : State) → LastState o s → BitCells s.cells → ((j : ℕ) → wholeCells P ≤ j → s.cells j ≡ cells_of cells j)
-      → (left : List ℕ) → left ≡ packed (length cells) s.cells → CellsLeft o (wholeCells P) cells left
-  cells-of o s last bits kept left e =
+  cells_of_lem : (o : Step) (s : State) → LastState o s → BitCells s.cells → ((j : ℕ) → whole_cells P ≤ j → s.cells j ≡ cells_of cells j)
+      → (left : List ℕ) → left ≡ packed (length cells) s.cells → CellsLeft o (whole_cells P) cells left
+  cells_of_lem o s last bits kept left e =
       let same : (j : ℕ) → j < 8 * length cells → cells_of left j ≡ s.cells j =
-      λ j l. ap (λ (b : List ℕ). cells_of b j) e ∙ packed-cell (length cells) s.cells bits j l in
+      λ j l. ap (λ (b : List ℕ). cells_of b j) e ∙ packed_cell (length cells) s.cells bits j l in
       record { last = s; ended = last; bytes = e; held = same; beyond = λ j m l. same j l ∙ kept j m }
 
   -- by how the run ended
-  ends-cells : {o : Means} {e : Step} → Ran (wholeTarget P) (width (wholeSource P)) (wholeCells P) (cells_of cells) o e → BitsAfter e
-      → CellsLeft e (wholeCells P) cells (ends P e cells frames answer).cells
+  ends_cells : {o : Means} {e : Step} → Ran (whole_target P) (width (whole_source P)) (whole_cells P) (cells_of cells) o e → BitsAfter e
+      → CellsLeft e (whole_cells P) cells (ends P e cells frames answer).cells
   unfolding ends
-  ends-cells (RanValue {s = s} k) (BitsDone h) = cells-of (done s) s EndedIn h k _ refl
-  ends-cells (RanFail {p = p} {s = s} k) (BitsFailed h) = cells-of (failed p s) s FailedIn h k _ refl
-  ends-cells (RanPrune {p = p} {s = s} k) (BitsPruned h) = cells-of (pruned p s) s PrunedIn h k _ refl
+  ends_cells (ran_value {s = s} k) (bits_done h) = cells_of_lem (done s) s ended_in h k _ refl
+  ends_cells (ran_fail {p = p} {s = s} k) (bits_failed h) = cells_of_lem (failed p s) s failed_in h k _ refl
+  ends_cells (ran_prune {p = p} {s = s} k) (bits_pruned h) = cells_of_lem (pruned p s) s pruned_in h k _ refl
 
   -- THE CELLS THAT A RUN LEAVES
-  pub run-cells : CellsLeft (run_of P v (cells_of cells)) (wholeCells P) cells (ran (record { program = P; input = v }) cells frames answer).cells
+  pub run_cells : CellsLeft (run_of P v (cells_of cells)) (whole_cells P) cells (ran (record { program = P; input = v }) cells frames answer).cells
   unfolding ran run_of
-  run-cells = ends-cells (run_ends P ok v hv (cells_of cells)) (machine-bits _ _ (whole P) (wholeSource P) (wholeTarget P) v (cells_of cells) (store-bits cells))
+  run_cells = ends_cells (run_ends P ok v hv (cells_of cells)) (machine_bits _ _ (whole P) (whole_source P) (whole_target P) v (cells_of cells) (store_bits cells))
 
 -- the bytes that hold an output, of what is said and the answer store; a refusal has none
-unfoldable pub outputBytes : Answer → (answer : List ℕ) → List ℕ
-outputBytes (Value n) answer = take (bytesFor n) answer
-outputBytes (Refused why) answer = []
+unfoldable pub output_bytes : Answer → (answer : List ℕ) → List ℕ
+output_bytes (Value n) answer = take (bytes_for n) answer
+output_bytes (Refused why) answer = []
 
 -- the output's bytes are made of its bits alone
-pub written-bytes : (bits : List Bit) (answer : List ℕ)
-    → outputBytes (Value (length bits)) (written bits answer) ≡ bytes_of (bytesFor (length bits)) (bits ++ zeros 7)
-unfolding outputBytes written
-written-bytes bits answer =
-    take_at (bytes_of (bytesFor (length bits)) (bits ++ zeros 7)) (drop (bytesFor (length bits)) answer) (bytesFor (length bits))
-    (length-bytes (bytesFor (length bits)) (bits ++ zeros 7))
+pub written_bytes : (bits : List Bit) (answer : List ℕ)
+    → output_bytes (Value (length bits)) (written bits answer) ≡ bytes_of (bytes_for (length bits)) (bits ++ zeros 7)
+unfolding output_bytes written
+written_bytes bits answer =
+    take_at (bytes_of (bytes_for (length bits)) (bits ++ zeros 7)) (drop (bytes_for (length bits)) answer) (bytes_for (length bits))
+    (length_bytes (bytes_for (length bits)) (bits ++ zeros 7))

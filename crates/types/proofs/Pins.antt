@@ -1,7 +1,7 @@
 -- What each public call promises has one outcome: over the call's own promise, `Post`, two results are the same.
 use mathlib.Core.Path.{sym, ◌∙◌}
 use Rattle.promise.specs.Outcomes.{OneResult}
-use Rattle.common.specs.Answers.{check-tells}
+use Rattle.common.specs.Answers.{check_tells}
 use Rattle.types.proofs.check_types.Kinds as check-types-kinds
 use Rattle.types.proofs.check_types.Reads as check-types-reads
 use Rattle.types.proofs.next_at.Kinds as next-at-kinds
@@ -31,44 +31,44 @@ use Rattle.types.proofs.without_count.Reads as without-count-reads
 use Rattle.types.proofs.types_hold.Kinds as types-hold-kinds
 use Rattle.types.proofs.types_hold.Reads as types-hold-reads
 
-pub record-at : OneResult 1 record-at-kinds.ps record-at-kinds.r record-at-reads.Post
-record-at κs a s t x y p q = p ∙ sym q
+pub record_at_lem : OneResult 1 record-at-kinds.ps record-at-kinds.r record-at-reads.Post
+record_at_lem κs a s t x y p q = p ∙ sym q
 
-pub width-at : OneResult 1 width-at-kinds.ps width-at-kinds.r width-at-reads.Post
-width-at κs a s t x y p q = p ∙ sym q
+pub width_at : OneResult 1 width-at-kinds.ps width-at-kinds.r width-at-reads.Post
+width_at κs a s t x y p q = p ∙ sym q
 
-pub next-at : OneResult 1 next-at-kinds.ps next-at-kinds.r next-at-reads.Post
-next-at κs a s t x y p q = p ∙ sym q
+pub next_at_lem : OneResult 1 next-at-kinds.ps next-at-kinds.r next-at-reads.Post
+next_at_lem κs a s t x y p q = p ∙ sym q
 
-pub is-unit : OneResult 1 is-unit-kinds.ps is-unit-kinds.r is-unit-reads.Post
-is-unit κs a s t x y p q = p ∙ sym q
+pub is_unit_lem : OneResult 1 is-unit-kinds.ps is-unit-kinds.r is-unit-reads.Post
+is_unit_lem κs a s t x y p q = p ∙ sym q
 
-pub is_sum : OneResult 1 is-sum-kinds.ps is-sum-kinds.r is-sum-reads.Post
-is_sum κs a s t x y p q = p ∙ sym q
+pub is_sum_lem : OneResult 1 is-sum-kinds.ps is-sum-kinds.r is-sum-reads.Post
+is_sum_lem κs a s t x y p q = p ∙ sym q
 
-pub is-product : OneResult 1 is-product-kinds.ps is-product-kinds.r is-product-reads.Post
-is-product κs a s t x y p q = p ∙ sym q
+pub is_product_lem : OneResult 1 is-product-kinds.ps is-product-kinds.r is-product-reads.Post
+is_product_lem κs a s t x y p q = p ∙ sym q
 
-pub left-of : OneResult 1 left-of-kinds.ps left-of-kinds.r left-of-reads.Post
-left-of κs a s t x y p q = p ∙ sym q
+pub left_of_lem : OneResult 1 left-of-kinds.ps left-of-kinds.r left-of-reads.Post
+left_of_lem κs a s t x y p q = p ∙ sym q
 
-pub right_of : OneResult 1 right-of-kinds.ps right-of-kinds.r right-of-reads.Post
-right_of κs a s t x y p q = p ∙ sym q
+pub right_of_lem : OneResult 1 right-of-kinds.ps right-of-kinds.r right-of-reads.Post
+right_of_lem κs a s t x y p q = p ∙ sym q
 
-pub is_word : OneResult 1 is-word-kinds.ps is-word-kinds.r is-word-reads.Post
-is_word κs a s t x y p q = p ∙ sym q
+pub is_word_lem : OneResult 1 is-word-kinds.ps is-word-kinds.r is-word-reads.Post
+is_word_lem κs a s t x y p q = p ∙ sym q
 
-pub left-width : OneResult 2 left-width-kinds.ps left-width-kinds.r left-width-reads.Post
-left-width κs a s t x y p q = p ∙ sym q
+pub left_width : OneResult 2 left-width-kinds.ps left-width-kinds.r left-width-reads.Post
+left_width κs a s t x y p q = p ∙ sym q
 
-pub check-types : OneResult 1 check-types-kinds.ps check-types-kinds.r check-types-reads.Post
-check-types κs a s t x y p q = p ∙ sym q
+pub check_types_lem : OneResult 1 check-types-kinds.ps check-types-kinds.r check-types-reads.Post
+check_types_lem κs a s t x y p q = p ∙ sym q
 
-pub type-count : OneResult 1 type-count-kinds.ps type-count-kinds.r type-count-reads.Post
-type-count κs a s t x y p q = check-tells s t (p ∙ sym q)
+pub type_count_lem : OneResult 1 type-count-kinds.ps type-count-kinds.r type-count-reads.Post
+type_count_lem κs a s t x y p q = check_tells s t (p ∙ sym q)
 
-pub without-count : OneResult 0 without-count-kinds.ps without-count-kinds.r without-count-reads.Post
-without-count κs a s t x y p q = check-tells s t (p ∙ sym q)
+pub without_count_lem : OneResult 0 without-count-kinds.ps without-count-kinds.r without-count-reads.Post
+without_count_lem κs a s t x y p q = check_tells s t (p ∙ sym q)
 
-pub types-hold : OneResult 1 types-hold-kinds.ps types-hold-kinds.r types-hold-reads.Post
-types-hold κs a s t x y p q = check-tells s t (p ∙ sym q)
+pub types_hold : OneResult 1 types-hold-kinds.ps types-hold-kinds.r types-hold-reads.Post
+types_hold κs a s t x y p q = check_tells s t (p ∙ sym q)

@@ -3,24 +3,24 @@
 -- for its other part, and any other record matters itself.
 use Rattle.std.specs.Prelude.{Bool, true, false, List, [], ◌∷◌, ℕ, zero, suc, ◌+◌, max, leb, eqb, length}
 use Rattle.std.proofs.Math.ListN.{get_or}
-use Rattle.limits.specs.Limits.{typeWidth}
+use Rattle.limits.specs.Limits.{type_width}
 use Rattle.report.specs.Table.{entries}
 use Rattle.report.specs.Types.{Ty, one, sum, prod, width}
-use Rattle.scope.specs.Numbers.{every, anyBelow}
-use Rattle.scope.specs.Types.{TypeRecord, ty_at, type_at, sameType, partsRule}
+use Rattle.scope.specs.Numbers.{every, any_below}
+use Rattle.scope.specs.Types.{TypeRecord, ty_at, type_at, same_type, parts_rule}
 use Rattle.types.specs.declared.Judged.{Judged}
 use Rattle.types.specs.declared.Judged.TheVariants.{Width, Broken}
 
 -- record j is of this tag and of these two parts
-unfoldable pub isRecord : (types : List TypeRecord) → (tag j left right : ℕ) → Bool
+unfoldable pub is_record : (types : List TypeRecord) → (tag j left right : ℕ) → Bool
 unfolding type_at every
-isRecord types tag j left right = every (eqb (type_at types j).tag tag ∷ eqb (type_at types j).left left ∷ eqb (type_at types j).right right ∷ [])
+is_record types tag j left right = every (eqb (type_at types j).tag tag ∷ eqb (type_at types j).left left ∷ eqb (type_at types j).right right ∷ [])
 
 -- the width of a record of this tag whose parts have these widths
-abbrev pub partsWidth : (tag left right : ℕ) → ℕ
-partsWidth zero left right = 0
-partsWidth (suc zero) left right = 1 + max left right
-partsWidth (suc (suc k)) left right = left + right
+abbrev pub parts_width : (tag left right : ℕ) → ℕ
+parts_width zero left right = 0
+parts_width (suc zero) left right = 1 + max left right
+parts_width (suc (suc k)) left right = left + right
 
 -- a record keeps the rules where its parts do, its width fits and no earlier record equals it
 abbrev pub verdict : (parts fits repeated : Bool) → (w : ℕ) → Judged
@@ -30,17 +30,17 @@ verdict true false repeated w = Broken
 verdict false fits repeated w = Broken
 
 -- record i, where the widths of the earlier records are known
-abbrev pub recordJudged : (types : List TypeRecord) → (widths : List ℕ) → (i : ℕ) → Judged
-recordJudged types widths i =
+abbrev pub record_judged : (types : List TypeRecord) → (widths : List ℕ) → (i : ℕ) → Judged
+record_judged types widths i =
     let r = type_at types i in
-    let w = partsWidth r.tag (get_or widths r.left 0) (get_or widths r.right 0) in
-    verdict (partsRule types i r.tag r.left r.right) (leb w typeWidth) (anyBelow i (sameType types i)) w
+    let w = parts_width r.tag (get_or widths r.left 0) (get_or widths r.right 0) in
+    verdict (parts_rule types i r.tag r.left r.right) (leb w type_width) (any_below i (same_type types i)) w
 
 -- of a product whose parts have these widths: the other part where one has width 0, else itself
-abbrev pub passOver : {X : Type 0} → (leftWidth rightWidth : ℕ) → (left right self : X) → X
-passOver zero b left right self = right
-passOver (suc a) zero left right self = left
-passOver (suc a) (suc b) left right self = self
+abbrev pub pass_over : {X : Type 0} → (left_width right_width : ℕ) → (left right self : X) → X
+pass_over zero b left right self = right
+pass_over (suc a) zero left right self = left
+pass_over (suc a) (suc b) left right self = self
 
 -- no value of the type has padding
 unfoldable pub unpadded : Ty → Bool
@@ -50,43 +50,43 @@ unpadded (sum A B) = every (unpadded A ∷ unpadded B ∷ eqb (width A) (width B
 unpadded (prod A B) = every (unpadded A ∷ unpadded B ∷ [])
 
 -- what stands for a type without padding in place of a next record: the index of no record
-abbrev pub unpaddedMark : ℕ
-unpaddedMark = 65535
+abbrev pub unpadded_mark : ℕ
+unpadded_mark = 65535
 
 -- a record stands for a type without padding, by the widths and the entries of its parts
-abbrev pub unpaddedFrom : (tag leftWidth rightWidth left right : ℕ) → Bool
-unpaddedFrom zero a b left right = true
-unpaddedFrom (suc zero) a b left right = every (eqb left unpaddedMark ∷ eqb right unpaddedMark ∷ eqb a b ∷ [])
-unpaddedFrom (suc (suc k)) a b left right = every (eqb left unpaddedMark ∷ eqb right unpaddedMark ∷ [])
+abbrev pub unpadded_from : (tag left_width right_width left right : ℕ) → Bool
+unpadded_from zero a b left right = true
+unpadded_from (suc zero) a b left right = every (eqb left unpadded_mark ∷ eqb right unpadded_mark ∷ eqb a b ∷ [])
+unpadded_from (suc (suc k)) a b left right = every (eqb left unpadded_mark ∷ eqb right unpadded_mark ∷ [])
 
 -- the mark where the test holds, and else the record
-abbrev pub markWhere : Bool → ℕ → ℕ
-markWhere true j = unpaddedMark
-markWhere false j = j
+abbrev pub mark_where : Bool → ℕ → ℕ
+mark_where true j = unpadded_mark
+mark_where false j = j
 
 -- the next record that matters for a type with padding, of the widths of the parts and of the next ones of the parts
-abbrev pub paddedNext : (tag leftWidth rightWidth left right self : ℕ) → ℕ
-paddedNext zero a b left right self = self
-paddedNext (suc zero) a b left right self = self
-paddedNext (suc (suc k)) a b left right self = passOver a b left right self
+abbrev pub padded_next : (tag left_width right_width left right self : ℕ) → ℕ
+padded_next zero a b left right self = self
+padded_next (suc zero) a b left right self = self
+padded_next (suc (suc k)) a b left right self = pass_over a b left right self
 
 -- the entry of a record: the mark, or the next record that matters
-abbrev pub next_from : (tag leftWidth rightWidth left right self : ℕ) → ℕ
-next_from tag a b left right self = markWhere (unpaddedFrom tag a b left right) (paddedNext tag a b left right self)
+abbrev pub next_from : (tag left_width right_width left right self : ℕ) → ℕ
+next_from tag a b left right self = mark_where (unpadded_from tag a b left right) (padded_next tag a b left right self)
 
 -- the entry of record r at index i, where the widths and the entries of the earlier records are known
-abbrev pub recordNext : TypeRecord → (widths next : List ℕ) → (i : ℕ) → ℕ
-recordNext r widths next i =
+abbrev pub record_next : TypeRecord → (widths next : List ℕ) → (i : ℕ) → ℕ
+record_next r widths next i =
     next_from r.tag (get_or widths r.left 0) (get_or widths r.right 0) (get_or next r.left 0) (get_or next r.right 0) i
 
 module _ (types : List TypeRecord) where
   -- the entry of a record, of those of the records before it
-  unfoldable pub nextMake : List ℕ → TypeRecord → ℕ
+  unfoldable pub next_make : List ℕ → TypeRecord → ℕ
   unfolding ty_at width
-  nextMake before r =
+  next_make before r =
       next_from r.tag (width (ty_at types r.left)) (width (ty_at types r.right)) (get_or before r.left 0) (get_or before r.right 0) (length before)
 
   -- the entry of record i
   unfoldable pub next_at : (i : ℕ) → ℕ
-  unfolding entries nextMake
-  next_at i = get_or (entries nextMake types) i 0
+  unfolding entries next_make
+  next_at i = get_or (entries next_make types) i 0

@@ -4,13 +4,13 @@
 // Of the others a product with a part of width 0 says nothing that its other part does not say:
 // the next record that matters is that part's, and readers of values step over such products by it.
 ghost use Rattle.std.specs.Prelude.{◌≡◌, [], ◌<◌, length, get_or};
-ghost use Rattle.limits.specs.Limits.{typeCount};
-ghost use Rattle.scope.specs.Numbers.{anyBelow};
-ghost use Rattle.scope.specs.Types.{typeRecords, type_at, sameType, partsRule, is_unit, isSum, isProduct, left_at, rightAt, isWord};
+ghost use Rattle.limits.specs.Limits.{type_count};
+ghost use Rattle.scope.specs.Numbers.{any_below};
+ghost use Rattle.scope.specs.Types.{type_records, type_at, same_type, parts_rule, is_unit, is_sum, is_product, left_at, right_at, is_word};
 ghost use Rattle.scope.specs.Stages.{counted};
-ghost use Rattle.common.specs.Answers.{checkOf};
-ghost use Rattle.types.specs.Table.{recordOf, sameRecord, withoutCount, countedTypes, typeTable};
-ghost use Rattle.types.specs.Records.{isRecord, recordJudged, partsWidth, unpaddedFrom, next_from, recordNext};
+ghost use Rattle.common.specs.Answers.{check_of};
+ghost use Rattle.types.specs.Table.{record_of, same_record, without_count, counted_types, type_table};
+ghost use Rattle.types.specs.Records.{is_record, record_judged, parts_width, unpadded_from, next_from, record_next};
 
 use common::Checked;
 use refusal::Refusal;
@@ -51,7 +51,7 @@ enum Judged {
 
 // Record i; past the end of the table a record of no tag.
 pub fn record_at(types: &[u8], i: usize) -> TypeRecord
-    ensures { result ≡ recordOf (type_at (typeRecords types.now) i) }
+    ensures { result ≡ record_of (type_at (type_records types.now) i) }
 {
     if types.len() / limits::TYPE_BYTES <= i {
         return TypeRecord {
@@ -84,7 +84,7 @@ pub fn next_at(next: &[u16], i: usize) -> u16
 
 // Whether type j is of this tag and of these two parts.
 fn is_record(types: &[u8], j: usize, tag: u8, left: usize, right: usize) -> bool
-    ensures { result ≡ isRecord (typeRecords types.now) tag j left right }
+    ensures { result ≡ is_record (type_records types.now) tag j left right }
 {
     let own = record_at(types, j);
     if own.tag != tag {
@@ -98,7 +98,7 @@ fn is_record(types: &[u8], j: usize, tag: u8, left: usize, right: usize) -> bool
 
 // Whether type j is unit.
 pub fn is_unit(types: &[u8], j: usize) -> bool
-    ensures { result ≡ is_unit (typeRecords types.now) j }
+    ensures { result ≡ is_unit (type_records types.now) j }
 {
     let own = record_at(types, j);
     own.tag == 0
@@ -106,21 +106,21 @@ pub fn is_unit(types: &[u8], j: usize) -> bool
 
 // Whether type j is the sum of these two.
 pub fn is_sum(types: &[u8], j: usize, left: usize, right: usize) -> bool
-    ensures { result ≡ isSum (typeRecords types.now) j left right }
+    ensures { result ≡ is_sum (type_records types.now) j left right }
 {
     is_record(types, j, 1, left, right)
 }
 
 // Whether type j is the product of these two.
 pub fn is_product(types: &[u8], j: usize, left: usize, right: usize) -> bool
-    ensures { result ≡ isProduct (typeRecords types.now) j left right }
+    ensures { result ≡ is_product (type_records types.now) j left right }
 {
     is_record(types, j, 2, left, right)
 }
 
 // The left part of type j; record 0 past the table.
 pub fn left_of(types: &[u8], j: usize) -> usize
-    ensures { result ≡ left_at (typeRecords types.now) j }
+    ensures { result ≡ left_at (type_records types.now) j }
 {
     let own = record_at(types, j);
     common::index(own.left)
@@ -128,7 +128,7 @@ pub fn left_of(types: &[u8], j: usize) -> usize
 
 // The right part of type j; record 0 past the table.
 pub fn right_of(types: &[u8], j: usize) -> usize
-    ensures { result ≡ rightAt (typeRecords types.now) j }
+    ensures { result ≡ right_at (type_records types.now) j }
 {
     let own = record_at(types, j);
     common::index(own.right)
@@ -136,7 +136,7 @@ pub fn right_of(types: &[u8], j: usize) -> usize
 
 // Whether type j is a sum of units.
 fn is_bit(types: &[u8], j: usize) -> bool
-    ensures { result ≡ isWord (typeRecords types.now) 0 j }
+    ensures { result ≡ is_word (type_records types.now) 0 j }
 {
     let left = left_of(types, j);
     let right = right_of(types, j);
@@ -151,7 +151,7 @@ fn is_bit(types: &[u8], j: usize) -> bool
 
 // Whether type j is the very type of words of 2^k bits: down k products of equal parts to a sum of units.
 pub fn is_word(types: &[u8], k: u32, j: usize) -> bool
-    ensures { result ≡ isWord (typeRecords types.now) k j }
+    ensures { result ≡ is_word (type_records types.now) k j }
 {
     let mut left = k;
     let mut at = j;
@@ -168,14 +168,14 @@ pub fn is_word(types: &[u8], k: u32, j: usize) -> bool
 
 // The width of the left part of type j, by the widths of a table.
 pub fn left_width(types: &[u8], widths: &[u32], j: usize) -> u32
-    ensures { result ≡ get_or widths.now (left_at (typeRecords types.now) j) 0 }
+    ensures { result ≡ get_or widths.now (left_at (type_records types.now) j) 0 }
 {
     width_at(widths, left_of(types, j))
 }
 
 // Whether the parts are as the tag asks: unit's are 0, a sum's and a product's are earlier records than i.
 fn parts_fit(tag: u8, left: usize, right: usize, i: usize) -> bool
-    ensures { result ≡ partsRule [] i tag left right }
+    ensures { result ≡ parts_rule [] i tag left right }
 {
     if tag == 0 {
         if left == 0 { right == 0 } else { false }
@@ -188,7 +188,7 @@ fn parts_fit(tag: u8, left: usize, right: usize, i: usize) -> bool
 
 // The width of a record of this tag whose parts have these widths.
 fn parts_width(tag: u8, left: u32, right: u32) -> u64
-    ensures { result ≡ partsWidth tag left right }
+    ensures { result ≡ parts_width tag left right }
 {
     let a = common::wide(left);
     let b = common::wide(right);
@@ -203,7 +203,7 @@ fn parts_width(tag: u8, left: u32, right: u32) -> u64
 
 // Whether two records are equal.
 fn same(a: TypeRecord, b: TypeRecord) -> bool
-    ensures { result ≡ sameRecord a b }
+    ensures { result ≡ same_record a b }
 {
     if a.tag == b.tag {
         if a.left == b.left {
@@ -218,7 +218,7 @@ fn same(a: TypeRecord, b: TypeRecord) -> bool
 
 // Whether an earlier record equals record i.
 fn repeated(types: &[u8], i: usize) -> bool
-    ensures { result ≡ anyBelow i (sameType (typeRecords types.now) i) }
+    ensures { result ≡ any_below i (same_type (type_records types.now) i) }
 {
     let own = record_at(types, i);
     let mut j = i;
@@ -233,7 +233,7 @@ fn repeated(types: &[u8], i: usize) -> bool
 
 // Whether record i keeps the rules, where the widths of the earlier records are known.
 fn judge(types: &[u8], i: usize, widths: &[u32]) -> Judged
-    ensures { result ≡ recordJudged (typeRecords types.now) widths.now i }
+    ensures { result ≡ record_judged (type_records types.now) widths.now i }
 {
     let own = record_at(types, i);
     let left = common::index(own.left);
@@ -253,7 +253,7 @@ fn judge(types: &[u8], i: usize, widths: &[u32]) -> Judged
 
 // Whether no value of a record of this tag has padding, of the widths and the entries of its parts.
 fn unpadded(tag: u8, a: u32, b: u32, left: u16, right: u16) -> bool
-    ensures { result ≡ unpaddedFrom tag a b left right }
+    ensures { result ≡ unpadded_from tag a b left right }
 {
     if tag == 0 {
         return true;
@@ -288,8 +288,8 @@ fn entry(tag: u8, a: u32, b: u32, left: u16, right: u16, own: u16) -> u16
 
 // The entry of record i, where the widths and the entries of the earlier records are known.
 fn next_record(types: &[u8], i: usize, widths: &[u32], next: &[u16]) -> u16
-    requires { i < typeCount }
-    ensures { result ≡ recordNext (type_at (typeRecords types.now) i) widths.now next.now i }
+    requires { i < type_count }
+    ensures { result ≡ record_next (type_at (type_records types.now) i) widths.now next.now i }
 {
     let own = record_at(types, i);
     let left = common::index(own.left);
@@ -303,7 +303,7 @@ fn next_record(types: &[u8], i: usize, widths: &[u32], next: &[u16]) -> u16
 
 // The check of a lent type table.
 pub fn check_types(types: &[u8]) -> TypeTable
-    ensures { result ≡ typeTable types.now }
+    ensures { result ≡ type_table types.now }
 {
     let mut widths = [0u32; limits::TYPE_COUNT];
     let mut next = [0u16; limits::TYPE_COUNT];
@@ -337,14 +337,14 @@ pub fn check_types(types: &[u8]) -> TypeTable
 
 // The table has a record, and not too many (4).
 pub fn type_count(types: &[u8]) -> Checked
-    ensures { checkOf result ≡ counted (length (typeRecords types.now)) typeCount }
+    ensures { check_of result ≡ counted (length (type_records types.now)) type_count }
 {
     common::check_count(types.len() / limits::TYPE_BYTES, limits::TYPE_COUNT)
 }
 
 // What the check of a table said, without the count of its records.
 pub fn without_count(answer: TypeAnswer) -> Checked
-    ensures { checkOf result ≡ withoutCount answer }
+    ensures { check_of result ≡ without_count answer }
 {
     match answer {
         TypeAnswer::Records(_) => Checked::Passed,
@@ -354,7 +354,7 @@ pub fn without_count(answer: TypeAnswer) -> Checked
 
 // The table keeps its rules (2), after its count (4).
 pub fn types_hold(types: &[u8]) -> Checked
-    ensures { checkOf result ≡ countedTypes types.now }
+    ensures { check_of result ≡ counted_types types.now }
 {
     let table = check_types(types);
     let answer = table.answer;

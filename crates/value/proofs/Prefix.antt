@@ -10,7 +10,7 @@ use lib.ListN.{length, take, length-append}
 use borrow.Author.Tests.{le-leb, lt-leb}
 use Rattle.report.specs.Bits.{Bit}
 use Rattle.report.specs.Types.{Ty, one, sum, prod}
-use Rattle.report.specs.Values.{Val, ⟨⟩, inl, inr, ◌&◌, compact, Read, value, short, and_then, readValue}
+use Rattle.report.specs.Values.{Val, ⟨⟩, inl, inr, ◌&◌, compact, Read, value, short, and_then, read_value}
 
 -- what is left of a reading where only the first n bits are there
 unfoldable pub within : (n : ℕ) → Read → Read
@@ -18,74 +18,74 @@ unfolding compact
 within n (value v rest) = elim (leb (length (compact v)) n) [ true ↦ value v (take (n - length (compact v)) rest) | false ↦ short ]
 within n short = short
 
-within-yes : (n : ℕ) (v : Val) (rest : List Bit) → length (compact v) ≤ n → within n (value v rest) ≡ value v (take (n - length (compact v)) rest)
+within_yes : (n : ℕ) (v : Val) (rest : List Bit) → length (compact v) ≤ n → within n (value v rest) ≡ value v (take (n - length (compact v)) rest)
 unfolding within
-within-yes n v rest h = rw (le-leb (length (compact v)) n h, within)
+within_yes n v rest h = rw (le-leb (length (compact v)) n h, within)
 
-within-no : (n : ℕ) (v : Val) (rest : List Bit) → n < length (compact v) → within n (value v rest) ≡ short
+within_no : (n : ℕ) (v : Val) (rest : List Bit) → n < length (compact v) → within n (value v rest) ≡ short
 unfolding within
-within-no n v rest h = rw (lt-leb (length (compact v)) n h, within)
+within_no n v rest h = rw (lt-leb (length (compact v)) n h, within)
 
 -- a part, after k bits, of which the value is made
 module _ (f : Val → Val) (k : ℕ) (longer : (v : Val) → length (compact (f v)) ≡ k + length (compact v)) where
-  pub within-part : (n : ℕ) (r : Read) → and_then (within n r) (λ v rest. value (f v) rest) ≡ within (k + n) (and_then r λ v rest. value (f v) rest)
+  pub within_part : (n : ℕ) (r : Read) → and_then (within n r) (λ v rest. value (f v) rest) ≡ within (k + n) (and_then r λ v rest. value (f v) rest)
   unfolding and_then within
-  within-part n (value v rest) = elim (dec_lt n (length (compact v))) [
-    | yes h ↦ ap (λ (r : Read). and_then r λ v rest. value (f v) rest) (within-no n v rest h) ∙ sym (within-no (k + n) (f v) rest (omega (arith, longer v)))
-    | no m ↦ ap (λ (r : Read). and_then r λ v rest. value (f v) rest) (within-yes n v rest (omega arith))
+  within_part n (value v rest) = elim (dec_lt n (length (compact v))) [
+    | yes h ↦ ap (λ (r : Read). and_then r λ v rest. value (f v) rest) (within_no n v rest h) ∙ sym (within_no (k + n) (f v) rest (omega (arith, longer v)))
+    | no m ↦ ap (λ (r : Read). and_then r λ v rest. value (f v) rest) (within_yes n v rest (omega arith))
         ∙ ap (λ (j : ℕ). value (f v) (take j rest)) (let z : n - length (compact v) ≡ k + n - length (compact (f v)) = omega (arith, longer v) in z)
-        ∙ sym (within-yes (k + n) (f v) rest (omega (arith, longer v)))
+        ∙ sym (within_yes (k + n) (f v) rest (omega (arith, longer v)))
   ]
-  within-part n short = refl
+  within_part n short = refl
 
-  within-past : (n : ℕ) (r : Read) → n < k → short ≡ within n (and_then r λ v rest. value (f v) rest)
+  within_past : (n : ℕ) (r : Read) → n < k → short ≡ within n (and_then r λ v rest. value (f v) rest)
   unfolding and_then within
-  within-past n (value v rest) h = sym (within-no n (f v) rest (omega (arith, longer v)))
-  within-past n short h = refl
+  within_past n (value v rest) h = sym (within_no n (f v) rest (omega (arith, longer v)))
+  within_past n short h = refl
 
 -- reading from the first n bits
 abbrev ReadsFirst : Ty → Type 0
-ReadsFirst A = (n : ℕ) (bs : List Bit) → readValue A (take n bs) ≡ within n (readValue A bs)
+ReadsFirst A = (n : ℕ) (bs : List Bit) → read_value A (take n bs) ≡ within n (read_value A bs)
 
 module _ (A B : Ty) where
-  first-sum : ReadsFirst A → ReadsFirst B → ReadsFirst (sum A B)
-  unfolding readValue within and_then compact
-  first-sum h k zero [] = refl
-  first-sum h k (suc n) [] = refl
-  first-sum h k zero (zero ∷ bs) = within-past inl 1 (λ v. omega arith) 0 (readValue A bs) (omega arith)
-  first-sum h k zero (suc b ∷ bs) = within-past inr 1 (λ v. omega arith) 0 (readValue B bs) (omega arith)
-  first-sum h k (suc n) (zero ∷ bs) =
+  first_sum : ReadsFirst A → ReadsFirst B → ReadsFirst (sum A B)
+  unfolding read_value within and_then compact
+  first_sum h k zero [] = refl
+  first_sum h k (suc n) [] = refl
+  first_sum h k zero (zero ∷ bs) = within_past inl 1 (λ v. omega arith) 0 (read_value A bs) (omega arith)
+  first_sum h k zero (suc b ∷ bs) = within_past inr 1 (λ v. omega arith) 0 (read_value B bs) (omega arith)
+  first_sum h k (suc n) (zero ∷ bs) =
       ap (λ (r : Read). and_then r λ v rest. value (inl v) rest) (h n bs)
-      ∙ within-part inl 1 (λ v. omega arith) n (readValue A bs)
-      ∙ ap (λ (j : ℕ). within j (and_then (readValue A bs) λ v rest. value (inl v) rest)) (let z : 1 + n ≡ suc n = omega arith in z)
-  first-sum h k (suc n) (suc b ∷ bs) =
+      ∙ within_part inl 1 (λ v. omega arith) n (read_value A bs)
+      ∙ ap (λ (j : ℕ). within j (and_then (read_value A bs) λ v rest. value (inl v) rest)) (let z : 1 + n ≡ suc n = omega arith in z)
+  first_sum h k (suc n) (suc b ∷ bs) =
       ap (λ (r : Read). and_then r λ v rest. value (inr v) rest) (k n bs)
-      ∙ within-part inr 1 (λ v. omega arith) n (readValue B bs)
-      ∙ ap (λ (j : ℕ). within j (and_then (readValue B bs) λ v rest. value (inr v) rest)) (let z : 1 + n ≡ suc n = omega arith in z)
+      ∙ within_part inr 1 (λ v. omega arith) n (read_value B bs)
+      ∙ ap (λ (j : ℕ). within j (and_then (read_value B bs) λ v rest. value (inr v) rest)) (let z : 1 + n ≡ suc n = omega arith in z)
 
-  first-product : ReadsFirst A → ReadsFirst B → ReadsFirst (prod A B)
-  unfolding readValue within and_then compact
-  first-product h k n bs =
-      ap (λ (r : Read). and_then r λ v bs. and_then (readValue B bs) λ w rest. value (v & w) rest) (h n bs) ∙ go (readValue A bs)
+  first_product : ReadsFirst A → ReadsFirst B → ReadsFirst (prod A B)
+  unfolding read_value within and_then compact
+  first_product h k n bs =
+      ap (λ (r : Read). and_then r λ v bs. and_then (read_value B bs) λ w rest. value (v & w) rest) (h n bs) ∙ go (read_value A bs)
     where
       longer : (v w : Val) → length (compact (v & w)) ≡ length (compact v) + length (compact w)
       longer v w = length-append (compact v) (compact w)
 
-      go : (r : Read) → and_then (within n r) (λ v bs. and_then (readValue B bs) λ w rest. value (v & w) rest)
-          ≡ within n (and_then r λ v bs. and_then (readValue B bs) λ w rest. value (v & w) rest)
+      go : (r : Read) → and_then (within n r) (λ v bs. and_then (read_value B bs) λ w rest. value (v & w) rest)
+          ≡ within n (and_then r λ v bs. and_then (read_value B bs) λ w rest. value (v & w) rest)
       go (value v m) = elim (dec_lt n (length (compact v))) [
-        | yes l ↦ ap (λ (r : Read). and_then r λ v bs. and_then (readValue B bs) λ w rest. value (v & w) rest) (within-no n v m l)
-            ∙ within-past (λ w. v & w) (length (compact v)) (longer v) n (readValue B m) l
-        | no l ↦ ap (λ (r : Read). and_then r λ v bs. and_then (readValue B bs) λ w rest. value (v & w) rest) (within-yes n v m (omega arith))
+        | yes l ↦ ap (λ (r : Read). and_then r λ v bs. and_then (read_value B bs) λ w rest. value (v & w) rest) (within_no n v m l)
+            ∙ within_past (λ w. v & w) (length (compact v)) (longer v) n (read_value B m) l
+        | no l ↦ ap (λ (r : Read). and_then r λ v bs. and_then (read_value B bs) λ w rest. value (v & w) rest) (within_yes n v m (omega arith))
             ∙ ap (λ (r : Read). and_then r λ w rest. value (v & w) rest) (k (n - length (compact v)) m)
-            ∙ within-part (λ w. v & w) (length (compact v)) (longer v) (n - length (compact v)) (readValue B m)
-            ∙ ap (λ (j : ℕ). within j (and_then (readValue B m) λ w rest. value (v & w) rest))
+            ∙ within_part (λ w. v & w) (length (compact v)) (longer v) (n - length (compact v)) (read_value B m)
+            ∙ ap (λ (j : ℕ). within j (and_then (read_value B m) λ w rest. value (v & w) rest))
             (let z : length (compact v) + (n - length (compact v)) ≡ n = omega arith in z)
       ]
       go short = refl
 
 pub read_first : (A : Ty) → ReadsFirst A
-unfolding readValue within compact
-read_first one n bs = ap (λ (j : ℕ). value ⟨⟩ (take j bs)) (let z : n ≡ n - 0 = omega arith in z) ∙ sym (within-yes n ⟨⟩ bs (omega arith))
-read_first (sum A B) n bs = first-sum A B (read_first A) (read_first B) n bs
-read_first (prod A B) n bs = first-product A B (read_first A) (read_first B) n bs
+unfolding read_value within compact
+read_first one n bs = ap (λ (j : ℕ). value ⟨⟩ (take j bs)) (let z : n ≡ n - 0 = omega arith in z) ∙ sym (within_yes n ⟨⟩ bs (omega arith))
+read_first (sum A B) n bs = first_sum A B (read_first A) (read_first B) n bs
+read_first (prod A B) n bs = first_product A B (read_first A) (read_first B) n bs

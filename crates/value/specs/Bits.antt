@@ -2,10 +2,10 @@
 -- And what each public call answers, with what it leaves in the store that it writes: where bits or room are too few, the store is as it was.
 use Rattle.std.specs.Prelude.{Bool, true, false, List, [], ◌∷◌, ◌++◌, ℕ, zero, suc, ◌+◌, leb, length, take, drop}
 use Rattle.std.proofs.lemmas.List.Edits.{sets}
-use Rattle.limits.specs.Limits.{cellCount}
+use Rattle.limits.specs.Limits.{cell_count}
 use Rattle.report.specs.Bits.{Bit}
 use Rattle.report.specs.Values.{Cells}
-use Rattle.scope.specs.Numbers.{zeros, every, tabulateFrom}
+use Rattle.scope.specs.Numbers.{zeros, every, tabulate_from}
 use Rattle.value.specs.Shapes.{Shape, nothing, plain, tag, both}
 use Rattle.value.specs.declared.ValueRead.{ValueRead}
 use Rattle.value.specs.declared.ValueRead.TheVariants.{Next, Short}
@@ -27,42 +27,42 @@ abbrev pub tag_of : Bit → Bit
 tag_of zero = 0
 tag_of (suc b) = 1
 
-unfoldable pub tagsOf : List Bit → List Bit
-tagsOf [] = []
-tagsOf (b ∷ bs) = tag_of b ∷ tagsOf bs
+unfoldable pub tags_of : List Bit → List Bit
+tags_of [] = []
+tags_of (b ∷ bs) = tag_of b ∷ tags_of bs
 
 -- the compact bits of a value of the shape, at the front of the bits
-unfoldable pub skipShape : Shape → List Bit → Used
-skipShape nothing bs = used 0
-skipShape (plain n) bs = elim (leb n (length bs)) [ true ↦ used n | false ↦ short ]
-skipShape (tag padLeft padRight A B) [] = short
-skipShape (tag padLeft padRight A B) (zero ∷ bs) = after 1 (skipShape A bs)
-skipShape (tag padLeft padRight A B) (suc b ∷ bs) = after 1 (skipShape B bs)
-skipShape (both left A B) bs = elim (skipShape A bs) [ used k ↦ after k (skipShape B (drop k bs)) | short ↦ short ]
+unfoldable pub skip_shape : Shape → List Bit → Used
+skip_shape nothing bs = used 0
+skip_shape (plain n) bs = elim (leb n (length bs)) [ true ↦ used n | false ↦ short ]
+skip_shape (tag pad_left pad_right A B) [] = short
+skip_shape (tag pad_left pad_right A B) (zero ∷ bs) = after 1 (skip_shape A bs)
+skip_shape (tag pad_left pad_right A B) (suc b ∷ bs) = after 1 (skip_shape B bs)
+skip_shape (both left A B) bs = elim (skip_shape A bs) [ used k ↦ after k (skip_shape B (drop k bs)) | short ↦ short ]
 
 -- the cells with the padded value from a place on, as far as there are bits for it
-unfoldable pub padShape : Shape → List Bit → (cells : List Bit) → (at : ℕ) → List Bit
-unfolding skipShape tagsOf
-padShape nothing bs cells at = cells
-padShape (plain n) bs cells at = elim (leb n (length bs)) [ true ↦ sets cells at (tagsOf (take n bs)) | false ↦ cells ]
-padShape (tag padLeft padRight A B) [] cells at = cells
-padShape (tag padLeft padRight A B) (zero ∷ bs) cells at = padShape A bs (sets cells at (0 ∷ zeros padLeft)) (at + (1 + padLeft))
-padShape (tag padLeft padRight A B) (suc b ∷ bs) cells at = padShape B bs (sets cells at (1 ∷ zeros padRight)) (at + (1 + padRight))
-padShape (both left A B) bs cells at = elim (skipShape A bs) [
-  | used k ↦ padShape B (drop k bs) (padShape A bs cells at) (at + left)
-  | short ↦ padShape A bs cells at
+unfoldable pub pad_shape : Shape → List Bit → (cells : List Bit) → (at : ℕ) → List Bit
+unfolding skip_shape tags_of
+pad_shape nothing bs cells at = cells
+pad_shape (plain n) bs cells at = elim (leb n (length bs)) [ true ↦ sets cells at (tags_of (take n bs)) | false ↦ cells ]
+pad_shape (tag pad_left pad_right A B) [] cells at = cells
+pad_shape (tag pad_left pad_right A B) (zero ∷ bs) cells at = pad_shape A bs (sets cells at (0 ∷ zeros pad_left)) (at + (1 + pad_left))
+pad_shape (tag pad_left pad_right A B) (suc b ∷ bs) cells at = pad_shape B bs (sets cells at (1 ∷ zeros pad_right)) (at + (1 + pad_right))
+pad_shape (both left A B) bs cells at = elim (skip_shape A bs) [
+  | used k ↦ pad_shape B (drop k bs) (pad_shape A bs cells at) (at + left)
+  | short ↦ pad_shape A bs cells at
 ]
 
 -- the compact bits of the value that the cells from a place on hold, whatever the padding is
-unfoldable pub unpadShape : Shape → Cells → (at : ℕ) → List Bit
-unfolding tabulateFrom
-unpadShape nothing c at = []
-unpadShape (plain n) c at = tabulateFrom at n (λ k. tag_of (c k))
-unpadShape (tag padLeft padRight A B) c at = elim (c at) [
-  | zero ↦ 0 ∷ unpadShape A c (at + (1 + padLeft))
-  | suc b ↦ 1 ∷ unpadShape B c (at + (1 + padRight))
+unfoldable pub unpad_shape : Shape → Cells → (at : ℕ) → List Bit
+unfolding tabulate_from
+unpad_shape nothing c at = []
+unpad_shape (plain n) c at = tabulate_from at n (λ k. tag_of (c k))
+unpad_shape (tag pad_left pad_right A B) c at = elim (c at) [
+  | zero ↦ 0 ∷ unpad_shape A c (at + (1 + pad_left))
+  | suc b ↦ 1 ∷ unpad_shape B c (at + (1 + pad_right))
 ]
-unpadShape (both left A B) c at = unpadShape A c at ++ unpadShape B c (at + left)
+unpad_shape (both left A B) c at = unpad_shape A c at ++ unpad_shape B c (at + left)
 
 -- the position after a value's bits that begin at p
 abbrev pub skipped : (p : ℕ) → Used → ValueRead
@@ -73,7 +73,7 @@ skipped p short = Short
 unfoldable pub room : (width at : ℕ) → (cells : List Bit) → Bool
 unfolding every
 room zero at cells = true
-room (suc w) at cells = every (leb (at + suc w) (length cells) ∷ leb (at + suc w) cellCount ∷ [])
+room (suc w) at cells = every (leb (at + suc w) (length cells) ∷ leb (at + suc w) cell_count ∷ [])
 
 -- what padding says, and the cells as it leaves them
 pub record Padded : Type 0 where
@@ -85,11 +85,11 @@ abbrev pub padding : ValueRead → List Bit → Padded
 padding says cells = record { says = says; cells = cells }
 
 -- the value at bit p as padded cells from `at` on, where there are bits and cells enough
-unfoldable pub padStage : Shape → (width : ℕ) → (bits : List Bit) → (p : ℕ) → (cells : List Bit) → (at : ℕ) → Padded
-unfolding skipShape padShape room
-padStage A width bits p cells at = elim (skipShape A (drop p bits)) [
+unfoldable pub pad_stage : Shape → (width : ℕ) → (bits : List Bit) → (p : ℕ) → (cells : List Bit) → (at : ℕ) → Padded
+unfolding skip_shape pad_shape room
+pad_stage A width bits p cells at = elim (skip_shape A (drop p bits)) [
   | used n ↦ elim (room width at cells) [
-    | true ↦ padding (Next (p + n)) (padShape A (drop p bits) cells at)
+    | true ↦ padding (Next (p + n)) (pad_shape A (drop p bits) cells at)
     | false ↦ padding Short cells
   ]
   | short ↦ padding Short cells
@@ -105,9 +105,9 @@ abbrev pub unpadding : ValueWritten → List Bit → Unpadded
 unpadding says bits = record { says = says; bits = bits }
 
 -- the compact bits of the value in the cells from `at` on, from bit q of the store on, where both have room for the width
-unfoldable pub unpadStage : Shape → (width : ℕ) → (cells : List Bit) → Cells → (at : ℕ) → (store : List Bit) → (q : ℕ) → Unpadded
-unfolding unpadShape every room
-unpadStage A width cells c at store q = elim (every (room width at cells ∷ room width q store ∷ [])) [
-  | true ↦ unpadding (Bits (length (unpadShape A c at))) (sets store q (unpadShape A c at))
+unfoldable pub unpad_stage : Shape → (width : ℕ) → (cells : List Bit) → Cells → (at : ℕ) → (store : List Bit) → (q : ℕ) → Unpadded
+unfolding unpad_shape every room
+unpad_stage A width cells c at store q = elim (every (room width at cells ∷ room width q store ∷ [])) [
+  | true ↦ unpadding (Bits (length (unpad_shape A c at))) (sets store q (unpad_shape A c at))
   | false ↦ unpadding NoRoom store
 ]

@@ -6,12 +6,12 @@
 // its widths, or whose parts do not lie below it, stands for nothing. A table that the check of types passed has no such record.
 ghost use Rattle.std.specs.Prelude.{◌≡◌, ◌∷◌, ◌+◌, ◌*◌, ◌-◌, ◌%◌, ◌≤◌, ◌<◌, max, length, get_or, drop};
 ghost use Rattle.std.proofs.lemmas.List.Edits.{sets};
-ghost use Rattle.limits.specs.Limits.{cellCount};
+ghost use Rattle.limits.specs.Limits.{cell_count};
 ghost use Rattle.report.specs.Bits.{bits_of};
-ghost use Rattle.scope.specs.Numbers.{streamOf, zeros};
+ghost use Rattle.scope.specs.Numbers.{stream_of, zeros};
 ghost use Rattle.scope.specs.Run.{cells_of};
-ghost use Rattle.value.specs.Shapes.{plain, falls, tagStep, bothStep, stepAt, shape_at, part};
-ghost use Rattle.value.specs.Bits.{skipShape, padShape, unpadShape, skipped, padding, padStage, unpadding, unpadStage, room};
+ghost use Rattle.value.specs.Shapes.{plain, falls, tag_step, both_step, step_at, shape_at, part};
+ghost use Rattle.value.specs.Bits.{skip_shape, pad_shape, unpad_shape, skipped, padding, pad_stage, unpadding, unpad_stage, room};
 
 use bititer::CodeRead;
 
@@ -59,7 +59,7 @@ fn larger(a: u32, b: u32) -> u32
 
 // A sum of this width, whose parts have widths a and b.
 fn tag_step(own: u32, left: usize, right: usize, a: u32, b: u32) -> Step
-    ensures { result ≡ tagStep own left right a b }
+    ensures { result ≡ tag_step own left right a b }
 {
     let most = larger(a, b);
     if common::wide(own) == 1 + common::wide(most) {
@@ -71,7 +71,7 @@ fn tag_step(own: u32, left: usize, right: usize, a: u32, b: u32) -> Step
 
 // A product of this width, whose parts have widths a and b.
 fn both_step(own: u32, left: usize, right: usize, a: u32, b: u32) -> Step
-    ensures { result ≡ bothStep own left right a b }
+    ensures { result ≡ both_step own left right a b }
 {
     if common::wide(own) == common::wide(a) + common::wide(b) {
         Step::Both(left, right, a)
@@ -82,7 +82,7 @@ fn both_step(own: u32, left: usize, right: usize, a: u32, b: u32) -> Step
 
 // How a value of type i goes on.
 fn step_at<'a>(types: &[u8], widths: &'a [u32], next: &'a [u16], i: usize) -> Step
-    ensures { result ≡ stepAt types.now widths.now next.now i }
+    ensures { result ≡ step_at types.now widths.now next.now i }
 {
     let own = types::width_at(widths, i);
     if own == 0 {
@@ -129,7 +129,7 @@ fn padding_of(side: u8, left: u32, right: u32) -> u32
 
 // How many bits of a stream stand from bit p on.
 fn bits_left(s: &[u8], p: usize) -> usize
-    ensures { result ≡ length (drop p (streamOf s.now)) }
+    ensures { result ≡ length (drop p (stream_of s.now)) }
 {
     if limits::DOSSIER_BYTES < s.len() {
         return 0;
@@ -140,7 +140,7 @@ fn bits_left(s: &[u8], p: usize) -> usize
 
 // How far so many bits from bit p of a stream on go.
 fn skip_plain(s: &[u8], p: usize, width: u32) -> ValueRead
-    ensures { result ≡ skipped p (skipShape (plain width) (drop p (streamOf s.now))) }
+    ensures { result ≡ skipped p (skip_shape (plain width) (drop p (stream_of s.now))) }
 {
     let n = width as usize;
     if n <= bits_left(s, p) {
@@ -160,7 +160,7 @@ pub fn skip<'a>(
     p: usize,
 ) -> ValueRead
     ensures { result ≡ skipped p
-        (skipShape (shape_at types.now widths.now next.now i) (drop p (streamOf s.now))) }
+        (skip_shape (shape_at types.now widths.now next.now i) (drop p (stream_of s.now))) }
 {
     let way = step_at(types, widths, next, i);
     match way {
@@ -198,7 +198,7 @@ fn has_room(cells: &[u8], width: u32, at: u32) -> bool
 
 // A tag and its padding.
 fn write_tag(cells: &mut [u8], at: u32, side: u8, padding: u32)
-    requires { at < cellCount }
+    requires { at < cell_count }
     ensures { bits_of cells.new ≡ sets (bits_of cells.old) at (side % 2 ∷ zeros padding) }
 {
     cells::write_cell(cells, at, side);
@@ -208,8 +208,8 @@ fn write_tag(cells: &mut [u8], at: u32, side: u8, padding: u32)
 // So many bits from bit p of a stream on, as cells from `at` on, where there are so many.
 fn pad_plain(s: &[u8], p: usize, width: u32, cells: &mut [u8], at: u32) -> ValueRead
     requires { 0 < width }
-    ensures { (result ≡ skipped p (skipShape (plain width) (drop p (streamOf s.now))))
-        × (bits_of cells.new ≡ padShape (plain width) (drop p (streamOf s.now)) (bits_of cells.old) at) }
+    ensures { (result ≡ skipped p (skip_shape (plain width) (drop p (stream_of s.now))))
+        × (bits_of cells.new ≡ pad_shape (plain width) (drop p (stream_of s.now)) (bits_of cells.old) at) }
 {
     let ValueRead::Next(end) = skip_plain(s, p, width) else {
         return ValueRead::Short;
@@ -229,10 +229,10 @@ fn pad_part<'a>(
     cells: &mut [u8],
     at: u32,
 ) -> ValueRead
-    requires { 0 < get_or widths.now i 0 → at + get_or widths.now i 0 ≤ cellCount }
-    ensures { (result ≡ skipped p (skipShape (shape_at types.now widths.now next.now i) (drop p (streamOf s.now))))
-        × (bits_of cells.new ≡ padShape (shape_at types.now widths.now next.now i)
-        (drop p (streamOf s.now)) (bits_of cells.old) at) }
+    requires { 0 < get_or widths.now i 0 → at + get_or widths.now i 0 ≤ cell_count }
+    ensures { (result ≡ skipped p (skip_shape (shape_at types.now widths.now next.now i) (drop p (stream_of s.now))))
+        × (bits_of cells.new ≡ pad_shape (shape_at types.now widths.now next.now i)
+        (drop p (stream_of s.now)) (bits_of cells.old) at) }
 {
     let way = step_at(types, widths, next, i);
     match way {
@@ -270,8 +270,8 @@ pub fn pad<'a>(
     at: u32,
 ) -> ValueRead
     ensures { padding result (bits_of cells.new)
-        ≡ padStage (shape_at types.now widths.now next.now i) (get_or widths.now i 0)
-        (streamOf s.now) p (bits_of cells.old) at }
+        ≡ pad_stage (shape_at types.now widths.now next.now i) (get_or widths.now i 0)
+        (stream_of s.now) p (bits_of cells.old) at }
 {
     let ValueRead::Next(_) = skip(types, widths, next, i, s, p) else {
         return ValueRead::Short;
@@ -293,10 +293,10 @@ fn unpad_part<'a>(
     answer: &mut [u8],
     q: u32,
 ) -> u32
-    requires { 0 < get_or widths.now i 0 → (at + get_or widths.now i 0 ≤ cellCount) × (q + get_or widths.now i 0 ≤ cellCount) }
-    ensures { (result ≡ q + length (unpadShape (shape_at types.now widths.now next.now i) (cells_of cells.now) at))
+    requires { 0 < get_or widths.now i 0 → (at + get_or widths.now i 0 ≤ cell_count) × (q + get_or widths.now i 0 ≤ cell_count) }
+    ensures { (result ≡ q + length (unpad_shape (shape_at types.now widths.now next.now i) (cells_of cells.now) at))
         × (bits_of answer.new ≡ sets (bits_of answer.old) q
-        (unpadShape (shape_at types.now widths.now next.now i) (cells_of cells.now) at)) }
+        (unpad_shape (shape_at types.now widths.now next.now i) (cells_of cells.now) at)) }
 {
     let way = step_at(types, widths, next, i);
     match way {
@@ -334,7 +334,7 @@ pub fn unpad<'a>(
     q: u32,
 ) -> ValueWritten
     ensures { unpadding result (bits_of answer.new)
-        ≡ unpadStage (shape_at types.now widths.now next.now i) (get_or widths.now i 0)
+        ≡ unpad_stage (shape_at types.now widths.now next.now i) (get_or widths.now i 0)
         (bits_of cells.now) (cells_of cells.now) at (bits_of answer.old) q }
 {
     let width = types::width_at(widths, i);

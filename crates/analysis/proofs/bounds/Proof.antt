@@ -4,17 +4,17 @@ use Prim.Native.Nat.{◌-◌, ◌/◌}
 use native.Mathlib.Omega.{arith}
 use lib.ListN.{length}
 use borrow.Author.Rules.{rules}
-use Rattle.limits.specs.Limits.{nodeCount, nodeNumbers, cellCount, frameCount}
-use Rattle.scope.specs.Types.{typeRecords}
-use Rattle.scope.specs.Nodes.{nodeRecords}
-use Rattle.scope.specs.Arrows.{arrowRecords}
+use Rattle.limits.specs.Limits.{node_count, node_numbers, cell_count, frame_count}
+use Rattle.scope.specs.Types.{type_records}
+use Rattle.scope.specs.Nodes.{node_records}
+use Rattle.scope.specs.Arrows.{arrow_records}
 use Rattle.common.specs.Checks.{counted-passed, passes}
-use Rattle.common.specs.Answers.{checkOf}
-use Rattle.common.specs.Nodes.{length-records}
+use Rattle.common.specs.Answers.{check_of}
+use Rattle.common.specs.Nodes.{length_records}
 use Rattle.analysis.specs.Held.{up_to}
-use Rattle.lookup.specs.Lookup.{sourceWidth, targetWidth}
-use Rattle.analysis.specs.Limits.{boundedOf, limited, lentTotals, countedBounds}
-use Rattle.analysis.proofs.Totals.{stopped, row_read, totals-judged}
+use Rattle.lookup.specs.Lookup.{source_width, target_width}
+use Rattle.analysis.specs.Limits.{bounded_of, limited, lent_totals, counted_bounds}
+use Rattle.analysis.proofs.Totals.{stopped, row_read, totals_judged}
 use Rattle.analysis.proofs.Tables.{held_at}
 use Rattle.analysis.proofs.bounds.Statement.{statement}
 use Rattle.analysis.proofs.bounds.Tie as tie
@@ -32,24 +32,24 @@ refused-requires : tie.Need-refused-requires
 refused-requires c κs = search rules
 
 returns : tie.Need-returns
-unfolding countedBounds
+unfolding counted_bounds
 returns c =
-    ap boundedOf c.refused.ensures ∙ stopped c.before.before.before.check-count.result _ _ _
+    ap bounded_of c.refused.ensures ∙ stopped c.before.before.before.check-count.result _ _ _
     c.before.before.before.check-count.ensures c.before.enum-told2.given.1
 
 sub-last : tie.Need-overflow-sub-last
 sub-last c =
     let nodes = c.before.before.before.before.before.before.before.args.nodes.now in
-    let few = counted-passed (length (nodeRecords nodes)) nodeCount
-    (sym c.before.before.check-count.ensures ∙ ap checkOf c.enum_told.given.1) in
-    omega (arith, length-records nodes, few.0, few.1)
+    let few = counted-passed (length (node_records nodes)) node_count
+    (sym c.before.before.check-count.ensures ∙ ap check_of c.enum_told.given.1) in
+    omega (arith, length_records nodes, few.0, few.1)
 
 cast-last : tie.Need-overflow-cast-last
 cast-last c =
     let nodes = c.before.before.before.before.before.before.before.args.nodes.now in
-    let few = counted-passed (length (nodeRecords nodes)) nodeCount
-    (sym c.before.before.check-count.ensures ∙ ap checkOf c.enum_told.given.1) in
-    omega (arith, length-records nodes, few.0, few.1)
+    let few = counted-passed (length (node_records nodes)) node_count
+    (sym c.before.before.check-count.ensures ∙ ap check_of c.enum_told.given.1) in
+    omega (arith, length_records nodes, few.0, few.1)
 
 node-rows-requires : tie.Need-node-rows-requires
 node-rows-requires c κs = search rules
@@ -57,23 +57,23 @@ node-rows-requires c κs = search rules
 cast-at : tie.Need-overflow-cast-at
 cast-at c =
     let nodes = c.before.before.before.before.before.before.before.before.args.nodes.now in
-    let few = counted-passed (length (nodeRecords nodes)) nodeCount
-    (sym c.before.before.before.check-count.ensures ∙ ap checkOf c.before.enum_told.given.1) in
-    omega (arith, length-records nodes, few.0, few.1)
+    let few = counted-passed (length (node_records nodes)) node_count
+    (sym c.before.before.before.check-count.ensures ∙ ap check_of c.before.enum_told.given.1) in
+    omega (arith, length_records nodes, few.0, few.1)
 
 mul-own : tie.Need-overflow-mul-own
 mul-own c =
     let nodes = c.before.before.before.before.before.before.before.before.args.nodes.now in
-    let few = counted-passed (length (nodeRecords nodes)) nodeCount
-    (sym c.before.before.before.check-count.ensures ∙ ap checkOf c.before.enum_told.given.1) in
-    omega (arith, length-records nodes, few.0, few.1)
+    let few = counted-passed (length (node_records nodes)) node_count
+    (sym c.before.before.before.check-count.ensures ∙ ap check_of c.before.enum_told.given.1) in
+    omega (arith, length_records nodes, few.0, few.1)
 
 array-copy-out-own : tie.Need-array-copy-out-own
 array-copy-out-own c =
     let nodes = c.before.before.before.before.before.before.before.before.args.nodes.now in
-    let few = counted-passed (length (nodeRecords nodes)) nodeCount
-    (sym c.before.before.before.check-count.ensures ∙ ap checkOf c.before.enum_told.given.1) in
-    omega (arith, length-records nodes, few.0, few.1)
+    let few = counted-passed (length (node_records nodes)) node_count
+    (sym c.before.before.before.check-count.ensures ∙ ap check_of c.before.enum_told.given.1) in
+    omega (arith, length_records nodes, few.0, few.1)
 
 source-width-requires : tie.Need-source-width-requires
 source-width-requires c κs = search rules
@@ -112,38 +112,38 @@ judged-requires : tie.Need-judged-requires
 judged-requires c κs = search rules
 
 returns-2 : tie.Need-returns-2
-unfolding countedBounds
+unfolding counted_bounds
 returns-2 c =
     let args = c.before.before.before.before.before.before.before.before.before.before.before.before.before.before.before.before.before.before.before.args in
     let nodes = args.nodes.now in
     let some =
     sym c.before.before.before.before.before.before.before.before.before.before.before.before.before.before.check-count.ensures
-    ∙ ap checkOf c.before.before.before.before.before.before.before.before.before.before.before.before.enum_told.given.1 in
-    let few = counted-passed (length (nodeRecords nodes)) nodeCount some in
-    let last : length nodes / nodeNumbers - 1 ≡ length (nodeRecords nodes) - 1 = omega (arith, length-records nodes) in
+    ∙ ap check_of c.before.before.before.before.before.before.before.before.before.before.before.before.enum_told.given.1 in
+    let few = counted-passed (length (node_records nodes)) node_count some in
+    let last : length nodes / node_numbers - 1 ≡ length (node_records nodes) - 1 = omega (arith, length_records nodes) in
     c.judged.ensures
-    ∙ totals-judged (typeRecords args.types.now) args.widths.now (nodeRecords args.nodes.now) (arrowRecords args.arrows.now) _
+    ∙ totals_judged (type_records args.types.now) args.widths.now (node_records args.nodes.now) (arrow_records args.arrows.now) _
     c.before.before.before.before.before.before.before.before.before.source-width.result
     c.before.before.before.before.before.before.before.target-width.result _ _ _
-    (row_read (typeRecords args.types.now) args.widths.now (nodeRecords args.nodes.now) (arrowRecords args.arrows.now)
-    c.before.before.before.before.before.before.before.before.before.before.before.node-rows.result (length nodes / nodeNumbers - 1)
-    (omega (arith, length-records nodes, few.0, few.1))
+    (row_read (type_records args.types.now) args.widths.now (node_records args.nodes.now) (arrow_records args.arrows.now)
+    c.before.before.before.before.before.before.before.before.before.before.before.node-rows.result (length nodes / node_numbers - 1)
+    (omega (arith, length_records nodes, few.0, few.1))
     c.before.before.before.before.before.before.before.before.before.before.before.node-rows.ensures
-    ∙ ap (held_at (typeRecords args.types.now) args.widths.now (nodeRecords args.nodes.now) (arrowRecords args.arrows.now)) last)
+    ∙ ap (held_at (type_records args.types.now) args.widths.now (node_records args.nodes.now) (arrow_records args.arrows.now)) last)
     (c.before.before.before.before.before.before.before.before.before.source-width.ensures
-    ∙ ap (sourceWidth args.widths.now (arrowRecords args.arrows.now)) last)
+    ∙ ap (source_width args.widths.now (arrow_records args.arrows.now)) last)
     (c.before.before.before.before.before.before.before.target-width.ensures
-    ∙ ap (targetWidth args.widths.now (arrowRecords args.arrows.now)) last)
+    ∙ ap (target_width args.widths.now (arrow_records args.arrows.now)) last)
     (c.before.before.before.before.up_to_lem.ensures
-    ∙ ap (up_to cellCount) (omega (
+    ∙ ap (up_to cell_count) (omega (
       arith,
       c.before.before.before.before.before.before.before.before.wide.ensures.0,
       c.before.before.before.before.before.before.wide2.ensures.0,
       c.before.before.before.before.before.wide3.ensures.0,
     )))
-    (c.before.before.up-to2.ensures ∙ ap (up_to frameCount) (omega (arith, c.before.before.before.wide4.ensures.0))) refl
-    ∙ passes some (λ x. limited (lentTotals (typeRecords args.types.now) args.widths.now (nodeRecords args.nodes.now)
-    (arrowRecords args.arrows.now)))
+    (c.before.before.up-to2.ensures ∙ ap (up_to frame_count) (omega (arith, c.before.before.before.wide4.ensures.0))) refl
+    ∙ passes some (λ x. limited (lent_totals (type_records args.types.now) args.widths.now (node_records args.nodes.now)
+    (arrow_records args.arrows.now)))
 
 pub bounds-spec : {M : Type 1} → statement M
 bounds-spec =

@@ -2,10 +2,10 @@
 use mathlib.Core.Path.{ap, ◌∙◌}
 use Prim.Native.Nat.{◌+◌}
 use borrow.Author.Rules.{rules}
-use Rattle.limits.specs.Limits.{cellCount, frameCount, costLimit, nodeCost}
+use Rattle.limits.specs.Limits.{cell_count, frame_count, cost_limit, node_cost}
 use Rattle.scope.specs.Bounds.{case_row}
 use Rattle.analysis.specs.Held.{up_to}
-use Rattle.analysis.proofs.Sums.{bound-eq}
+use Rattle.analysis.proofs.Sums.{bound_eq}
 use Rattle.analysis.proofs.case_row.Statement.{statement}
 use Rattle.analysis.proofs.case_row.Tie as tie
 
@@ -34,9 +34,9 @@ returns c =
     let up-to-call = c.before.before.before.before.up_to_lem in
     let larger2-call = c.before.before.before.larger2 in
     let up-to2-call = c.before.before.up-to2 in
-    bound-eq (up-to-call.ensures ∙ ap (up_to cellCount) larger-call.ensures.0)
-    (up-to2-call.ensures ∙ ap (up_to frameCount) larger2-call.ensures.0)
-    (c.of.ensures ∙ ap (λ w. up_to costLimit (nodeCost + w)) c.before.larger3.ensures.0)
+    bound_eq (up-to-call.ensures ∙ ap (up_to cell_count) larger-call.ensures.0)
+    (up-to2-call.ensures ∙ ap (up_to frame_count) larger2-call.ensures.0)
+    (c.of.ensures ∙ ap (λ w. up_to cost_limit (node_cost + w)) c.before.larger3.ensures.0)
 
 pub case-row-spec : {M : Type 1} → statement M
 case-row-spec =

@@ -1,10 +1,10 @@
 -- `analysis::child_row` meets its contract: each number of the row from what the calls promise.
 use mathlib.Core.Path.{ap, ◌∙◌}
 use borrow.Author.Rules.{rules}
-use Rattle.limits.specs.Limits.{cellCount, frameCount}
-use Rattle.scope.specs.Bounds.{childRow}
+use Rattle.limits.specs.Limits.{cell_count, frame_count}
+use Rattle.scope.specs.Bounds.{child_row}
 use Rattle.analysis.specs.Held.{up_to}
-use Rattle.analysis.proofs.Sums.{bound-eq, child-price}
+use Rattle.analysis.proofs.Sums.{bound_eq, child_price}
 use Rattle.analysis.proofs.child_row.Statement.{statement}
 use Rattle.analysis.proofs.child_row.Tie as tie
 
@@ -27,17 +27,17 @@ add-requires : tie.Need-add-requires
 add-requires c κs = search rules
 
 returns : tie.Need-returns
-unfolding childRow
+unfolding child_row
 returns c =
     let args = c.before.before.before.before.before.before.before.args in
     let of-call = c.before.before.before.before.before.of in
     let wide-call = c.before.before.before.before.wide in
     let up-to-call = c.before.before.before.up_to_lem in
     let wide2-call = c.before.before.wide2 in
-    bound-eq
-    (up-to-call.ensures ∙ ap (up_to cellCount) wide-call.ensures.0)
-    (c.before.up-to2.ensures ∙ ap (up_to frameCount) wide2-call.ensures.0)
-    (child-price args.child.cost.units c.add.ensures of-call.ensures)
+    bound_eq
+    (up-to-call.ensures ∙ ap (up_to cell_count) wide-call.ensures.0)
+    (c.before.up-to2.ensures ∙ ap (up_to frame_count) wide2-call.ensures.0)
+    (child_price args.child.cost.units c.add.ensures of-call.ensures)
 
 pub child-row-spec : {M : Type 1} → statement M
 child-row-spec =

@@ -2,10 +2,10 @@
 use mathlib.Core.Path.{ap, ap₂, ◌∙◌}
 use Prim.Native.Nat.{◌+◌}
 use borrow.Author.Rules.{rules}
-use Rattle.limits.specs.Limits.{cellCount, frameCount, costLimit, nodeCost}
-use Rattle.scope.specs.Bounds.{compRow}
+use Rattle.limits.specs.Limits.{cell_count, frame_count, cost_limit, node_cost}
+use Rattle.scope.specs.Bounds.{comp_row}
 use Rattle.analysis.specs.Held.{up_to}
-use Rattle.analysis.proofs.Sums.{bound-eq, price}
+use Rattle.analysis.proofs.Sums.{bound_eq, price}
 use Rattle.analysis.proofs.comp_row.Statement.{statement}
 use Rattle.analysis.proofs.comp_row.Tie as tie
 
@@ -43,7 +43,7 @@ add-requires-2 : tie.Need-add-requires-2
 add-requires-2 c κs = search rules
 
 returns : tie.Need-returns
-unfolding compRow
+unfolding comp_row
 returns c =
     let args = c.before.before.before.before.before.before.before.before.before.before.before.args in
     let wide-call = c.before.before.before.before.before.before.before.before.wide in
@@ -53,10 +53,10 @@ returns c =
     let up-to2-call = c.before.before.before.before.up-to2 in
     let wide2-call = c.before.before.before.wide2 in
     let of-call = c.before.before.of in
-    bound-eq (up-to-call.ensures ∙ ap₂ (λ x y. up_to cellCount (x + y)) wide-call.ensures.0 larger-call.ensures.0)
-    (up-to2-call.ensures ∙ ap (λ x. up_to frameCount (1 + x)) larger2-call.ensures.0)
-    (price (nodeCost + args.middle) args.left.cost.units args.right.cost.units c.add2.ensures
-    (of-call.ensures ∙ ap (λ x. up_to costLimit (nodeCost + x)) wide2-call.ensures.0) c.before.add.ensures)
+    bound_eq (up-to-call.ensures ∙ ap₂ (λ x y. up_to cell_count (x + y)) wide-call.ensures.0 larger-call.ensures.0)
+    (up-to2-call.ensures ∙ ap (λ x. up_to frame_count (1 + x)) larger2-call.ensures.0)
+    (price (node_cost + args.middle) args.left.cost.units args.right.cost.units c.add2.ensures
+    (of-call.ensures ∙ ap (λ x. up_to cost_limit (node_cost + x)) wide2-call.ensures.0) c.before.add.ensures)
 
 pub comp-row-spec : {M : Type 1} → statement M
 comp-row-spec =

@@ -2,10 +2,10 @@
 use mathlib.Core.Path.{refl, ap, ◌∙◌}
 use Prim.Native.Nat.{◌+◌}
 use borrow.Author.Rules.{rules}
-use Rattle.limits.specs.Limits.{costLimit, nodeCost}
-use Rattle.scope.specs.Bounds.{copyRow}
+use Rattle.limits.specs.Limits.{cost_limit, node_cost}
+use Rattle.scope.specs.Bounds.{copy_row}
 use Rattle.analysis.specs.Held.{up_to}
-use Rattle.analysis.proofs.Sums.{bound-eq}
+use Rattle.analysis.proofs.Sums.{bound_eq}
 use Rattle.analysis.proofs.copy_row.Statement.{statement}
 use Rattle.analysis.proofs.copy_row.Tie as tie
 
@@ -16,8 +16,8 @@ of-requires : tie.Need-of-requires
 of-requires c κs = search rules
 
 returns : tie.Need-returns
-unfolding copyRow
-returns c = bound-eq refl refl (c.of.ensures ∙ ap (λ w. up_to costLimit (nodeCost + w)) c.before.wide.ensures.0)
+unfolding copy_row
+returns c = bound_eq refl refl (c.of.ensures ∙ ap (λ w. up_to cost_limit (node_cost + w)) c.before.wide.ensures.0)
 
 pub copy-row-spec : {M : Type 1} → statement M
 copy-row-spec = tie.close (tie.spec wide-requires of-requires returns)

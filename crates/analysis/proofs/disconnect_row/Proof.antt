@@ -3,11 +3,11 @@ use mathlib.Core.Path.{ap, ◌∙◌}
 use Prim.Native.Nat.{◌+◌, ◌*◌}
 use native.Mathlib.Omega.{arith}
 use borrow.Author.Rules.{rules}
-use Rattle.limits.specs.Limits.{cellCount, frameCount, costLimit, nodeCost}
+use Rattle.limits.specs.Limits.{cell_count, frame_count, cost_limit, node_cost}
 use Rattle.report.specs.Types.{width, word_ty}
-use Rattle.scope.specs.Bounds.{disconnectRow}
+use Rattle.scope.specs.Bounds.{disconnect_row}
 use Rattle.analysis.specs.Held.{up_to}
-use Rattle.analysis.proofs.Sums.{bound-eq, price}
+use Rattle.analysis.proofs.Sums.{bound_eq, price}
 use Rattle.analysis.proofs.disconnect_row.Statement.{statement}
 use Rattle.analysis.proofs.disconnect_row.Tie as tie
 
@@ -69,7 +69,7 @@ add-requires-2 : tie.Need-add-requires-2
 add-requires-2 c κs = search rules
 
 returns : tie.Need-returns
-unfolding disconnectRow width word_ty
+unfolding disconnect_row width word_ty
 returns c =
     let args = c.before.before.before.before.before.before.before.before.before.before.before.before.before.args in
     let wide-call = c.before.before.before.before.before.before.before.before.before.before.wide in
@@ -80,11 +80,11 @@ returns c =
     let larger2-call = c.before.before.before.before.before.larger2 in
     let up-to2-call = c.before.before.before.before.up-to2 in
     let of-call = c.before.before.of in
-    bound-eq (up-to-call.ensures ∙ ap (up_to cellCount)
+    bound_eq (up-to-call.ensures ∙ ap (up_to cell_count)
     (omega (arith, wide-call.ensures.0, wide2-call.ensures.0, wide3-call.ensures.0, larger-call.ensures.0)))
-    (up-to2-call.ensures ∙ ap (λ x. up_to frameCount (2 + x)) larger2-call.ensures.0)
-    (price (nodeCost + (2 * (width (word_ty 8) + args.source) + (args.kept + args.handed) + args.kept)) args.left.cost.units
-    args.right.cost.units c.add2.ensures (of-call.ensures ∙ ap (λ x. up_to costLimit (nodeCost + x)) (omega arith))
+    (up-to2-call.ensures ∙ ap (λ x. up_to frame_count (2 + x)) larger2-call.ensures.0)
+    (price (node_cost + (2 * (width (word_ty 8) + args.source) + (args.kept + args.handed) + args.kept)) args.left.cost.units
+    args.right.cost.units c.add2.ensures (of-call.ensures ∙ ap (λ x. up_to cost_limit (node_cost + x)) (omega arith))
     c.before.add.ensures)
 
 pub disconnect-row-spec : {M : Type 1} → statement M

@@ -3,11 +3,11 @@ use mathlib.Core.Path.{ap, ◌∙◌}
 use Prim.Native.Nat.{◌-◌}
 use borrow.Author.Rules.{rules}
 use Rattle.scope.specs.Nodes.{kind_of}
-use Rattle.scope.specs.Arrows.{arrowRecords}
-use Rattle.scope.specs.Bounds.{copyRow, witnessRow}
+use Rattle.scope.specs.Arrows.{arrow_records}
+use Rattle.scope.specs.Bounds.{copy_row, witness_row}
 use Rattle.analysis.specs.Held.{held}
 use Rattle.analysis.specs.Rows.{row_of}
-use Rattle.analysis.proofs.RowKinds.{row_as, row-none}
+use Rattle.analysis.proofs.RowKinds.{row_as, row_none}
 use Rattle.analysis.proofs.leaf_row.Statement.{statement}
 use Rattle.analysis.proofs.leaf_row.Tie as tie
 
@@ -40,14 +40,14 @@ unfolding row_of kind_of
 returns c =
     let args = c.before.before.before.before.before.args in
     let match-found = c.before.before.match in
-    λ ts rs a b x y. row_as ts args.widths.now rs (arrowRecords args.arrows.now) args.i a b x y args.kind 8 match-found.keys1
-    (c.copy-row.ensures ∙ ap (λ w. held (copyRow w)) c.before.source-width.ensures)
+    λ ts rs a b x y. row_as ts args.widths.now rs (arrow_records args.arrows.now) args.i a b x y args.kind 8 match-found.keys1
+    (c.copy-row.ensures ∙ ap (λ w. held (copy_row w)) c.before.source-width.ensures)
 
 returns-2 : tie.Need-returns-2
 unfolding row_of kind_of
 returns-2 c =
     let args = c.before.before.before.before.args in
-    λ ts rs a b x y. row_as ts args.widths.now rs (arrowRecords args.arrows.now) args.i a b x y args.kind 9 c.before.match.keys2
+    λ ts rs a b x y. row_as ts args.widths.now rs (arrow_records args.arrows.now) args.i a b x y args.kind 9 c.before.match.keys2
     c.unit_row.ensures
 
 returns-3 : tie.Need-returns-3
@@ -55,22 +55,22 @@ unfolding row_of kind_of
 returns-3 c =
     let args = c.before.before.before.before.before.args in
     let match-found = c.before.before.match in
-    λ ts rs a b x y. row_as ts args.widths.now rs (arrowRecords args.arrows.now) args.i a b x y args.kind 12 match-found.keys3
-    (c.witness-row.ensures ∙ ap (λ w. held (witnessRow w)) c.before.target-width.ensures)
+    λ ts rs a b x y. row_as ts args.widths.now rs (arrow_records args.arrows.now) args.i a b x y args.kind 12 match-found.keys3
+    (c.witness-row.ensures ∙ ap (λ w. held (witness_row w)) c.before.target-width.ensures)
 
 returns-4 : tie.Need-returns-4
 unfolding row_of kind_of
 returns-4 c =
     let args = c.before.before.before.before.before.args in
     let match-found = c.before.before.match in
-    λ ts rs a b x y. row_as ts args.widths.now rs (arrowRecords args.arrows.now) args.i a b x y args.kind 14 match-found.keys4
-    (c.copy-row2.ensures ∙ ap (λ w. held (copyRow w)) c.before.target-width2.ensures)
+    λ ts rs a b x y. row_as ts args.widths.now rs (arrow_records args.arrows.now) args.i a b x y args.kind 14 match-found.keys4
+    (c.copy-row2.ensures ∙ ap (λ w. held (copy_row w)) c.before.target-width2.ensures)
 
 returns-5 : tie.Need-returns-5
 returns-5 c =
     let start = c.before.before.before.before in
     let match-found = c.before.match in
-    λ ts rs a b x y. c.fail-row.ensures ∙ row-none ts start.args.widths.now rs (arrowRecords start.args.arrows.now) start.args.i a b x
+    λ ts rs a b x y. c.fail-row.ensures ∙ row_none ts start.args.widths.now rs (arrow_records start.args.arrows.now) start.args.i a b x
     y start.args.kind start.requires match-found.rest.0.0.0.1 match-found.rest.0.0.1 match-found.rest.0.1 match-found.rest.1
 
 pub leaf-row-spec : {M : Type 1} → statement M

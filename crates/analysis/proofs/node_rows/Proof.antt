@@ -4,22 +4,22 @@ use Prim.Native.Nat.{◌-◌, ◌<◌, ◌≤◌, min}
 use native.Mathlib.Omega.{arith}
 use lib.ListN.{length, set, replicate}
 use borrow.Author.Rules.{rules}
-use Rattle.limits.specs.Limits.{nodeCount}
-use Rattle.scope.specs.Types.{typeRecords}
-use Rattle.scope.specs.Nodes.{nodeRecords}
-use Rattle.scope.specs.Arrows.{arrowRecords}
-use Rattle.scope.specs.Bounds.{failRow, no_row}
-use Rattle.table.specs.Answers.{recordOf}
+use Rattle.limits.specs.Limits.{node_count}
+use Rattle.scope.specs.Types.{type_records}
+use Rattle.scope.specs.Nodes.{node_records}
+use Rattle.scope.specs.Arrows.{arrow_records}
+use Rattle.scope.specs.Bounds.{fail_row, no_row}
+use Rattle.table.specs.Answers.{record_of}
 use Rattle.analysis.specs.Held.{held}
-use Rattle.analysis.proofs.Tables.{held_at, bound-past, child-read, row_made}
-use Rattle.common.specs.Filling.{filledTo, fill_start, fill_more, fill_end}
+use Rattle.analysis.proofs.Tables.{held_at, bound_past, child_read, row_made}
+use Rattle.common.specs.Filling.{filled_to, fill_start, fill_more, fill_end}
 use Rattle.analysis.proofs.node_rows.Statement.{statement}
 use Rattle.analysis.proofs.node_rows.Tie as tie
 
 abbrev invariant-loop : tie.invariant-loop
 invariant-loop types widths nodes arrows rows₀ n i₀ rows i =
-    (rows ≡ filledTo (held_at (typeRecords types) widths (nodeRecords nodes) (arrowRecords arrows)) (held no_row) nodeCount i) × (i ≤ n) ×
-    (n ≡ min (length (nodeRecords nodes)) nodeCount)
+    (rows ≡ filled_to (held_at (type_records types) widths (node_records nodes) (arrow_records arrows)) (held no_row) node_count i) × (i ≤ n) ×
+    (n ≡ min (length (node_records nodes)) node_count)
 
 abbrev decreases-loop : tie.decreases-loop
 decreases-loop types widths nodes arrows rows₀ n i₀ rows i = n - i
@@ -31,12 +31,12 @@ row-count-requires : tie.Need-row-count-requires invariant-loop decreases-loop
 row-count-requires c κs = search rules
 
 loop-holds : tie.Need-loop-init invariant-loop decreases-loop
-unfolding failRow no_row
+unfolding fail_row no_row
 loop-holds c =
     let args = c.before.before.before.before.before.before.args in (
-      ap (λ x. replicate nodeCount x) c.before.fail-row.ensures
-          ∙ fill_start (held_at (typeRecords args.types.now) args.widths.now (nodeRecords args.nodes.now) (arrowRecords args.arrows.now))
-          (held no_row) nodeCount,
+      ap (λ x. replicate node_count x) c.before.fail-row.ensures
+          ∙ fill_start (held_at (type_records args.types.now) args.widths.now (node_records args.nodes.now) (arrow_records args.arrows.now))
+          (held no_row) node_count,
       omega arith,
       c.row_count.ensures,
     )
@@ -138,23 +138,23 @@ loop-again c =
     let turn = c.before.before.before.before.before.before.before.loop in
     let own = c.before.before.before.before.before.record-at in
     let Made-row = c.row in
-    let low : turn.i < length (nodeRecords args.nodes.now) = omega
+    let low : turn.i < length (node_records args.nodes.now) = omega
     (arith, c.before.before.before.before.before.before.loop-test.true, turn.invariant.1, turn.invariant.2) in
-    let made : Made-row.result ≡ held_at (typeRecords args.types.now) args.widths.now (nodeRecords args.nodes.now)
-    (arrowRecords args.arrows.now) turn.i =
-    row_made (typeRecords args.types.now) args.widths.now (nodeRecords args.nodes.now) (arrowRecords args.arrows.now) turn.i
-    low (recordOf own.result) own.ensures _ _ _
-    (child-read (typeRecords args.types.now) args.widths.now (nodeRecords args.nodes.now) (arrowRecords args.arrows.now)
+    let made : Made-row.result ≡ held_at (type_records args.types.now) args.widths.now (node_records args.nodes.now)
+    (arrow_records args.arrows.now) turn.i =
+    row_made (type_records args.types.now) args.widths.now (node_records args.nodes.now) (arrow_records args.arrows.now) turn.i
+    low (record_of own.result) own.ensures _ _ _
+    (child_read (type_records args.types.now) args.widths.now (node_records args.nodes.now) (arrow_records args.arrows.now)
     turn.i own.result.first (omega arith) turn.rows c.before.before.before.before.below.result turn.invariant.0
     c.before.before.before.before.below.ensures.0)
-    (child-read (typeRecords args.types.now) args.widths.now (nodeRecords args.nodes.now) (arrowRecords args.arrows.now)
+    (child_read (type_records args.types.now) args.widths.now (node_records args.nodes.now) (arrow_records args.arrows.now)
     turn.i own.result.second (omega arith) turn.rows c.before.before.before.below2.result turn.invariant.0
     c.before.before.before.below2.ensures.0)
     Made-row.ensures in (
       ap (λ l. set l turn.i Made-row.result) turn.invariant.0
-          ∙ fill_more (held_at (typeRecords args.types.now) args.widths.now (nodeRecords args.nodes.now)
-          (arrowRecords args.arrows.now))
-          (held no_row) nodeCount turn.i Made-row.result
+          ∙ fill_more (held_at (type_records args.types.now) args.widths.now (node_records args.nodes.now)
+          (arrow_records args.arrows.now))
+          (held no_row) node_count turn.i Made-row.result
           (omega (arith, c.before.before.before.before.before.before.loop-test.true, turn.invariant.1, turn.invariant.2)) made,
       omega (arith, c.before.before.before.before.before.before.loop-test.true, turn.invariant.1, turn.invariant.2),
       turn.invariant.2,
@@ -165,11 +165,11 @@ returns c =
     let args = c.before.before.before.before.before.before.before.before.args in
     let turn = c.before.loop in
     turn.invariant.0
-    ∙ fill_end (held_at (typeRecords args.types.now) args.widths.now (nodeRecords args.nodes.now) (arrowRecords args.arrows.now))
-    (held no_row) nodeCount turn.i
+    ∙ fill_end (held_at (type_records args.types.now) args.widths.now (node_records args.nodes.now) (arrow_records args.arrows.now))
+    (held no_row) node_count turn.i
     (omega (arith, turn.invariant.1, turn.invariant.2))
     (λ j g h. ap held
-    (bound-past (typeRecords args.types.now) args.widths.now (nodeRecords args.nodes.now) (arrowRecords args.arrows.now) j
+    (bound_past (type_records args.types.now) args.widths.now (node_records args.nodes.now) (arrow_records args.arrows.now) j
     (omega (arith, c.loop-test.false, turn.invariant.1, turn.invariant.2))))
 
 pub node-rows-spec : {M : Type 1} → statement M

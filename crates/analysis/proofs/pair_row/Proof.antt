@@ -1,10 +1,10 @@
 -- `analysis::pair_row` meets its contract: each number of the row from what the calls promise.
 use mathlib.Core.Path.{ap, ◌∙◌}
 use borrow.Author.Rules.{rules}
-use Rattle.limits.specs.Limits.{cellCount, frameCount, nodeCost}
-use Rattle.scope.specs.Bounds.{pairRow}
+use Rattle.limits.specs.Limits.{cell_count, frame_count, node_cost}
+use Rattle.scope.specs.Bounds.{pair_row}
 use Rattle.analysis.specs.Held.{up_to}
-use Rattle.analysis.proofs.Sums.{bound-eq, price}
+use Rattle.analysis.proofs.Sums.{bound_eq, price}
 use Rattle.analysis.proofs.pair_row.Statement.{statement}
 use Rattle.analysis.proofs.pair_row.Tie as tie
 
@@ -30,7 +30,7 @@ add-requires-2 : tie.Need-add-requires-2
 add-requires-2 c κs = search rules
 
 returns : tie.Need-returns
-unfolding pairRow
+unfolding pair_row
 returns c =
     let args = c.before.before.before.before.before.before.before.before.before.args in
     let larger-call = c.before.before.before.before.before.before.larger in
@@ -38,9 +38,9 @@ returns c =
     let larger2-call = c.before.before.before.before.larger2 in
     let up-to2-call = c.before.before.before.up-to2 in
     let of-call = c.before.before.of in
-    bound-eq (up-to-call.ensures ∙ ap (up_to cellCount) larger-call.ensures.0)
-    (up-to2-call.ensures ∙ ap (up_to frameCount) larger2-call.ensures.0)
-    (price nodeCost args.left.cost.units args.right.cost.units c.add2.ensures of-call.ensures c.before.add.ensures)
+    bound_eq (up-to-call.ensures ∙ ap (up_to cell_count) larger-call.ensures.0)
+    (up-to2-call.ensures ∙ ap (up_to frame_count) larger2-call.ensures.0)
+    (price node_cost args.left.cost.units args.right.cost.units c.add2.ensures of-call.ensures c.before.add.ensures)
 
 pub pair-row-spec : {M : Type 1} → statement M
 pair-row-spec =

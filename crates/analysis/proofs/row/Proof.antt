@@ -3,11 +3,11 @@ use mathlib.Core.Path.{◌∙◌}
 use Prim.Native.Nat.{◌-◌}
 use native.Mathlib.Omega.{arith}
 use borrow.Author.Rules.{rules}
-use Rattle.scope.specs.Types.{typeRecords}
-use Rattle.scope.specs.Nodes.{nodeRecords}
-use Rattle.scope.specs.Arrows.{arrowRecords}
+use Rattle.scope.specs.Types.{type_records}
+use Rattle.scope.specs.Nodes.{node_records}
+use Rattle.scope.specs.Arrows.{arrow_records}
 use Rattle.analysis.specs.Held.{plain}
-use Rattle.analysis.proofs.RowKinds.{row-child}
+use Rattle.analysis.proofs.RowKinds.{row_child}
 use Rattle.analysis.proofs.row.Statement.{statement}
 use Rattle.analysis.proofs.row.Tie as tie
 
@@ -24,7 +24,7 @@ returns-2 : tie.Need-returns-2
 returns-2 c =
     let args = c.before.before.before.before.before.before.before.before.before.args in
     c.child-row.ensures
-    ∙ row-child (typeRecords args.types.now) args.widths.now (nodeRecords args.nodes.now) (arrowRecords args.arrows.now) args.i
+    ∙ row_child (type_records args.types.now) args.widths.now (node_records args.nodes.now) (arrow_records args.arrows.now) args.i
     args.r.first args.r.second (plain args.left) (plain args.right) args.r.kind (omega arith) (omega arith)
 
 leaf-row-requires : tie.Need-leaf-row-requires
@@ -33,7 +33,7 @@ leaf-row-requires c κs = search rules
 returns-3 : tie.Need-returns-3
 returns-3 c =
     let args = c.before.before.before.before.before.before.before.before.before.args in
-    c.leaf-row.ensures (typeRecords args.types.now) (nodeRecords args.nodes.now) args.r.first args.r.second (plain args.left)
+    c.leaf-row.ensures (type_records args.types.now) (node_records args.nodes.now) args.r.first args.r.second (plain args.left)
     (plain args.right)
 
 pub row-spec : {M : Type 1} → statement M

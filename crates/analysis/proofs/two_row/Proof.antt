@@ -4,12 +4,12 @@ use Prim.Native.Nat.{◌+◌, ◌-◌}
 use native.Mathlib.Omega.{arith}
 use borrow.Author.Rules.{rules}
 use Rattle.report.specs.Types.{width, word_ty}
-use Rattle.scope.specs.Types.{typeRecords}
-use Rattle.scope.specs.Nodes.{nodeRecords, kind_of}
-use Rattle.scope.specs.Arrows.{arrowRecords}
-use Rattle.scope.specs.Bounds.{compRow, disconnectRow}
+use Rattle.scope.specs.Types.{type_records}
+use Rattle.scope.specs.Nodes.{node_records, kind_of}
+use Rattle.scope.specs.Arrows.{arrow_records}
+use Rattle.scope.specs.Bounds.{comp_row, disconnect_row}
 use Rattle.analysis.specs.Held.{held, plain}
-use Rattle.analysis.specs.Rows.{caseBound, row_of}
+use Rattle.analysis.specs.Rows.{case_bound, row_of}
 use Rattle.analysis.proofs.RowKinds.{row_as}
 use Rattle.analysis.proofs.two_row.Statement.{statement}
 use Rattle.analysis.proofs.two_row.Tie as tie
@@ -50,9 +50,9 @@ returns c =
     let args = c.before.before.before.before.before.before.before.args in
     let left = plain args.left in
     let right = plain args.right in
-    row_as (typeRecords args.types.now) args.widths.now (nodeRecords args.nodes.now) (arrowRecords args.arrows.now) args.i
+    row_as (type_records args.types.now) args.widths.now (node_records args.nodes.now) (arrow_records args.arrows.now) args.i
     args.r.first args.r.second left right args.r.kind 0 c.before.before.match.keys1
-    (c.comp-row.ensures ∙ ap (λ w. held (compRow w left right)) c.before.target-width.ensures)
+    (c.comp-row.ensures ∙ ap (λ w. held (comp_row w left right)) c.before.target-width.ensures)
 
 returns-2 : tie.Need-returns-2
 unfolding row_of kind_of
@@ -60,9 +60,9 @@ returns-2 c =
     let args = c.before.before.before.before.before.before.before.before.args in
     let left = plain args.left in
     let right = plain args.right in
-    row_as (typeRecords args.types.now) args.widths.now (nodeRecords args.nodes.now) (arrowRecords args.arrows.now) args.i
+    row_as (type_records args.types.now) args.widths.now (node_records args.nodes.now) (arrow_records args.arrows.now) args.i
     args.r.first args.r.second left right args.r.kind 1 c.before.before.before.match.keys2
-    (c.case-bound.ensures ∙ ap₂ (λ x y. held (caseBound x y left right)) c.before.before.hidden_at.ensures c.before.hidden-at2.ensures)
+    (c.case-bound.ensures ∙ ap₂ (λ x y. held (case_bound x y left right)) c.before.before.hidden_at.ensures c.before.hidden-at2.ensures)
 
 returns-3 : tie.Need-returns-3
 unfolding row_of kind_of
@@ -70,7 +70,7 @@ returns-3 c =
     let args = c.before.before.before.before.before.before.args in
     let left = plain args.left in
     let right = plain args.right in
-    row_as (typeRecords args.types.now) args.widths.now (nodeRecords args.nodes.now) (arrowRecords args.arrows.now) args.i
+    row_as (type_records args.types.now) args.widths.now (node_records args.nodes.now) (arrow_records args.arrows.now) args.i
     args.r.first args.r.second left right args.r.kind 2 c.before.match.keys3 c.pair_row.ensures
 
 returns-4 : tie.Need-returns-4
@@ -82,9 +82,9 @@ returns-4 c =
     let args = c.before.before.before.before.before.before.before.before.before.args in
     let left = plain args.left in
     let right = plain args.right in
-    row_as (typeRecords args.types.now) args.widths.now (nodeRecords args.nodes.now) (arrowRecords args.arrows.now) args.i
+    row_as (type_records args.types.now) args.widths.now (node_records args.nodes.now) (arrow_records args.arrows.now) args.i
     args.r.first args.r.second left right args.r.kind 3 (omega arith)
-    (c.disconnect-row.ensures ∙ (λ k. held (disconnectRow (width (word_ty 8) + source_is k) (kept-is k + handed-is k) (kept-is k) left right)))
+    (c.disconnect-row.ensures ∙ (λ k. held (disconnect_row (width (word_ty 8) + source_is k) (kept-is k + handed-is k) (kept-is k) left right)))
 
 pub two-row-spec : {M : Type 1} → statement M
 two-row-spec =

@@ -1,12 +1,12 @@
 -- `arrow::arrow_fits` meets its contract.
 use mathlib.Core.Path.{sym, ◌∙◌}
 use borrow.Author.Rules.{rules}
-use Rattle.scope.specs.Types.{typeRecords}
-use Rattle.scope.specs.Arrows.{arrowRecords}
-use Rattle.types.proofs.Records.{length-records as length_types}
-use Rattle.table.specs.Answers.{recordOf}
-use Rattle.arrow.specs.Answers.{arrowOf}
-use Rattle.arrow.proofs.KindNumbers.{arrow-is}
+use Rattle.scope.specs.Types.{type_records}
+use Rattle.scope.specs.Arrows.{arrow_records}
+use Rattle.types.proofs.Records.{length_records as length_types}
+use Rattle.table.specs.Answers.{record_of}
+use Rattle.arrow.specs.Answers.{arrow_of}
+use Rattle.arrow.proofs.KindNumbers.{arrow_is}
 use Rattle.arrow.proofs.arrow_fits.Statement.{statement}
 use Rattle.arrow.proofs.arrow_fits.Tie as tie
 
@@ -28,8 +28,8 @@ returns c =
     let arrow-at-call = c.before.before.before.before.before.arrow-at in
     let record-at-call = c.before.before.before.before.record-at in
     c.all3.ensures
-    ∙ arrow-is (typeRecords args.types.now) args.nodes.now (arrowRecords args.arrows.now) args.i (recordOf record-at-call.result)
-    record-at-call.ensures (arrowOf arrow-at-call.result) _ _
+    ∙ arrow_is (type_records args.types.now) args.nodes.now (arrow_records args.arrows.now) args.i (record_of record-at-call.result)
+    record-at-call.ensures (arrow_of arrow-at-call.result) _ _
     arrow-at-call.ensures (sym (length_types args.types.now)) c.before.kind-fits.ensures
 
 pub arrow-fits-spec : {M : Type 1} → statement M

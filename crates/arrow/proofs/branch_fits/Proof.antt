@@ -5,9 +5,9 @@ use mathlib.Core.List.{[], ◌∷◌}
 use lib.Dec.{eqb}
 use borrow.Author.Rules.{rules}
 use Rattle.scope.specs.Numbers.{every}
-use Rattle.scope.specs.Types.{typeRecords, isProduct}
-use Rattle.scope.specs.Arrows.{arrowRecords, source, target}
-use Rattle.table.specs.Lent.{lentNodes}
+use Rattle.scope.specs.Types.{type_records, is_product}
+use Rattle.scope.specs.Arrows.{arrow_records, source, target}
+use Rattle.table.specs.Lent.{lent_nodes}
 use Rattle.arrow.proofs.KindNumbers.{branch_by}
 use Rattle.arrow.proofs.branch_fits.Statement.{statement}
 use Rattle.arrow.proofs.branch_fits.Tie as tie
@@ -18,7 +18,7 @@ hidden-at-requires c κs = search rules
 returns : tie.Need-returns
 returns c =
     let args = c.before.before.before.before.before.args in
-    branch_by (typeRecords args.types.now) (lentNodes [] args.nodes.now) (arrowRecords args.arrows.now) args.j args.part
+    branch_by (type_records args.types.now) (lent_nodes [] args.nodes.now) (arrow_records args.arrows.now) args.j args.part
     args.rest args.to true (sym c.before.hidden_at.ensures ∙ c.if1.true)
 
 arrow-at-requires : tie.Need-arrow-at-requires
@@ -39,10 +39,10 @@ returns-2 c =
     let arrow-at-call = c.before.before.before.arrow-at in
     let is-product-call = c.before.before.is-product in
     let made : every (is-product-call.result ∷ eqb arrow-at-call.result.target args.to ∷ [])
-    ≡ every (isProduct (typeRecords args.types.now) (source (arrowRecords args.arrows.now) args.j) args.part args.rest ∷ eqb
-    (target (arrowRecords args.arrows.now) args.j) args.to ∷ []) =
+    ≡ every (is_product (type_records args.types.now) (source (arrow_records args.arrows.now) args.j) args.part args.rest ∷ eqb
+    (target (arrow_records args.arrows.now) args.j) args.to ∷ []) =
     cc (ap (λ a. a.source) arrow-at-call.ensures, ap (λ a. a.target) arrow-at-call.ensures) in
-    c.all2.ensures ∙ made ∙ branch_by (typeRecords args.types.now) (lentNodes [] args.nodes.now) (arrowRecords args.arrows.now)
+    c.all2.ensures ∙ made ∙ branch_by (type_records args.types.now) (lent_nodes [] args.nodes.now) (arrow_records args.arrows.now)
     args.j args.part args.rest args.to false (sym hidden-at-call.ensures ∙ if1-found.false)
 
 pub branch-fits-spec : {M : Type 1} → statement M

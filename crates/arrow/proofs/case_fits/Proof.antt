@@ -2,11 +2,11 @@
 use mathlib.Core.Path.{◌∙◌}
 use mathlib.Core.List.{[]}
 use borrow.Author.Rules.{rules}
-use Rattle.scope.specs.Types.{typeRecords}
-use Rattle.scope.specs.Arrows.{arrowRecords}
-use Rattle.table.specs.Lent.{lentNodes}
-use Rattle.arrow.proofs.KindNumbers.{case-is}
-use Rattle.arrow.proofs.Tests.{all-four}
+use Rattle.scope.specs.Types.{type_records}
+use Rattle.scope.specs.Arrows.{arrow_records}
+use Rattle.table.specs.Lent.{lent_nodes}
+use Rattle.arrow.proofs.KindNumbers.{case_is}
+use Rattle.arrow.proofs.Tests.{all_four}
 use Rattle.arrow.proofs.case_fits.Statement.{statement}
 use Rattle.arrow.proofs.case_fits.Tie as tie
 
@@ -47,8 +47,8 @@ returns c =
     let is-product-call = c.before.before.before.before.is-product in
     let is-sum-call = c.before.before.before.is_sum in
     let branch-fits-call = c.before.before.branch-fits in
-    c.all4.ensures ∙ all-four is-product-call.ensures is-sum-call.ensures branch-fits-call.ensures c.before.branch-fits2.ensures
-    ∙ case-is (typeRecords args.types.now) (lentNodes [] args.nodes.now) (arrowRecords args.arrows.now) args.from args.to args.s
+    c.all4.ensures ∙ all_four is-product-call.ensures is-sum-call.ensures branch-fits-call.ensures c.before.branch-fits2.ensures
+    ∙ case_is (type_records args.types.now) (lent_nodes [] args.nodes.now) (arrow_records args.arrows.now) args.from args.to args.s
     args.t _ _ _ _ left-of-call.ensures right-of-call.ensures left-of2-call.ensures right-of2-call.ensures
 
 pub case-fits-spec : {M : Type 1} → statement M

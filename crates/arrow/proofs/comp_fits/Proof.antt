@@ -1,7 +1,7 @@
 -- `arrow::comp_fits` meets its contract.
 use mathlib.Core.Path.{ap}
 use borrow.Author.Rules.{rules}
-use Rattle.scope.specs.Arrows.{source, target, goes, kindRule}
+use Rattle.scope.specs.Arrows.{source, target, goes, kind_rule}
 use Rattle.arrow.proofs.comp_fits.Statement.{statement}
 use Rattle.arrow.proofs.comp_fits.Tie as tie
 
@@ -18,7 +18,7 @@ all2-requires-2 : tie.Need-all2-requires-2
 all2-requires-2 c κs = search rules
 
 returns : tie.Need-returns
-unfolding kindRule source target goes
+unfolding kind_rule source target goes
 returns c =
     let arrow-at-call = c.before.before.before.before.before.before.before.arrow-at in
     let arrow-at2-call = c.before.before.before.before.before.before.arrow-at2 in

@@ -1,10 +1,10 @@
 -- `arrow::disconnect_fits` meets its contract.
 use mathlib.Core.Path.{refl, ◌∙◌}
 use borrow.Author.Rules.{rules}
-use Rattle.scope.specs.Arrows.{arrowRecords}
-use Rattle.scope.specs.Types.{typeRecords}
-use Rattle.arrow.proofs.KindNumbers.{disconnect-is}
-use Rattle.arrow.proofs.Tests.{all-five}
+use Rattle.scope.specs.Arrows.{arrow_records}
+use Rattle.scope.specs.Types.{type_records}
+use Rattle.arrow.proofs.KindNumbers.{disconnect_is}
+use Rattle.arrow.proofs.Tests.{all_five}
 use Rattle.arrow.proofs.disconnect_fits.Statement.{statement}
 use Rattle.arrow.proofs.disconnect_fits.Tie as tie
 
@@ -49,9 +49,9 @@ returns c =
     let is-product-call = c.before.before.before.before.before.is-product in
     let is-word-call = c.before.before.before.before.is_word in
     let is-product2-call = c.before.before.before.is-product2 in
-    λ ns. c.all5.ensures ∙ all-five is-product-call.ensures is-word-call.ensures is-product2-call.ensures refl
+    λ ns. c.all5.ensures ∙ all_five is-product-call.ensures is-word-call.ensures is-product2-call.ensures refl
     c.before.is-product3.ensures
-    ∙ disconnect-is (typeRecords args.types.now) ns (arrowRecords args.arrows.now) args.from args.to args.s args.t _ _ _ _ _
+    ∙ disconnect_is (type_records args.types.now) ns (arrow_records args.arrows.now) args.from args.to args.s args.t _ _ _ _ _
     arrow-at-call.ensures arrow-at2-call.ensures left-of-call.ensures left-of2-call.ensures right-of-call.ensures
 
 pub disconnect-fits-spec : {M : Type 1} → statement M

@@ -1,8 +1,8 @@
 -- `arrow::kind_fits` meets its contract.
 use mathlib.Core.List.{[]}
 use borrow.Author.Rules.{rules}
-use Rattle.scope.specs.Arrows.{arrowRecords}
-use Rattle.table.specs.Lent.{lentNodes}
+use Rattle.scope.specs.Arrows.{arrow_records}
+use Rattle.table.specs.Lent.{lent_nodes}
 use Rattle.arrow.proofs.kind_fits.Statement.{statement}
 use Rattle.arrow.proofs.kind_fits.Tie as tie
 
@@ -16,7 +16,7 @@ one-fits-requires : tie.Need-one-fits-requires
 one-fits-requires c κs = search rules
 
 returns-2 : tie.Need-returns-2
-returns-2 c = c.one-fits.ensures (lentNodes [] c.before.before.before.before.before.before.before.before.args.nodes.now)
+returns-2 c = c.one-fits.ensures (lent_nodes [] c.before.before.before.before.before.before.before.before.args.nodes.now)
 
 other-fits-requires : tie.Need-other-fits-requires
 other-fits-requires c κs = search rules
@@ -24,7 +24,7 @@ other-fits-requires c κs = search rules
 returns-3 : tie.Need-returns-3
 returns-3 c =
     let args = c.before.before.before.before.before.before.before.before.args in
-    c.other-fits.ensures (lentNodes [] args.nodes.now) (arrowRecords args.arrows.now)
+    c.other-fits.ensures (lent_nodes [] args.nodes.now) (arrow_records args.arrows.now)
 
 pub kind-fits-spec : {M : Type 1} → statement M
 kind-fits-spec =

@@ -1,7 +1,7 @@
 -- `arrow::pair_fits` meets its contract.
 use mathlib.Core.Path.{ap}
 use borrow.Author.Rules.{rules}
-use Rattle.scope.specs.Arrows.{source, target, kindRule}
+use Rattle.scope.specs.Arrows.{source, target, kind_rule}
 use Rattle.arrow.proofs.pair_fits.Statement.{statement}
 use Rattle.arrow.proofs.pair_fits.Tie as tie
 
@@ -18,7 +18,7 @@ all3-requires : tie.Need-all3-requires
 all3-requires c κs = search rules
 
 returns : tie.Need-returns
-unfolding kindRule source target
+unfolding kind_rule source target
 returns c =
     let arrow-at-call = c.before.before.before.before.before.arrow-at in
     let arrow-at2-call = c.before.before.before.before.arrow-at2 in

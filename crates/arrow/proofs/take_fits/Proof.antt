@@ -1,7 +1,7 @@
 -- `arrow::take_fits` meets its contract.
 use mathlib.Core.Path.{ap}
 use borrow.Author.Rules.{rules}
-use Rattle.scope.specs.Arrows.{source, target, kindRule}
+use Rattle.scope.specs.Arrows.{source, target, kind_rule}
 use Rattle.arrow.proofs.take_fits.Statement.{statement}
 use Rattle.arrow.proofs.take_fits.Tie as tie
 
@@ -18,7 +18,7 @@ all2-requires : tie.Need-all2-requires
 all2-requires c κs = search rules
 
 returns : tie.Need-returns
-unfolding kindRule source target
+unfolding kind_rule source target
 returns c =
     let arrow-at-call = c.before.before.before.before.arrow-at in
     λ ns. cc (ap (λ a. a.source) arrow-at-call.ensures, ap (λ a. a.target) arrow-at-call.ensures)

@@ -2,11 +2,11 @@
 use mathlib.Core.List.{[]}
 use native.Mathlib.Omega.{arith}
 use borrow.Author.Rules.{rules}
-use Rattle.scope.specs.Types.{typeRecords}
+use Rattle.scope.specs.Types.{type_records}
 use Rattle.scope.specs.Nodes.{kind_of, node_of}
-use Rattle.scope.specs.Arrows.{arrowRecords}
-use Rattle.table.specs.Lent.{lentNodes}
-use Rattle.arrow.proofs.KindNumbers.{as-kind}
+use Rattle.scope.specs.Arrows.{arrow_records}
+use Rattle.table.specs.Lent.{lent_nodes}
+use Rattle.arrow.proofs.KindNumbers.{as_kind}
 use Rattle.arrow.proofs.two_fits.Statement.{statement}
 use Rattle.arrow.proofs.two_fits.Tie as tie
 
@@ -26,30 +26,30 @@ returns : tie.Need-returns
 unfolding node_of kind_of
 returns c =
     let args = c.before.before.before.before.before.args in
-    as-kind (typeRecords args.types.now) (lentNodes [] args.nodes.now) (arrowRecords args.arrows.now) args.from args.to
+    as_kind (type_records args.types.now) (lent_nodes [] args.nodes.now) (arrow_records args.arrows.now) args.from args.to
     args.r.first args.r.second args.r.kind 0 c.before.match.keys1
-    (c.comp-fits.ensures (typeRecords args.types.now) (lentNodes [] args.nodes.now))
+    (c.comp-fits.ensures (type_records args.types.now) (lent_nodes [] args.nodes.now))
 
 returns-2 : tie.Need-returns-2
 unfolding node_of kind_of
 returns-2 c =
     let args = c.before.before.before.before.before.args in
-    as-kind (typeRecords args.types.now) (lentNodes [] args.nodes.now) (arrowRecords args.arrows.now) args.from args.to
+    as_kind (type_records args.types.now) (lent_nodes [] args.nodes.now) (arrow_records args.arrows.now) args.from args.to
     args.r.first args.r.second args.r.kind 1 c.before.match.keys2 c.case-fits.ensures
 
 returns-3 : tie.Need-returns-3
 unfolding node_of kind_of
 returns-3 c =
     let args = c.before.before.before.before.before.args in
-    as-kind (typeRecords args.types.now) (lentNodes [] args.nodes.now) (arrowRecords args.arrows.now) args.from args.to
-    args.r.first args.r.second args.r.kind 2 c.before.match.keys3 (c.pair-fits.ensures (lentNodes [] args.nodes.now))
+    as_kind (type_records args.types.now) (lent_nodes [] args.nodes.now) (arrow_records args.arrows.now) args.from args.to
+    args.r.first args.r.second args.r.kind 2 c.before.match.keys3 (c.pair-fits.ensures (lent_nodes [] args.nodes.now))
 
 returns-4 : tie.Need-returns-4
 unfolding node_of kind_of
 returns-4 c =
     let args = c.before.before.before.before.before.args in
-    as-kind (typeRecords args.types.now) (lentNodes [] args.nodes.now) (arrowRecords args.arrows.now) args.from args.to
-    args.r.first args.r.second args.r.kind 3 (omega arith) (c.disconnect-fits.ensures (lentNodes [] args.nodes.now))
+    as_kind (type_records args.types.now) (lent_nodes [] args.nodes.now) (arrow_records args.arrows.now) args.from args.to
+    args.r.first args.r.second args.r.kind 3 (omega arith) (c.disconnect-fits.ensures (lent_nodes [] args.nodes.now))
 
 pub two-fits-spec : {M : Type 1} → statement M
 two-fits-spec =

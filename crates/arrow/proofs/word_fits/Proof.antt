@@ -1,6 +1,6 @@
 -- `arrow::word_fits` meets its contract.
 use borrow.Author.Rules.{rules}
-use Rattle.scope.specs.Arrows.{kindRule}
+use Rattle.scope.specs.Arrows.{kind_rule}
 use Rattle.arrow.proofs.word_fits.Statement.{statement}
 use Rattle.arrow.proofs.word_fits.Tie as tie
 
@@ -17,7 +17,7 @@ all2-requires : tie.Need-all2-requires
 all2-requires c κs = search rules
 
 returns : tie.Need-returns
-unfolding kindRule
+unfolding kind_rule
 returns c = λ ns as' bs. cc
 
 pub word-fits-spec : {M : Type 1} → statement M

@@ -1,4 +1,4 @@
-use Rattle.bit_machine.proofs.Stage.{not-begun, begun-shown, begun_ok, begun-ran}
+use Rattle.bit_machine.proofs.Stage.{not_begun, begun_shown, begun_ok, begun_ran}
 use mathlib.Core.Path.{◌≡◌, refl, sym, ap, ◌∙◌, subst}
 use borrow.Author.Rules.{rules}
 use Rattle.bit_machine.proofs.run_stage.Statement.{statement}
@@ -22,7 +22,7 @@ run-ready-requires c κs =
     let start = c.before.before.before.before.before.before.before.before.before.before.before.before.before.before.before.before.before.before.before.before.before.before.before.before.before in
     let check-run-call = c.before.before.before.before.before.before.before.before.before.before.before.before.before.check-run in
     let verdict2-there = c.before.before.before.before.before.before.before.before.before.before.before.verdict2 in (
-      begun-shown start.args.types.now start.args.nodes.now start.args.arrows.now start.args.program.now
+      begun_shown start.args.types.now start.args.nodes.now start.args.arrows.now start.args.program.now
           start.args.hashes.now start.args.given.now start.args.witness.now _ start.args.input.now _
           start.args.cells.now start.args.frames.now start.args.answer.now check-run-call.result
           check-run-call.ensures _ _ verdict2-there.given.1,
@@ -36,7 +36,7 @@ returns : tie.Need-returns
 returns c =
     let start = c.before.before.before.before.before.before.before.before.before.before.before.before.before.before.before in
     let check-run-call = c.before.before.before.check-run in
-    not-begun start.args.types.now start.args.nodes.now start.args.arrows.now start.args.program.now
+    not_begun start.args.types.now start.args.nodes.now start.args.arrows.now start.args.program.now
     start.args.hashes.now start.args.given.now start.args.witness.now _ start.args.input.now _
     start.args.cells.now start.args.frames.now start.args.answer.now check-run-call.result check-run-call.ensures _
     c.before.verdict.given.1
@@ -56,7 +56,7 @@ returns-2 c =
     let start =
     c.before.before.before.before.before.before.before.before.before.before.before.before.before.before.before.before.before.before.before.before.before.before.before.before.before.before.before.before.before.before.before.before in
     let check-run-call = c.before.before.before.before.before.before.before.before.before.before.before.before.before.before.before.before.before.before.before.before.check-run in
-    begun-ran start.args.types.now start.args.nodes.now start.args.arrows.now start.args.program.now
+    begun_ran start.args.types.now start.args.nodes.now start.args.arrows.now start.args.program.now
     start.args.hashes.now start.args.given.now start.args.witness.now _ start.args.input.now _
     start.args.cells.now start.args.frames.now start.args.answer.now check-run-call.result
     check-run-call.ensures _ _ verdict2-found.given.1 _ c.before.before.before.before.before.before.run-ready.ensures

@@ -3,16 +3,16 @@ use mathlib.Core.Path.{◌≡◌, sym}
 use Prim.Native.Nat.{◌+◌, ◌-◌, ◌/◌, ◌^◌, ◌≤◌}
 use native.Mathlib.Omega.{arith}
 use lib.Pow.{pow_mono, pow_pos}
-use Rattle.bititer.proofs.Windows.{after-one-is, after-one-past, one_shifted, part_small}
+use Rattle.bititer.proofs.Windows.{after_one_is, after_one_past, one_shifted, part_small}
 use borrow.Author.Rules.{rules}
 use Rattle.bititer.proofs.after_one.Statement.{statement}
 use Rattle.bititer.proofs.after_one.Tie as tie
 
 returns : tie.Need-returns
-returns c = let a = c.before.args in sym (after-one-past a.w a.at a.count (omega arith))
+returns c = let a = c.before.args in sym (after_one_past a.w a.at a.count (omega arith))
 
 returns-2 : tie.Need-returns-2
-returns-2 c = let a = c.before.before.args in sym (after-one-past a.w a.at a.count (omega arith))
+returns-2 c = let a = c.before.before.args in sym (after_one_past a.w a.at a.count (omega arith))
 
 shl-result : tie.Need-overflow-shl-result
 shl-result c = search rules
@@ -44,7 +44,7 @@ returns-3 c =
     let a = c.before.before.args in
     let e = one_shifted a.count (omega arith) in
     let f : 25 - a.count - a.at ≡ 25 - (a.at + a.count) = omega arith in
-    rw (e, f) (sym (after-one-is a.w a.at a.count (omega arith)))
+    rw (e, f) (sym (after_one_is a.w a.at a.count (omega arith)))
 
 pub after-one-spec : {M : Type 1} → statement M
 after-one-spec =

@@ -3,8 +3,8 @@ use mathlib.Core.Path.{sym}
 use Prim.Native.Nat.{◌<◌}
 use native.Mathlib.Omega.{arith}
 use lib.ListN.{length}
-use Rattle.scope.specs.Numbers.{streamOf}
-use Rattle.bititer.proofs.Streams.{length-stream, stream-inside, code-past, bit-here}
+use Rattle.scope.specs.Numbers.{stream_of}
+use Rattle.bititer.proofs.Streams.{length_stream, stream_inside, code_past, bit_here}
 use borrow.Author.Rules.{rules}
 use Rattle.bititer.proofs.bit.Statement.{statement}
 use Rattle.bititer.proofs.bit.Tie as tie
@@ -15,7 +15,7 @@ stream-length-requires c κs = search rules
 returns : tie.Need-returns
 returns c =
     let s = c.before.before.before.args.s.now in
-    sym (code-past (streamOf s) 1 c.before.before.before.args.p (omega (arith, c.before.stream-length.ensures)))
+    sym (code_past (stream_of s) 1 c.before.before.before.args.p (omega (arith, c.before.stream-length.ensures)))
 
 sub-place : tie.Need-overflow-sub-place
 sub-place c = search rules
@@ -24,8 +24,8 @@ shared-slice-read-t8 : tie.Need-shared-slice-read-t8
 shared-slice-read-t8 c =
     let s = c.before.before.before.before.args.s.now in
     let p = c.before.before.before.before.args.p in
-    let h : p < length (streamOf s) = omega (arith, c.before.before.stream-length.ensures) in
-    stream-inside s p h
+    let h : p < length (stream_of s) = omega (arith, c.before.before.stream-length.ensures) in
+    stream_inside s p h
 
 cast-t9 : tie.Need-overflow-cast-t9
 cast-t9 c = search rules
@@ -37,15 +37,15 @@ add-t5 : tie.Need-overflow-add-t5
 add-t5 c =
     let s = c.before.before.before.before.args.s.now in
     let p = c.before.before.before.before.args.p in
-    let h : p < length (streamOf s) = omega (arith, c.before.before.stream-length.ensures) in
-    omega (arith, length-stream s)
+    let h : p < length (stream_of s) = omega (arith, c.before.before.stream-length.ensures) in
+    omega (arith, length_stream s)
 
 returns-2 : tie.Need-returns-2
 returns-2 c =
     let s = c.before.before.before.before.args.s.now in
     let p = c.before.before.before.before.args.p in
-    let h : p < length (streamOf s) = omega (arith, c.before.before.stream-length.ensures) in
-    sym (bit-here s p h)
+    let h : p < length (stream_of s) = omega (arith, c.before.before.stream-length.ensures) in
+    sym (bit_here s p h)
 
 pub bit-spec : {M : Type 1} → statement M
 bit-spec =

@@ -5,19 +5,19 @@ use Prim.Native.Nat.{◌+◌, ◌-◌, ◌^◌, ◌≤◌, ◌<◌}
 use native.Mathlib.Omega.{arith}
 use borrow.Author.Rules.{rules}
 use lib.ListN.{drop}
-use Rattle.scope.specs.Numbers.{streamOf}
+use Rattle.scope.specs.Numbers.{stream_of}
 use lib.Dec.{lit<}
-use Rattle.scope.specs.Naturals.{moreBits}
+use Rattle.scope.specs.Naturals.{more_bits}
 use Rattle.scope.specs.Reading.{got, code}
-use Rattle.bititer.specs.Answers.{gotCode}
-use Rattle.bititer.proofs.Streams.{bit_below, bit-got, bit-ended}
-use Rattle.bititer.proofs.Naturals.{bits-done, bits-cut, bits-turn, bits_fit}
+use Rattle.bititer.specs.Answers.{got_code}
+use Rattle.bititer.proofs.Streams.{bit_below, bit_got, bit_ended}
+use Rattle.bititer.proofs.Naturals.{bits_done_lem, bits_cut, bits_turn, bits_fit}
 use Rattle.bititer.proofs.bits_after_one.Statement.{statement}
 use Rattle.bititer.proofs.bits_after_one.Tie as tie
 
 abbrev invariant-loop : tie.invariant-loop
 invariant-loop s p count at₀ n₀ left₀ at n left =
-    (moreBits count 1 (drop p (streamOf s)) ≡ moreBits left n (drop at (streamOf s))) × (left ≤ count) × (at + left ≡ p + count) × (n < 2 ^ (count - left + 1))
+    (more_bits count 1 (drop p (stream_of s)) ≡ more_bits left n (drop at (stream_of s))) × (left ≤ count) × (at + left ≡ p + count) × (n < 2 ^ (count - left + 1))
 
 abbrev decreases-loop : tie.decreases-loop
 decreases-loop s p count at₀ n₀ left₀ at n left = left
@@ -38,10 +38,10 @@ enum_told c = search rules
 
 returns : tie.Need-returns invariant-loop decreases-loop
 returns c =
-    let s = streamOf c.before.before.before.before.before.before.args.s.now in
+    let s = stream_of c.before.before.before.before.before.before.args.s.now in
     let l = c.before.before.before.before.loop in
-    let e = bit-ended s l.at (sym c.before.before.bit.ensures ∙ ap gotCode c.enum_told.given.1) in
-    l.invariant.0 ∙ bits-cut l.left l.n _ c.before.before.before.loop-test.true e
+    let e = bit_ended s l.at (sym c.before.before.bit.ensures ∙ ap got_code c.enum_told.given.1) in
+    l.invariant.0 ∙ bits_cut l.left l.n _ c.before.before.before.loop-test.true e
 
 mul-n : tie.Need-overflow-mul-n invariant-loop decreases-loop
 mul-n c =
@@ -57,7 +57,7 @@ add-n c =
     let a = c.before.before.before.before.before.before.before.args in
     let l = c.before.before.before.before.before.loop in
     let b = c.before.b.given in
-    let d : code (streamOf a.s.now) 1 l.at ≡ got b.0.0 b.0.1.0 = sym c.before.before.before.bit.ensures ∙ ap gotCode b.1 in
+    let d : code (stream_of a.s.now) 1 l.at ≡ got b.0.0 b.0.1.0 = sym c.before.before.before.bit.ensures ∙ ap got_code b.1 in
     let s = bit_below a.s.now l.at b.0.0 b.0.1.0 d in
     let f = bits_fit a.count l.left l.n b.0.0 (search rules) c.before.before.before.before.loop-test.true l.invariant.1 l.invariant.3 s in
     record { fits = f.1 }
@@ -73,17 +73,17 @@ loop-again c =
     let a = c.before.before.before.before.before.before.before.args in
     let l = c.before.before.before.before.before.loop in
     let b = c.before.b.given in
-    let d : code (streamOf a.s.now) 1 l.at ≡ got b.0.0 b.0.1.0 = sym c.before.before.before.bit.ensures ∙ ap gotCode b.1 in
+    let d : code (stream_of a.s.now) 1 l.at ≡ got b.0.0 b.0.1.0 = sym c.before.before.before.bit.ensures ∙ ap got_code b.1 in
     let s = bit_below a.s.now l.at b.0.0 b.0.1.0 d in
     let f = bits_fit a.count l.left l.n b.0.0 (search rules) c.before.before.before.before.loop-test.true l.invariant.1 l.invariant.3 s in
-    let h = bit-got (streamOf a.s.now) l.at b.0.0 b.0.1.0 d in
-    (l.invariant.0 ∙ bits-turn l.left l.n b.0.0 _ _ c.before.before.before.before.loop-test.true h.2, omega arith, omega arith, f.0)
+    let h = bit_got (stream_of a.s.now) l.at b.0.0 b.0.1.0 d in
+    (l.invariant.0 ∙ bits_turn l.left l.n b.0.0 _ _ c.before.before.before.before.loop-test.true h.2, omega arith, omega arith, f.0)
 
 returns-2 : tie.Need-returns-2 invariant-loop decreases-loop
 returns-2 c =
     let l = c.before.loop in
     let z : l.left ≡ 0 = omega arith in
-    (l.invariant.0 ∙ bits-done l.left l.n _ z, omega arith)
+    (l.invariant.0 ∙ bits_done_lem l.left l.n _ z, omega arith)
 
 pub bits-after-one-spec : {M : Type 1} → statement M
 bits-after-one-spec =

@@ -4,7 +4,7 @@ use Prim.Native.Nat.{◌+◌, ◌<◌}
 use native.Mathlib.Omega.{arith}
 use lib.ListN.{length, get_or}
 use Rattle.bititer.proofs.Bits.{byte_at}
-use Rattle.bititer.proofs.Octets.{byte-whole, byte_split}
+use Rattle.bititer.proofs.Octets.{byte_whole, byte_split}
 use borrow.Author.Rules.{rules}
 use Rattle.bititer.proofs.byte_from.Statement.{statement}
 use Rattle.bititer.proofs.byte_from.Tie as tie
@@ -15,7 +15,7 @@ shared-slice-read-result c = search rules
 returns : tie.Need-returns
 returns c =
     let a = c.before.before.args in
-    sym (byte-whole a.s.now a.i a.k c.before.if1.true (omega arith) (omega (arith, c.shared-slice-known.given a.i)))
+    sym (byte_whole a.s.now a.i a.k c.before.if1.true (omega arith) (omega (arith, c.shared-slice-known.given a.i)))
 
 shared-slice-read-result-2 : tie.Need-shared-slice-read-result-2
 shared-slice-read-result-2 c = search rules

@@ -10,19 +10,19 @@ use borrow.Author.Rules.{rules}
 use lib.ListN.{length, get_or, set, drop, length-set}
 use lib.Seq.{paste, paste-zero, paste-suc}
 use Rattle.report.specs.Bits.{bytes_of}
-use Rattle.scope.specs.Numbers.{streamOf}
+use Rattle.scope.specs.Numbers.{stream_of}
 use Rattle.scope.specs.Reading.{got}
 use Rattle.bititer.specs.Answers.{stored, placed}
-use Rattle.bititer.proofs.Streams.{length-stream}
-use Rattle.common.specs.Bits.{length-bytes}
-use Rattle.bititer.proofs.Octets.{byte-here, pasted, bytes-ended, bytes-short, bytes_read}
+use Rattle.bititer.proofs.Streams.{length_stream}
+use Rattle.common.specs.Bits.{length_bytes}
+use Rattle.bititer.proofs.Octets.{byte_here, pasted, bytes_ended, bytes_short, bytes_read}
 use Rattle.bititer.proofs.bytes.Statement.{statement}
 use Rattle.bititer.proofs.bytes.Tie as tie
 
 abbrev invariant-loop : tie.invariant-loop
 invariant-loop s p store₀ at n first k j₀ store j =
-    (store ≡ paste store₀ at (bytes_of n (drop p (streamOf s))) j) × (j ≤ n) × (length store ≡ length store₀)
-    × (p + 8 * n ≤ length (streamOf s)) × (at + n ≤ length store₀)
+    (store ≡ paste store₀ at (bytes_of n (drop p (stream_of s))) j) × (j ≤ n) × (length store ≡ length store₀)
+    × (p + 8 * n ≤ length (stream_of s)) × (at + n ≤ length store₀)
 
 abbrev decreases-loop : tie.decreases-loop
 decreases-loop s p store₀ at n first k j₀ store j = n - j
@@ -39,10 +39,10 @@ has-room-requires c κs = search rules
 returns : tie.Need-returns invariant-loop decreases-loop
 returns c =
     let a = c.before.before.before.before.before.args in
-    let s = streamOf a.s.now in
+    let s = stream_of a.s.now in
     let h = leb-false (a.p + 8 * a.n) c.before.before.stream-length.result
     (sym c.before.has_room.ensures ∙ not-true c.before.has_room.result c.if1.true) in
-    sym (bytes-ended s a.n a.p a.store.now a.at (omega (arith, c.before.before.stream-length.ensures)))
+    sym (bytes_ended s a.n a.p a.store.now a.at (omega (arith, c.before.before.stream-length.ensures)))
 
 has-room-requires-2 : tie.Need-has-room-requires-2 invariant-loop decreases-loop
 has-room-requires-2 c κs = search rules
@@ -50,17 +50,17 @@ has-room-requires-2 c κs = search rules
 returns-2 : tie.Need-returns-2 invariant-loop decreases-loop
 returns-2 c =
     let a = c.before.before.before.before.before.before.before.args in
-    let s = streamOf a.s.now in
+    let s = stream_of a.s.now in
     let h = leb-true (a.p + 8 * a.n) c.before.before.before.before.stream-length.result
     (sym c.before.before.before.has_room.ensures
     ∙ not-false c.before.before.before.has_room.result c.before.before.if1.false) in
     let k = leb-false (a.at + a.n) (length a.store.now) (sym c.before.has-room2.ensures ∙ not-true c.before.has-room2.result c.if2.true) in
-    sym (bytes-short s a.n a.p a.store.now a.at (omega (arith, c.before.before.before.before.stream-length.ensures)) k)
+    sym (bytes_short s a.n a.p a.store.now a.at (omega (arith, c.before.before.before.before.stream-length.ensures)) k)
 
 loop-holds : tie.Need-loop-init invariant-loop decreases-loop
 loop-holds c =
     let a = c.before.before.before.before.before.before.before.args in
-    let s = streamOf a.s.now in
+    let s = stream_of a.s.now in
     let h = leb-true (a.p + 8 * a.n) c.before.before.before.before.stream-length.result
     (sym c.before.before.before.has_room.ensures
     ∙ not-false c.before.before.before.has_room.result c.before.before.if1.false) in
@@ -76,16 +76,16 @@ loop-holds c =
 add-byte-from : tie.Need-overflow-add-byte-from invariant-loop decreases-loop
 add-byte-from c =
     let a = c.before.before.before.before.before.before.before.before.before.args in
-    let s = streamOf a.s.now in
+    let s = stream_of a.s.now in
     let l = c.before.loop in
-    omega (arith, length-stream a.s.now)
+    omega (arith, length_stream a.s.now)
 
 byte-from-requires : tie.Need-byte-from-requires invariant-loop decreases-loop
 byte-from-requires c κs =
     let a = c.before.before.before.before.before.before.before.before.before.args in
-    let s = streamOf a.s.now in
+    let s = stream_of a.s.now in
     let l = c.before.loop in
-    (omega arith, omega (arith, length-stream a.s.now))
+    (omega arith, omega (arith, length_stream a.s.now))
 
 add-store : tie.Need-overflow-add-store invariant-loop decreases-loop
 add-store c = search rules
@@ -102,12 +102,12 @@ loop-less c = search rules
 loop-again : tie.Need-loop-preserved invariant-loop decreases-loop
 loop-again c =
     let a = c.before.before.before.before.before.before.before.before.before.before.args in
-    let s = streamOf a.s.now in
+    let s = stream_of a.s.now in
     let l = c.before.before.loop in
     let w = bytes_of a.n (drop a.p s) in
-    let d = length-bytes a.n (drop a.p s) in
+    let d = length_bytes a.n (drop a.p s) in
     let b : c.byte-from.result ≡ get_or w l.j 0 =
-    c.byte-from.ensures ∙ byte-here a.s.now a.p a.n l.j c.before.loop-test.true l.invariant.3 in (
+    c.byte-from.ensures ∙ byte_here a.s.now a.p a.n l.j c.before.loop-test.true l.invariant.3 in (
       ap₂ (λ (x : List ℕ) (v : ℕ). set x (a.at + l.j) v) l.invariant.0 b
           ∙ paste-suc a.store.now a.at w l.j 0 (omega arith) (omega arith)
           ∙ ap (paste a.store.now a.at w) (sym (add-one l.j)),
@@ -120,16 +120,16 @@ loop-again c =
 mul-t12 : tie.Need-overflow-mul-t12 invariant-loop decreases-loop
 mul-t12 c =
     let a = c.before.before.before.before.before.before.before.before.before.args in
-    let s = streamOf a.s.now in
+    let s = stream_of a.s.now in
     let l = c.before.loop in
-    omega (arith, length-stream a.s.now)
+    omega (arith, length_stream a.s.now)
 
 add-t11 : tie.Need-overflow-add-t11 invariant-loop decreases-loop
 add-t11 c =
     let a = c.before.before.before.before.before.before.before.before.before.args in
-    let s = streamOf a.s.now in
+    let s = stream_of a.s.now in
     let l = c.before.loop in
-    omega (arith, length-stream a.s.now)
+    omega (arith, length_stream a.s.now)
 
 same_length : tie.Need-same-length invariant-loop decreases-loop
 same_length c = search rules
@@ -137,12 +137,12 @@ same_length c = search rules
 returns-3 : tie.Need-returns-3 invariant-loop decreases-loop
 returns-3 c =
     let a = c.before.before.before.before.before.before.before.before.before.args in
-    let s = streamOf a.s.now in
+    let s = stream_of a.s.now in
     let l = c.before.loop in
     let w = bytes_of a.n (drop a.p s) in
     let j : l.j ≡ a.n = omega arith in
     let e : l.store ≡ placed a.store.now a.at w =
-    l.invariant.0 ∙ ap (paste a.store.now a.at w) j ∙ pasted a.store.now w a.at a.n (length-bytes a.n (drop a.p s)) in
+    l.invariant.0 ∙ ap (paste a.store.now a.at w) j ∙ pasted a.store.now w a.at a.n (length_bytes a.n (drop a.p s)) in
     ap (stored (got tt (a.p + 8 * a.n))) e ∙ sym (bytes_read s a.n a.p a.store.now a.at l.invariant.3 l.invariant.4)
 
 pub bytes-spec : {M : Type 1} → statement M

@@ -2,9 +2,9 @@
 use mathlib.Core.Path.{sym}
 use Prim.Native.Nat.{◌/◌}
 use native.Mathlib.Omega.{arith}
-use Rattle.scope.specs.Numbers.{streamOf}
-use Rattle.bititer.proofs.Streams.{stream-inside}
-use Rattle.bititer.proofs.Closing.{closes-past, closes-long, closes-end, closes-rest}
+use Rattle.scope.specs.Numbers.{stream_of}
+use Rattle.bititer.proofs.Streams.{stream_inside}
+use Rattle.bititer.proofs.Closing.{closes_past, closes_long, closes_end, closes_rest}
 use borrow.Author.Rules.{rules}
 use Rattle.bititer.proofs.closes.Statement.{statement}
 use Rattle.bititer.proofs.closes.Tie as tie
@@ -15,23 +15,23 @@ stream-length-requires c κs = search rules
 returns : tie.Need-returns
 returns c =
     let a = c.before.before.before.args in
-    sym (closes-past (streamOf a.s.now) a.p (omega (arith, c.before.stream-length.ensures)))
+    sym (closes_past (stream_of a.s.now) a.p (omega (arith, c.before.stream-length.ensures)))
 
 returns-2 : tie.Need-returns-2
 returns-2 c =
     let a = c.before.before.before.before.args in
-    sym (closes-long (streamOf a.s.now) a.p (omega (arith, c.before.before.stream-length.ensures))
+    sym (closes_long (stream_of a.s.now) a.p (omega (arith, c.before.before.stream-length.ensures))
     (omega (arith, c.before.before.stream-length.ensures)))
 
 returns-3 : tie.Need-returns-3
 returns-3 c =
     let a = c.before.before.before.before.before.args in
-    sym (closes-end (streamOf a.s.now) a.p (omega (arith, c.before.before.before.stream-length.ensures)))
+    sym (closes_end (stream_of a.s.now) a.p (omega (arith, c.before.before.before.stream-length.ensures)))
 
 shared-slice-read-rest : tie.Need-shared-slice-read-rest
 shared-slice-read-rest c =
     let a = c.before.before.before.before.before.before.args in
-    stream-inside a.s.now a.p (omega (arith, c.before.before.before.before.stream-length.ensures))
+    stream_inside a.s.now a.p (omega (arith, c.before.before.before.before.stream-length.ensures))
 
 cast-rest : tie.Need-overflow-cast-rest
 cast-rest c = search rules
@@ -42,7 +42,7 @@ shl-rest c = search rules
 returns-4 : tie.Need-returns-4
 returns-4 c =
     let a = c.before.before.before.before.before.before.args in
-    sym (closes-rest a.s.now a.p (omega (arith, c.before.before.before.before.stream-length.ensures))
+    sym (closes_rest a.s.now a.p (omega (arith, c.before.before.before.before.stream-length.ensures))
     (omega (arith, c.before.before.before.before.stream-length.ensures)) (omega (arith, c.shared-slice-known2.given (a.p / 8))))
 
 pub closes-spec : {M : Type 1} → statement M

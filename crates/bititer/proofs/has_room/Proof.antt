@@ -3,7 +3,7 @@ use mathlib.Core.Path.{sym}
 use Prim.Native.Nat.{◌+◌, ◌≤◌}
 use native.Mathlib.Omega.{arith}
 use borrow.Author.Tests.{lt-leb}
-use Rattle.bititer.proofs.Octets.{room-test}
+use Rattle.bititer.proofs.Octets.{room_test}
 use Rattle.bititer.proofs.has_room.Statement.{statement}
 use Rattle.bititer.proofs.has_room.Tie as tie
 
@@ -16,7 +16,7 @@ returns-2 : tie.Need-returns-2
 returns-2 c =
     let a = c.before.args in
     let h : a.n ≤ a.all = omega arith in
-    room-test a.all a.at a.n h
+    room_test a.all a.at a.n h
 
 pub has-room-spec : {M : Type 1} → statement M
 has-room-spec = tie.close (tie.spec returns returns-2)

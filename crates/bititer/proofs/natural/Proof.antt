@@ -4,11 +4,11 @@ use Prim.Native.Nat.{◌+◌, ◌≤◌}
 use native.Mathlib.Omega.{arith}
 use lib.ListN.{length, drop, length-drop}
 use lib.Seq.{drop-drop}
-use Rattle.scope.specs.Numbers.{streamOf}
-use Rattle.scope.specs.Naturals.{natural, readNatural}
-use Rattle.bititer.specs.Windows.{gotWindow, BeginsWith}
-use Rattle.bititer.proofs.Naturals.{up-to-natural}
-use Rattle.bititer.proofs.Windows.{window-read}
+use Rattle.scope.specs.Numbers.{stream_of}
+use Rattle.scope.specs.Naturals.{natural, read_natural}
+use Rattle.bititer.specs.Windows.{got_window, BeginsWith}
+use Rattle.bititer.proofs.Naturals.{up_to_natural}
+use Rattle.bititer.proofs.Windows.{window_read}
 use borrow.Author.Rules.{rules}
 use Rattle.bititer.proofs.natural.Statement.{statement}
 use Rattle.bititer.proofs.natural.Tie as tie
@@ -52,15 +52,15 @@ within-requires c κs = search rules
 returns-3 : tie.Need-returns-3
 returns-3 c =
     let a = c.before.before.before.before.before.before.before.before.before.before.args in
-    let s = streamOf a.s.now in
+    let s = stream_of a.s.now in
     let w = c.before.before.before.before.before.before.w.given.0.0 in
     let begun = c.before.before.n.given in
     let read = sym c.before.before.before.before.before.before.before.before.window.ensures
-    ∙ ap (gotWindow a.p) c.before.before.before.before.before.before.w.given.1 in
-    let window = window-read a.s.now a.p w read in
+    ∙ ap (got_window a.p) c.before.before.before.before.before.before.w.given.1 in
+    let window = window_read a.s.now a.p w read in
     let m = subst (BeginsWith (drop a.p s)) begun.1 (c.before.before.before.before.natural-in.ensures (drop a.p s) window) in
     c.within.ensures a.p
-    ∙ sym (up-to-natural s a.bound a.p begun.0.0 (a.p + begun.0.1.0)
+    ∙ sym (up_to_natural s a.bound a.p begun.0.0 (a.p + begun.0.1.0)
     (m.0 ∙ ap (natural begun.0.0) (drop-drop begun.0.1.0 a.p s)) (omega arith)
     (omega (arith, m.1, window.1, length-drop a.p s)))
 

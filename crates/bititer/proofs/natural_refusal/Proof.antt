@@ -1,9 +1,9 @@
 -- `bititer::natural_refusal` meets its contract, case by case.
 use mathlib.Core.Path.{sym, ap}
 use borrow.Author.Rules.{rules}
-use Rattle.scope.specs.Reading.{refusalAt}
+use Rattle.scope.specs.Reading.{refusal_at}
 use Rattle.bititer.specs.declared.NaturalFault.{NaturalFault}
-use Rattle.bititer.specs.Answers.{naturalFault}
+use Rattle.bititer.specs.Answers.{natural_fault}
 use Rattle.bititer.proofs.natural_refusal.Statement.{statement}
 use Rattle.bititer.proofs.natural_refusal.Tie as tie
 
@@ -17,16 +17,16 @@ enum-told-3 : tie.Need-enum-told-3
 enum-told-3 c = search rules
 
 returns : tie.Need-returns
-unfolding refusalAt
-returns c = sym (ap (λ (w : NaturalFault). refusalAt c.before.before.args.i (naturalFault w)) c.enum_told.given.1)
+unfolding refusal_at
+returns c = sym (ap (λ (w : NaturalFault). refusal_at c.before.before.args.i (natural_fault w)) c.enum_told.given.1)
 
 returns-2 : tie.Need-returns-2
-unfolding refusalAt
-returns-2 c = sym (ap (λ (w : NaturalFault). refusalAt c.before.before.args.i (naturalFault w)) c.enum-told2.given.1)
+unfolding refusal_at
+returns-2 c = sym (ap (λ (w : NaturalFault). refusal_at c.before.before.args.i (natural_fault w)) c.enum-told2.given.1)
 
 returns-3 : tie.Need-returns-3
-unfolding refusalAt
-returns-3 c = sym (ap (λ (w : NaturalFault). refusalAt c.before.before.args.i (naturalFault w)) c.enum-told3.given.1)
+unfolding refusal_at
+returns-3 c = sym (ap (λ (w : NaturalFault). refusal_at c.before.before.args.i (natural_fault w)) c.enum-told3.given.1)
 
 pub natural-refusal-spec : {M : Type 1} → statement M
 natural-refusal-spec =

@@ -5,21 +5,21 @@ use Prim.Native.Nat.{◌-◌, ◌≤◌}
 use native.Mathlib.Omega.{arith}
 use borrow.Author.Rules.{rules}
 use lib.ListN.{length, drop}
-use Rattle.scope.specs.Numbers.{streamOf}
-use Rattle.scope.specs.Naturals.{readNatural}
-use Rattle.bititer.specs.Answers.{gotCode}
-use Rattle.bititer.specs.Parts.{ofLengths}
-use Rattle.bititer.proofs.Streams.{length-stream, bit-got, bit-ended}
-use Rattle.bititer.proofs.Naturals.{natural-none, natural-zero, natural-one, lengths_none, lengths-more, lengths-ended}
+use Rattle.scope.specs.Numbers.{stream_of}
+use Rattle.scope.specs.Naturals.{read_natural}
+use Rattle.bititer.specs.Answers.{got_code}
+use Rattle.bititer.specs.Parts.{of_lengths}
+use Rattle.bititer.proofs.Streams.{length_stream, bit_got, bit_ended}
+use Rattle.bititer.proofs.Naturals.{natural_none, natural_zero, natural_one, lengths_none, lengths_more, lengths_ended}
 use Rattle.bititer.proofs.ones.Statement.{statement}
 use Rattle.bititer.proofs.ones.Tie as tie
 
 abbrev invariant-loop : tie.invariant-loop
 invariant-loop s p at₀ count₀ at count =
-    (readNatural (drop p (streamOf s)) ≡ ofLengths count (readNatural (drop at (streamOf s)))) × (p ≤ at) × (count ≤ at)
+    (read_natural (drop p (stream_of s)) ≡ of_lengths count (read_natural (drop at (stream_of s)))) × (p ≤ at) × (count ≤ at)
 
 abbrev decreases-loop : tie.decreases-loop
-decreases-loop s p at₀ count₀ at count = length (streamOf s) - at
+decreases-loop s p at₀ count₀ at count = length (stream_of s) - at
 
 loop-holds : tie.Need-loop-init invariant-loop decreases-loop
 loop-holds c = (sym (lengths_none _), search rules, search rules)
@@ -35,42 +35,42 @@ enum_told c = search rules
 
 returns : tie.Need-returns invariant-loop decreases-loop
 returns c =
-    let s = streamOf c.before.before.before.before.before.args.s.now in
+    let s = stream_of c.before.before.before.before.before.args.s.now in
     let l = c.before.before.before.loop in
-    let e = bit-ended s l.at (sym c.before.before.bit.ensures ∙ ap gotCode c.enum_told.given.1) in
-    l.invariant.0 ∙ ap (ofLengths l.count) (natural-none (drop l.at s) e) ∙ lengths-ended l.count
+    let e = bit_ended s l.at (sym c.before.before.bit.ensures ∙ ap got_code c.enum_told.given.1) in
+    l.invariant.0 ∙ ap (of_lengths l.count) (natural_none (drop l.at s) e) ∙ lengths_ended l.count
 
 returns-2 : tie.Need-returns-2 invariant-loop decreases-loop
 returns-2 c =
-    let s = streamOf c.before.before.before.before.before.before.before.args.s.now in
+    let s = stream_of c.before.before.before.before.before.before.before.args.s.now in
     let l = c.before.before.before.before.before.loop in
     let b = c.before.before.b.given in
-    let h = bit-got s l.at b.0.0 b.0.1.0 (sym c.before.before.before.before.bit.ensures ∙ ap gotCode b.1) in
-    (l.invariant.0 ∙ ap (ofLengths l.count) (natural-zero _ _ b.0.0 h.2 c.if1.true), omega arith, omega arith)
+    let h = bit_got s l.at b.0.0 b.0.1.0 (sym c.before.before.before.before.bit.ensures ∙ ap got_code b.1) in
+    (l.invariant.0 ∙ ap (of_lengths l.count) (natural_zero _ _ b.0.0 h.2 c.if1.true), omega arith, omega arith)
 
 add-count : tie.Need-overflow-add-count invariant-loop decreases-loop
 add-count c =
-    let s = streamOf c.before.before.before.before.before.before.before.args.s.now in
+    let s = stream_of c.before.before.before.before.before.before.before.args.s.now in
     let l = c.before.before.before.before.before.loop in
     let b = c.before.before.b.given in
-    let h = bit-got s l.at b.0.0 b.0.1.0 (sym c.before.before.before.before.bit.ensures ∙ ap gotCode b.1) in
-    omega (arith, length-stream c.before.before.before.before.before.before.before.args.s.now)
+    let h = bit_got s l.at b.0.0 b.0.1.0 (sym c.before.before.before.before.bit.ensures ∙ ap got_code b.1) in
+    omega (arith, length_stream c.before.before.before.before.before.before.before.args.s.now)
 
 loop-less : tie.Need-loop-smaller invariant-loop decreases-loop
 loop-less c =
-    let s = streamOf c.before.before.before.before.before.before.before.args.s.now in
+    let s = stream_of c.before.before.before.before.before.before.before.args.s.now in
     let l = c.before.before.before.before.before.loop in
     let b = c.before.before.b.given in
-    let h = bit-got s l.at b.0.0 b.0.1.0 (sym c.before.before.before.before.bit.ensures ∙ ap gotCode b.1) in
+    let h = bit_got s l.at b.0.0 b.0.1.0 (sym c.before.before.before.before.bit.ensures ∙ ap got_code b.1) in
     omega arith
 
 loop-again : tie.Need-loop-preserved invariant-loop decreases-loop
 loop-again c =
-    let s = streamOf c.before.before.before.before.before.before.before.args.s.now in
+    let s = stream_of c.before.before.before.before.before.before.before.args.s.now in
     let l = c.before.before.before.before.before.loop in
     let b = c.before.before.b.given in
-    let h = bit-got s l.at b.0.0 b.0.1.0 (sym c.before.before.before.before.bit.ensures ∙ ap gotCode b.1) in
-    (l.invariant.0 ∙ ap (ofLengths l.count) (natural-one _ _ b.0.0 h.2 c.if1.false) ∙ sym (lengths-more l.count _), omega arith, omega arith)
+    let h = bit_got s l.at b.0.0 b.0.1.0 (sym c.before.before.before.before.bit.ensures ∙ ap got_code b.1) in
+    (l.invariant.0 ∙ ap (of_lengths l.count) (natural_one _ _ b.0.0 h.2 c.if1.false) ∙ sym (lengths_more l.count _), omega arith, omega arith)
 
 pub ones-spec : {M : Type 1} → statement M
 ones-spec =

@@ -1,8 +1,8 @@
 -- Whole bytes copied. The invariant: the copy of all k bytes of the old list is that of the bytes left, in the list as it is now, as bits.
 -- Those bytes are the measure.
 use Rattle.cells.proofs.Copies.{copy_start, copy_done}
-use Rattle.cells.proofs.Runs.{byte-bits, bytes_apart, copy-byte}
-use Rattle.common.specs.Cells.{copyBits, bitsFrom}
+use Rattle.cells.proofs.Runs.{byte_bits_lem, bytes_apart, copy_byte}
+use Rattle.common.specs.Cells.{copy_bits, bits_from}
 use Rattle.report.specs.Bits.{bits_of}
 use lib.ListN.{length, length-set}
 use Prim.Native.Nat.{ℕ, ◌+◌, ◌*◌, ◌-◌, ◌≤◌}
@@ -14,7 +14,7 @@ use Rattle.cells.proofs.copy_bytes.Tie as tie
 
 abbrev invariant-loop : tie.invariant-loop
 invariant-loop cells₀ a b k i₀ cells i =
-    (copyBits (bits_of cells₀) (8 * a) (8 * b) (8 * k) ≡ copyBits (bits_of cells) (8 * a + 8 * i) (8 * b + 8 * i) (8 * k - 8 * i))
+    (copy_bits (bits_of cells₀) (8 * a) (8 * b) (8 * k) ≡ copy_bits (bits_of cells) (8 * a + 8 * i) (8 * b + 8 * i) (8 * k - 8 * i))
     × (i ≤ k) × (length cells ≡ length cells₀)
 
 abbrev decreases-loop : tie.decreases-loop
@@ -47,8 +47,8 @@ loop-again c =
     let l = c.before.before.loop in
     let e : 8 * (a.a + l.i) ≡ 8 * a.a + 8 * l.i = omega arith in (
       l.invariant.0
-          ∙ copy-byte l.cells a.b a.k l.i _ (omega arith) (omega arith) (8 * a.a) (bytes_apart a.a a.b)
-          (byte-bits l.cells (a.a + l.i) ∙ ap (λ (q : ℕ). bitsFrom (bits_of l.cells) q 8) e),
+          ∙ copy_byte l.cells a.b a.k l.i _ (omega arith) (omega arith) (8 * a.a) (bytes_apart a.a a.b)
+          (byte_bits_lem l.cells (a.a + l.i) ∙ ap (λ (q : ℕ). bits_from (bits_of l.cells) q 8) e),
       omega arith,
       simp length-set l.invariant.2,
     )

@@ -1,7 +1,7 @@
 -- A run of cells copied. The invariant: the copy of the cells that the whole bytes left is that of the cells left, in the list as it is now.
 -- Those cells are the measure.
-use Rattle.cells.proofs.Copies.{copy-turn, copy_done}
-use Rattle.common.specs.Cells.{copyBits}
+use Rattle.cells.proofs.Copies.{copy_turn, copy_done}
+use Rattle.common.specs.Cells.{copy_bits}
 use Rattle.report.specs.Bits.{bits_of}
 use lib.ListN.{length}
 use Prim.Native.Nat.{◌+◌, ◌-◌, ◌≤◌}
@@ -12,7 +12,7 @@ use Rattle.cells.proofs.copy_cells.Tie as tie
 
 abbrev invariant-loop : tie.invariant-loop
 invariant-loop cells₀ from to n i₀ cells i =
-    (copyBits (bits_of cells₀) (from + i₀) (to + i₀) (n - i₀) ≡ copyBits (bits_of cells) (from + i) (to + i) (n - i)) × (i ≤ n) × (length cells ≡ length cells₀)
+    (copy_bits (bits_of cells₀) (from + i₀) (to + i₀) (n - i₀) ≡ copy_bits (bits_of cells) (from + i) (to + i) (n - i)) × (i ≤ n) × (length cells ≡ length cells₀)
 
 abbrev decreases-loop : tie.decreases-loop
 decreases-loop cells₀ from to n i₀ cells i = n - i
@@ -55,7 +55,7 @@ loop-again c =
     let a = c.before.before.before.before.before.before.before.before.before.before.before.args in
     let l = c.before.before.before.before.before.loop in
     let r = c.before.before.copy_step in (
-      l.invariant.0 ∙ copy-turn (bits_of l.cells) _ a.from a.to a.n l.i r.result r.ensures.2,
+      l.invariant.0 ∙ copy_turn (bits_of l.cells) _ a.from a.to a.n l.i r.result r.ensures.2,
       search rules,
       search rules,
     )

@@ -1,11 +1,11 @@
 -- Whole bytes copied, and the cells before them. The invariant: the copy of all n cells of the old list is that of the cells left, in the list
 -- as it is now, and the cells copied do not pass the next byte. The cells left are the measure.
-use Rattle.cells.proofs.Parts.{one-put}
-use Rattle.cells.proofs.Copies.{copy_start, copy-turn, copy_step, one_apart}
-use Rattle.cells.proofs.Runs.{whole-copied}
-use Rattle.common.specs.Cells.{copyBits}
+use Rattle.cells.proofs.Parts.{one_put}
+use Rattle.cells.proofs.Copies.{copy_start, copy_turn, copy_step, one_apart}
+use Rattle.cells.proofs.Runs.{whole_copied}
+use Rattle.common.specs.Cells.{copy_bits}
 use Rattle.report.specs.Bits.{bits_of}
-use Rattle.bititer.proofs.Bits.{bit-small}
+use Rattle.bititer.proofs.Bits.{bit_small}
 use lib.ListN.{length}
 use Prim.Native.Nat.{◌+◌, ◌*◌, ◌-◌, ◌/◌, ◌%◌, ◌≤◌}
 use mathlib.Core.Path.{◌≡◌, refl, ◌∙◌}
@@ -17,7 +17,7 @@ use Rattle.cells.proofs.copy_front.Tie as tie
 
 abbrev invariant-loop : tie.invariant-loop
 invariant-loop cells₀ from to n i₀ cells i =
-    (copyBits (bits_of cells₀) from to n ≡ copyBits (bits_of cells) (from + i) (to + i) (n - i)) × (i + to % 8 ≤ 8) × (length cells ≡ length cells₀)
+    (copy_bits (bits_of cells₀) from to n ≡ copy_bits (bits_of cells) (from + i) (to + i) (n - i)) × (i + to % 8 ≤ 8) × (length cells ≡ length cells₀)
 
 abbrev decreases-loop : tie.decreases-loop
 decreases-loop cells₀ from to n i₀ cells i = n - i
@@ -63,8 +63,8 @@ loop-again c =
     let f = a.from + l.i in
     let t = a.to + l.i in
     let b = c.before.before.before.before.cell in
-    let q = one-put m _ m f t b.result b.ensures (rw b.ensures (bit-small l.cells f)) c.before.before.put-cell.ensures in (
-      l.invariant.0 ∙ copy-turn m _ a.from a.to a.n l.i 1 (copy_step m _ f t (a.n - l.i) 1 (omega arith) (one_apart f t) q),
+    let q = one_put m _ m f t b.result b.ensures (rw b.ensures (bit_small l.cells f)) c.before.before.put-cell.ensures in (
+      l.invariant.0 ∙ copy_turn m _ a.from a.to a.n l.i 1 (copy_step m _ f t (a.n - l.i) 1 (omega arith) (one_apart f t) q),
       omega arith,
       search rules,
     )
@@ -103,9 +103,9 @@ returns-2 c =
     let l = c.before.before.before.before.before.loop in
     let k = (a.n - l.i) / 8 in
     let e : a.from % 8 ≡ a.to % 8 = eqb-true _ _ (not-false _ c.before.before.before.before.before.before.before.before.if2.false) in
-    let q = whole-copied (bits_of l.cells) _ (a.from + l.i) (a.to + l.i) (a.n - l.i) (omega arith) (omega arith)
+    let q = whole_copied (bits_of l.cells) _ (a.from + l.i) (a.to + l.i) (a.n - l.i) (omega arith) (omega arith)
     c.before.before.copy-bytes.ensures in
-    (omega arith, l.invariant.0 ∙ copy-turn (bits_of l.cells) _ a.from a.to a.n l.i (8 * k) q)
+    (omega arith, l.invariant.0 ∙ copy_turn (bits_of l.cells) _ a.from a.to a.n l.i (8 * k) q)
 
 pub copy-front-spec : {M : Type 1} → statement M
 copy-front-spec =

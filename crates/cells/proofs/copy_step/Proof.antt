@@ -1,8 +1,8 @@
 -- A step of the copy: what is copied is the first cell, or the first eight where none of them is written before it is read; the others are left to copy.
-use Rattle.cells.proofs.Parts.{one-put, eight-put}
+use Rattle.cells.proofs.Parts.{one_put, eight_put}
 use Rattle.cells.proofs.Copies.{copy_step, one_apart, far}
 use Rattle.report.specs.Bits.{bits_of}
-use Rattle.bititer.proofs.Bits.{bit-small}
+use Rattle.bititer.proofs.Bits.{bit_small}
 use mathlib.Core.Path.{sym, ◌∙◌}
 use mathlib.Core.Logic.{◌⊎◌, inl, inr, ⊎_elim}
 use Prim.Native.Nat.{◌+◌, ◌≤◌}
@@ -29,7 +29,7 @@ returns c =
     let a = c.before.before.before.before.before.before.before.before.before.before.before.args in
     let l = bits_of a.cells.now in
     let h : 8 ≤ a.n = c.before.before.before.before.before.before.before.before.before.if1.true in
-    let q = eight-put l _ l a.from a.to c.before.before.before.before.eight-at.result
+    let q = eight_put l _ l a.from a.to c.before.before.before.before.eight-at.result
     c.before.before.before.before.eight-at.ensures
     (eqb-true _ _ c.before.before.before.before.before.before.before.before.if2.true) c.before.before.put_byte.ensures in
     let apart : (a.to ≤ a.from) ⊎ (a.from + 8 ≤ a.to) = ⊎_elim (λ w. inl (omega arith))
@@ -51,7 +51,7 @@ returns-2 c =
     let a = c.before.before.before.before.before.before.before.before.args in
     let l = bits_of a.cells.now in
     let b = c.before.before.before.before.cell in
-    let q = one-put l _ l a.from a.to b.result b.ensures (rw b.ensures (bit-small a.cells.now a.from))
+    let q = one_put l _ l a.from a.to b.result b.ensures (rw b.ensures (bit_small a.cells.now a.from))
     c.before.before.put-cell.ensures in
     (search rules, search rules, copy_step l _ a.from a.to a.n 1 (search rules) (one_apart a.from a.to) q)
 

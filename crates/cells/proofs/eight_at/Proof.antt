@@ -1,5 +1,5 @@
 -- Eight cells from a place on: the byte that begins there, or else two neighbours shifted together, whose sum fits a byte.
-use Rattle.cells.proofs.Bytes.{byte-whole, across-fits, byte-across}
+use Rattle.cells.proofs.Bytes.{byte_whole, across_fits, byte_across}
 use native.Mathlib.Omega.{arith}
 use Prim.Native.Nat.{◌%◌}
 use borrow.Author.Rules.{rules}
@@ -12,7 +12,7 @@ byte-at-requires c κs = search rules
 returns : tie.Need-returns
 returns c =
     let a = c.before.before.before.args in
-    byte-whole a.cells.now a.p c.before.byte_at.result (λ j. (c.before.before.shared-slice-known.given j).fits)
+    byte_whole a.cells.now a.p c.before.byte_at.result (λ j. (c.before.before.shared-slice-known.given j).fits)
     c.before.byte_at.ensures c.if1.true
 
 cast-result : tie.Need-overflow-cast-result
@@ -39,12 +39,12 @@ shr-result c = search rules
 add-result : tie.Need-overflow-add-result
 add-result c =
     let a = c.before.before.before.before.args in
-    record { fits = across-fits c.before.before.byte_at.result c.byte-at2.result (a.p % 8) (omega arith) (omega arith) (omega arith) }
+    record { fits = across_fits c.before.before.byte_at.result c.byte-at2.result (a.p % 8) (omega arith) (omega arith) (omega arith) }
 
 returns-2 : tie.Need-returns-2
 returns-2 c =
     let a = c.before.before.before.before.args in
-    byte-across a.cells.now a.p c.before.before.byte_at.result c.byte-at2.result
+    byte_across a.cells.now a.p c.before.before.byte_at.result c.byte-at2.result
     (λ j. (c.before.before.before.shared-slice-known.given j).fits) c.before.before.byte_at.ensures c.byte-at2.ensures
 
 pub eight-at-spec : {M : Type 1} → statement M

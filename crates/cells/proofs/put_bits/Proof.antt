@@ -1,7 +1,7 @@
 -- Bits of a source put into the cells. The invariant: putting the bits that the whole bytes left is putting those left into the list as it is now.
 -- Those bits are the measure.
-use Rattle.cells.proofs.Parts.{put-turn, put-done}
-use Rattle.common.specs.Cells.{bitsFrom}
+use Rattle.cells.proofs.Parts.{put_turn, put_done}
+use Rattle.common.specs.Cells.{bits_from}
 use lib.Seq.{sets}
 use Rattle.report.specs.Bits.{bits_of}
 use lib.ListN.{length}
@@ -13,8 +13,8 @@ use Rattle.cells.proofs.put_bits.Tie as tie
 
 abbrev invariant-loop : tie.invariant-loop
 invariant-loop source p n cells₀ at put₀ cells put =
-    (sets (bits_of cells₀) (at + put₀) (bitsFrom (bits_of source) (p + put₀) (n - put₀))
-    ≡ sets (bits_of cells) (at + put) (bitsFrom (bits_of source) (p + put) (n - put)))
+    (sets (bits_of cells₀) (at + put₀) (bits_from (bits_of source) (p + put₀) (n - put₀))
+    ≡ sets (bits_of cells) (at + put) (bits_from (bits_of source) (p + put) (n - put)))
     × (put ≤ n) × (length cells ≡ length cells₀)
 
 abbrev decreases-loop : tie.decreases-loop
@@ -58,7 +58,7 @@ loop-again c =
     let a = c.before.before.before.before.before.before.before.before.before.before.before.before.args in
     let l = c.before.before.before.before.before.loop in
     let r = c.before.before.put_step in (
-      l.invariant.0 ∙ put-turn (bits_of l.cells) _ (bits_of a.source.now) a.p a.at a.n l.put r.result r.ensures.2,
+      l.invariant.0 ∙ put_turn (bits_of l.cells) _ (bits_of a.source.now) a.p a.at a.n l.put r.result r.ensures.2,
       search rules,
       search rules,
     )
@@ -71,7 +71,7 @@ returns c =
     let l = c.before.loop in
     let a = c.before.before.before.before.before.before.before.before.args in
     sym (c.before.before.before.before.put_front.ensures.1 ∙ l.invariant.0
-    ∙ put-done (bits_of l.cells) (bits_of a.source.now) (a.p + l.put) (a.at + l.put) a.n l.put c.loop-test.false)
+    ∙ put_done (bits_of l.cells) (bits_of a.source.now) (a.p + l.put) (a.at + l.put) a.n l.put c.loop-test.false)
 
 pub put-bits-spec : {M : Type 1} → statement M
 put-bits-spec =

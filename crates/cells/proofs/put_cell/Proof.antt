@@ -1,5 +1,5 @@
 -- A byte with one bit set, in its string, is the string of bits with that bit set; past the end nothing is.
-use Rattle.cells.proofs.Bytes.{cell_set, past-set}
+use Rattle.cells.proofs.Bytes.{cell_set, past_set}
 use Prim.Native.Nat.{◌%◌}
 use mathlib.Core.Path.{sym}
 use borrow.Author.Rules.{rules}
@@ -24,7 +24,7 @@ returns c =
     cell_set a.cells.now a.p c.with-bit.result (a.b % 2) c.before.before.if1.true c.with-bit.ensures
 
 returns-2 : tie.Need-returns-2
-returns-2 c = sym (past-set c.before.before.args.cells.now c.before.before.args.p (c.before.before.args.b % 2) c.if1.false)
+returns-2 c = sym (past_set c.before.before.args.cells.now c.before.before.args.p (c.before.before.args.b % 2) c.if1.false)
 
 pub put-cell-spec : {M : Type 1} → statement M
 put-cell-spec =

@@ -1,11 +1,11 @@
 -- Whole bytes of a source put into the cells, and the bits before them. The invariant: putting all n bits into the old list is putting those
 -- left into the list as it is now, and the bits put do not pass the next byte. The bits left are the measure.
-use Rattle.cells.proofs.Parts.{one-put, put-start, put-turn, put_step}
-use Rattle.cells.proofs.Runs.{whole-put}
-use Rattle.common.specs.Cells.{bitsFrom}
+use Rattle.cells.proofs.Parts.{one_put, put_start, put_turn, put_step}
+use Rattle.cells.proofs.Runs.{whole_put}
+use Rattle.common.specs.Cells.{bits_from}
 use lib.Seq.{sets}
 use Rattle.report.specs.Bits.{bits_of}
-use Rattle.bititer.proofs.Bits.{bit-small}
+use Rattle.bititer.proofs.Bits.{bit_small}
 use lib.ListN.{length}
 use Prim.Native.Nat.{◌+◌, ◌*◌, ◌-◌, ◌/◌, ◌%◌, ◌≤◌}
 use mathlib.Core.Path.{◌≡◌, refl, ◌∙◌}
@@ -17,7 +17,7 @@ use Rattle.cells.proofs.put_front.Tie as tie
 
 abbrev invariant-loop : tie.invariant-loop
 invariant-loop source p n cells₀ at i₀ cells i =
-    (sets (bits_of cells₀) at (bitsFrom (bits_of source) p n) ≡ sets (bits_of cells) (at + i) (bitsFrom (bits_of source) (p + i) (n - i)))
+    (sets (bits_of cells₀) at (bits_from (bits_of source) p n) ≡ sets (bits_of cells) (at + i) (bits_from (bits_of source) (p + i) (n - i)))
     × (i + at % 8 ≤ 8) × (length cells ≡ length cells₀)
 
 abbrev decreases-loop : tie.decreases-loop
@@ -30,10 +30,10 @@ add-if4 : tie.Need-overflow-add-if4 invariant-loop decreases-loop
 add-if4 c = search rules
 
 returns : tie.Need-returns invariant-loop decreases-loop
-returns c = (search rules, put-start _ _ _ _ _)
+returns c = (search rules, put_start _ _ _ _ _)
 
 loop-holds : tie.Need-loop-init invariant-loop decreases-loop
-loop-holds c = (put-start _ _ _ _ _, omega arith, refl)
+loop-holds c = (put_start _ _ _ _ _, omega arith, refl)
 
 add-loop : tie.Need-overflow-add-loop invariant-loop decreases-loop
 add-loop c = search rules
@@ -65,8 +65,8 @@ loop-again c =
     let p = a.p + l.i in
     let t = a.at + l.i in
     let b = c.before.before.before.before.cell in
-    let q = one-put m _ s p t b.result b.ensures (rw b.ensures (bit-small a.source.now p)) c.before.before.put-cell.ensures in (
-      l.invariant.0 ∙ put-turn m _ s a.p a.at a.n l.i 1 (put_step m _ s p t (a.n - l.i) 1 (omega arith) q),
+    let q = one_put m _ s p t b.result b.ensures (rw b.ensures (bit_small a.source.now p)) c.before.before.put-cell.ensures in (
+      l.invariant.0 ∙ put_turn m _ s a.p a.at a.n l.i 1 (put_step m _ s p t (a.n - l.i) 1 (omega arith) q),
       omega arith,
       search rules,
     )
@@ -107,8 +107,8 @@ returns-2 c =
     let s = bits_of a.source.now in
     let k = (a.n - l.i) / 8 in
     let e : a.p % 8 ≡ a.at % 8 = eqb-true _ _ (not-false _ c.before.before.before.before.before.before.before.before.if2.false) in
-    let q = whole-put m _ s (a.p + l.i) (a.at + l.i) (a.n - l.i) (omega arith) (omega arith) c.before.before.put-bytes.ensures in
-    (omega arith, l.invariant.0 ∙ put-turn m _ s a.p a.at a.n l.i (8 * k) q)
+    let q = whole_put m _ s (a.p + l.i) (a.at + l.i) (a.n - l.i) (omega arith) (omega arith) c.before.before.put-bytes.ensures in
+    (omega arith, l.invariant.0 ∙ put_turn m _ s a.p a.at a.n l.i (8 * k) q)
 
 pub put-front-spec : {M : Type 1} → statement M
 put-front-spec =

@@ -1,7 +1,7 @@
 -- A step of putting bits: what is put is the first bit, or the first eight; the others are left to put.
-use Rattle.cells.proofs.Parts.{one-put, eight-put, put_step}
+use Rattle.cells.proofs.Parts.{one_put, eight_put, put_step}
 use Rattle.report.specs.Bits.{bits_of}
-use Rattle.bititer.proofs.Bits.{bit-small}
+use Rattle.bititer.proofs.Bits.{bit_small}
 use Prim.Native.Nat.{◌≤◌}
 use borrow.Author.Tests.{eqb-true}
 use borrow.Author.Rules.{rules}
@@ -23,7 +23,7 @@ returns c =
     let l = bits_of a.cells.now in
     let s = bits_of a.source.now in
     let h : 8 ≤ a.n = c.before.before.before.before.before.before.if1.true in
-    let q = eight-put l _ s a.p a.at c.before.before.before.before.eight-at.result
+    let q = eight_put l _ s a.p a.at c.before.before.before.before.eight-at.result
     c.before.before.before.before.eight-at.ensures (eqb-true _ _ c.before.before.before.before.before.if2.true)
     c.before.before.put_byte.ensures in
     (search rules, h, put_step l _ s a.p a.at a.n 8 h q)
@@ -43,7 +43,7 @@ returns-2 c =
     let l = bits_of a.cells.now in
     let s = bits_of a.source.now in
     let b = c.before.before.before.before.cell in
-    let q = one-put l _ s a.p a.at b.result b.ensures (rw b.ensures (bit-small a.source.now a.p))
+    let q = one_put l _ s a.p a.at b.result b.ensures (rw b.ensures (bit_small a.source.now a.p))
     c.before.before.put-cell.ensures in
     (search rules, search rules, put_step l _ s a.p a.at a.n 1 (search rules) q)
 

@@ -1,7 +1,7 @@
 -- Whole bytes cleared. The invariant: clearing all k bytes of the old list is clearing those left, in the list as it is now, as bits.
 -- Those bytes are the measure.
-use Rattle.cells.proofs.Parts.{zero-start, zero-done}
-use Rattle.cells.proofs.Runs.{zero-byte}
+use Rattle.cells.proofs.Parts.{zero_start, zero_done}
+use Rattle.cells.proofs.Runs.{zero_byte}
 use Rattle.scope.specs.Numbers.{zeros}
 use Rattle.report.specs.Bits.{bits_of}
 use lib.ListN.{length, length-set}
@@ -24,7 +24,7 @@ decreases-loop cells₀ b k done₀ cells done = k - done
 loop-holds : tie.Need-loop-init invariant-loop decreases-loop
 loop-holds c =
     let a = c.args in
-    (zero-start (bits_of a.cells.now) (8 * a.b) (8 * a.k), omega arith, refl)
+    (zero_start (bits_of a.cells.now) (8 * a.b) (8 * a.k), omega arith, refl)
 
 add-cells : tie.Need-overflow-add-cells invariant-loop decreases-loop
 add-cells c = search rules
@@ -42,7 +42,7 @@ loop-again : tie.Need-loop-preserved invariant-loop decreases-loop
 loop-again c =
     let a = c.before.before.args in
     let l = c.before.loop in (
-      l.invariant.0 ∙ zero-byte l.cells a.b a.k l.done 0 (omega arith) (omega arith) refl,
+      l.invariant.0 ∙ zero_byte l.cells a.b a.k l.done 0 (omega arith) (omega arith) refl,
       omega arith,
       simp length-set l.invariant.2,
     )
@@ -54,7 +54,7 @@ returns : tie.Need-returns invariant-loop decreases-loop
 returns c =
     let a = c.before.before.args in
     let l = c.before.loop in
-    sym (l.invariant.0 ∙ zero-done (bits_of l.cells) (8 * a.b + 8 * l.done) (8 * a.k) (8 * l.done) (omega arith))
+    sym (l.invariant.0 ∙ zero_done (bits_of l.cells) (8 * a.b + 8 * l.done) (8 * a.k) (8 * l.done) (omega arith))
 
 pub zero-bytes-spec : {M : Type 1} → statement M
 zero-bytes-spec =

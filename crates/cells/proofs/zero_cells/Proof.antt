@@ -1,6 +1,6 @@
 -- A run of cells cleared. The invariant: clearing the cells that the whole bytes left is clearing those left, in the list as it is now.
 -- Those cells are the measure.
-use Rattle.cells.proofs.Parts.{zero_turn, zero-done}
+use Rattle.cells.proofs.Parts.{zero_turn, zero_done}
 use Rattle.scope.specs.Numbers.{zeros}
 use lib.Seq.{sets}
 use Rattle.report.specs.Bits.{bits_of}
@@ -63,7 +63,7 @@ returns c =
     let l = c.before.loop in
     let a = c.before.before.before.before.before.before.before.args in
     sym (c.before.before.before.before.zero-front.ensures.1 ∙ l.invariant.0
-    ∙ zero-done (bits_of l.cells) (a.at + l.done) a.n l.done c.loop-test.false)
+    ∙ zero_done (bits_of l.cells) (a.at + l.done) a.n l.done c.loop-test.false)
 
 pub zero-cells-spec : {M : Type 1} → statement M
 zero-cells-spec =

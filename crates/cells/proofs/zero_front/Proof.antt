@@ -1,7 +1,7 @@
 -- Whole bytes cleared, and the cells before them. The invariant: clearing all n cells of the old list is clearing those left, in the list
 -- as it is now, and the cells cleared do not pass the next byte. The cells left are the measure.
-use Rattle.cells.proofs.Parts.{zero-start, zero_turn, zero-step}
-use Rattle.cells.proofs.Runs.{whole-cleared}
+use Rattle.cells.proofs.Parts.{zero_start, zero_turn, zero_step}
+use Rattle.cells.proofs.Runs.{whole_cleared}
 use Rattle.scope.specs.Numbers.{zeros}
 use lib.Seq.{sets}
 use Rattle.report.specs.Bits.{bits_of}
@@ -25,10 +25,10 @@ add-if2 : tie.Need-overflow-add-if2 invariant-loop decreases-loop
 add-if2 c = search rules
 
 returns : tie.Need-returns invariant-loop decreases-loop
-returns c = let a = c.before.before.args in (search rules, zero-start (bits_of a.cells.now) a.at a.n)
+returns c = let a = c.before.before.args in (search rules, zero_start (bits_of a.cells.now) a.at a.n)
 
 loop-holds : tie.Need-loop-init invariant-loop decreases-loop
-loop-holds c = let a = c.before.before.before.args in (zero-start (bits_of a.cells.now) a.at a.n, omega arith, refl)
+loop-holds c = let a = c.before.before.before.args in (zero_start (bits_of a.cells.now) a.at a.n, omega arith, refl)
 
 add-loop : tie.Need-overflow-add-loop invariant-loop decreases-loop
 add-loop c = search rules
@@ -50,7 +50,7 @@ loop-again c =
     let a = c.before.before.before.before.before.before.before.before.before.args in
     let l = c.before.before.before.before.before.loop in
     let m = bits_of l.cells in (
-      l.invariant.0 ∙ zero_turn m _ a.at a.n l.i 1 (zero-step m _ (a.at + l.i) (a.n - l.i) 1 (omega arith) c.before.before.put-cell.ensures),
+      l.invariant.0 ∙ zero_turn m _ a.at a.n l.i 1 (zero_step m _ (a.at + l.i) (a.n - l.i) 1 (omega arith) c.before.before.put-cell.ensures),
       omega arith,
       search rules,
     )
@@ -85,7 +85,7 @@ returns-2 c =
     let l = c.before.before.before.before.before.loop in
     let m = bits_of l.cells in
     let k = (a.n - l.i) / 8 in
-    let q = whole-cleared m _ (a.at + l.i) (a.n - l.i) (omega arith) c.before.before.zero-bytes.ensures in
+    let q = whole_cleared m _ (a.at + l.i) (a.n - l.i) (omega arith) c.before.before.zero-bytes.ensures in
     (omega arith, l.invariant.0 ∙ zero_turn m _ a.at a.n l.i (8 * k) q)
 
 pub zero-front-spec : {M : Type 1} → statement M

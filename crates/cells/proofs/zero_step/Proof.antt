@@ -1,5 +1,5 @@
 -- A step of clearing: what is cleared is the first cell, or the first eight; the others are left to clear.
-use Rattle.cells.proofs.Parts.{eight-zeros, zero-step}
+use Rattle.cells.proofs.Parts.{eight_zeros, zero_step}
 use Rattle.report.specs.Bits.{bits_of}
 use Prim.Native.Nat.{◌≤◌}
 use borrow.Author.Tests.{eqb-true}
@@ -20,8 +20,8 @@ returns c =
     let h : 8 ≤ a.n = c.before.before.before.before.before.if1.true in (
       search rules,
       h,
-      zero-step l _ a.at a.n 8 h
-          (eight-zeros l _ a.at (eqb-true _ _ c.before.before.before.before.if2.true) c.before.before.put_byte.ensures),
+      zero_step l _ a.at a.n 8 h
+          (eight_zeros l _ a.at (eqb-true _ _ c.before.before.before.before.if2.true) c.before.before.put_byte.ensures),
     )
 
 put-cell-requires : tie.Need-put-cell-requires
@@ -34,7 +34,7 @@ returns-2 : tie.Need-returns-2
 returns-2 c =
     let a = c.before.before.before.before.before.before.args in
     let l = bits_of a.cells.now in
-    (search rules, search rules, zero-step l _ a.at a.n 1 (search rules) c.before.before.put-cell.ensures)
+    (search rules, search rules, zero_step l _ a.at a.n 1 (search rules) c.before.before.put-cell.ensures)
 
 pub zero-step-spec : {M : Type 1} → statement M
 zero-step-spec =

@@ -5,12 +5,12 @@ use Prim.Native.Nat.{ℕ, ◌-◌, ◌≤◌}
 use native.Mathlib.Omega.{arith}
 use lib.ListN.{length, set, length-set}
 use borrow.Author.Rules.{rules}
-use Rattle.common.specs.Stores.{clearedTo, clear_none, clear-more, clear-all}
+use Rattle.common.specs.Stores.{cleared_to, clear_none, clear_more, clear_all}
 use Rattle.common.proofs.clear_bytes.Statement.{statement}
 use Rattle.common.proofs.clear_bytes.Tie as tie
 
 abbrev invariant-loop : tie.invariant-loop
-invariant-loop store₀ from j₀ store j = (store ≡ clearedTo store₀ from j) × (from ≤ j) × (length store ≡ length store₀)
+invariant-loop store₀ from j₀ store j = (store ≡ cleared_to store₀ from j) × (from ≤ j) × (length store ≡ length store₀)
 
 abbrev decreases-loop : tie.decreases-loop
 decreases-loop store₀ from j₀ store j = length store₀ - j
@@ -33,7 +33,7 @@ loop-again c =
     let l = c.before.loop in
     let s = start.args.store.now in
     let j = l.j in
-    (ap (λ (x : List ℕ). set x j 0) l.invariant.0 ∙ clear-more s start.args.from j l.invariant.1 (omega arith), omega arith, simp length-set l.invariant.2)
+    (ap (λ (x : List ℕ). set x j 0) l.invariant.0 ∙ clear_more s start.args.from j l.invariant.1 (omega arith), omega arith, simp length-set l.invariant.2)
 
 same_length : tie.Need-same-length invariant-loop decreases-loop
 same_length c = search rules
@@ -43,7 +43,7 @@ returns c =
     let start = c.before.before in
     let l = c.before.loop in
     let s = start.args.store.now in
-    l.invariant.0 ∙ clear-all s start.args.from l.j l.invariant.1 (omega arith)
+    l.invariant.0 ∙ clear_all s start.args.from l.j l.invariant.1 (omega arith)
 
 pub clear-bytes-spec : {M : Type 1} → statement M
 clear-bytes-spec =

@@ -1,12 +1,12 @@
 -- `common::half_at` meets its contract.
 use mathlib.Core.Path.{sym}
 use borrow.Author.Rules.{rules}
-use Rattle.common.specs.Numbers.{half-past}
+use Rattle.common.specs.Numbers.{half_past}
 use Rattle.common.proofs.half_at.Statement.{statement}
 use Rattle.common.proofs.half_at.Tie as tie
 
 returns : tie.Need-returns
-returns c = sym (half-past c.before.before.args.bytes.now _ c.if1.true)
+returns c = sym (half_past c.before.before.args.bytes.now _ c.if1.true)
 
 byte-at-requires : tie.Need-byte-at-requires
 byte-at-requires c κs = search rules

@@ -1,6 +1,6 @@
 -- `common::part` meets its contract: the part stands where its place is cut off at the end.
 use borrow.Author.Rules.{rules}
-use Rattle.promise.specs.Parts.{part_of, cut-past, cut-rest, cut-within}
+use Rattle.promise.specs.Parts.{part_of, cut_past, cut_rest, cut_within}
 use Rattle.common.proofs.part.Statement.{statement}
 use Rattle.common.proofs.part.Tie as tie
 
@@ -16,7 +16,7 @@ part-result-end c = search rules
 returns : tie.Need-returns
 returns c =
     let g = c.before.before.args in
-    cut-past (part_of g.bytes) g.at g.n c.before.if1.true
+    cut_past (part_of g.bytes) g.at g.n c.before.if1.true
 
 sub-result-2 : tie.Need-overflow-sub-result-2
 sub-result-2 c = search rules
@@ -28,7 +28,7 @@ part-result-end-2 : tie.Need-slice-bounds-result-end-2
 part-result-end-2 c = search rules
 
 returns-2 : tie.Need-returns-2
-returns-2 c = cut-rest _ _ _ (search rules) c.before.if2.true
+returns-2 c = cut_rest _ _ _ (search rules) c.before.if2.true
 
 add-result : tie.Need-overflow-add-result
 add-result c = search rules
@@ -43,7 +43,7 @@ part-result-end-3 : tie.Need-slice-bounds-result-end-3
 part-result-end-3 c = search rules
 
 returns-3 : tie.Need-returns-3
-returns-3 c = cut-within _ _ _ (search rules)
+returns-3 c = cut_within _ _ _ (search rules)
 
 pub part-spec : {M : Type 1} → statement M
 part-spec =

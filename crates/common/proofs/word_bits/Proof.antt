@@ -2,7 +2,7 @@
 use mathlib.Core.Path.{sym}
 use lib.Dec.{lit<}
 use borrow.Author.Rules.{rules}
-use Rattle.common.specs.Words.{word_none, word_over, word-exact, word_small}
+use Rattle.common.specs.Words.{word_none, word_over, word_exact, word_small}
 use Rattle.common.proofs.word_bits.Statement.{statement}
 use Rattle.common.proofs.word_bits.Tie as tie
 
@@ -19,7 +19,7 @@ shl-result : tie.Need-overflow-shl-result
 shl-result c = search rules
 
 returns-3 : tie.Need-returns-3
-returns-3 c = (word-exact _ c.before.if1.false c.if2.false, word_small _ c.before.if1.false c.if2.false)
+returns-3 c = (word_exact _ c.before.if1.false c.if2.false, word_small _ c.before.if1.false c.if2.false)
 
 pub word-bits-spec : {M : Type 1} → statement M
 word-bits-spec = tie.close (tie.spec returns returns-2 cast-result shl-result returns-3)

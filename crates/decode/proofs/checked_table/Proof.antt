@@ -5,8 +5,8 @@ use native.Mathlib.Omega.{arith}
 use lib.ListN.{length}
 use lib.Seq.{length-take-le}
 use borrow.Author.Rules.{rules}
-use Rattle.limits.specs.Limits.{nodeNumbers}
-use Rattle.decode.proofs.Tables.{stopped-means, decode-stops, told-read, fronts-mean}
+use Rattle.limits.specs.Limits.{node_numbers}
+use Rattle.decode.proofs.Tables.{stopped_means, decode_stops, told_read, fronts_mean}
 use Rattle.decode.proofs.checked_table.Statement.{statement}
 use Rattle.decode.proofs.checked_table.Tie as tie
 
@@ -31,8 +31,8 @@ same-length-2 c = search rules
 returns : tie.Need-returns
 returns c =
     let told = c.before.enum_told.given.1 in
-    stopped-means _ _ _ _ _ _ c.stopped.ensures told
-    (decode-stops _ _ _ _ (told-read _ _ _ _ _ told c.before.before.before.before.before.before.before.read_table.ensures))
+    stopped_means _ _ _ _ _ _ c.stopped.ensures told
+    (decode_stops _ _ _ _ (told_read _ _ _ _ _ told c.before.before.before.before.before.before.before.read_table.ensures))
 
 place-requires : tie.Need-place-requires
 place-requires c κs = search rules
@@ -47,7 +47,7 @@ slice-reshare-prefix-judged c =
     let nodes = read_table.new.1.0 in
     let hashes = read_table.new.1.1.0 in
     let done = read.given.0.0 in
-    let m = told-read _ _ _ nodes hashes read.given.1 read_table.ensures in
+    let m = told_read _ _ _ nodes hashes read.given.1 read_table.ensures in
     omega (arith, m.3, c.place.ensures.0)
 
 slice-aggregate-judged : tie.Need-slice-aggregate-judged
@@ -58,8 +58,8 @@ slice-aggregate-judged c =
     let nodes = read_table.new.1.0 in
     let hashes = read_table.new.1.1.0 in
     let done = read.given.0.0 in
-    let m = told-read _ _ _ nodes hashes read.given.1 read_table.ensures in
-    sym (length-take-le (nodeNumbers * place.result) nodes (omega (arith, m.3, place.ensures.0)))
+    let m = told_read _ _ _ nodes hashes read.given.1 read_table.ensures in
+    sym (length-take-le (node_numbers * place.result) nodes (omega (arith, m.3, place.ensures.0)))
 
 place-requires-2 : tie.Need-place-requires-2
 place-requires-2 c κs = search rules
@@ -71,7 +71,7 @@ slice-reshare-prefix-judged-2 c =
     let nodes = read_table.new.1.0 in
     let hashes = read_table.new.1.1.0 in
     let done = read.given.0.0 in
-    let m = told-read _ _ _ nodes hashes read.given.1 read_table.ensures in
+    let m = told_read _ _ _ nodes hashes read.given.1 read_table.ensures in
     let h : c.place2.result ≤ length hashes = omega (arith, m.4, c.place2.ensures.0) in
     h
 
@@ -83,7 +83,7 @@ slice-aggregate-judged-2 c =
     let nodes = read_table.new.1.0 in
     let hashes = read_table.new.1.1.0 in
     let done = read.given.0.0 in
-    let m = told-read _ _ _ nodes hashes read.given.1 read_table.ensures in
+    let m = told_read _ _ _ nodes hashes read.given.1 read_table.ensures in
     sym (length-take-le place2.result hashes (omega (arith, m.4, place2.ensures.0)))
 
 judged-requires : tie.Need-judged-requires
@@ -94,9 +94,9 @@ judged-requires c κs =
     let nodes = read_table.new.1.0 in
     let hashes = read_table.new.1.1.0 in
     let done = read.given.0.0 in
-    let m = told-read _ _ _ nodes hashes read.given.1 read_table.ensures in (
-      length-take-le (nodeNumbers * place.result) nodes (omega (arith, m.3, place.ensures.0))
-          ∙ ap (λ (w : ℕ). nodeNumbers * w) place.ensures.0,
+    let m = told_read _ _ _ nodes hashes read.given.1 read_table.ensures in (
+      length-take-le (node_numbers * place.result) nodes (omega (arith, m.3, place.ensures.0))
+          ∙ ap (λ (w : ℕ). node_numbers * w) place.ensures.0,
       m.1,
       m.2,
     )
@@ -116,8 +116,8 @@ returns-2 c =
     let nodes = read_table.new.1.0 in
     let hashes = read_table.new.1.1.0 in
     let done = read.given.0.0 in
-    let m = told-read _ _ _ nodes hashes read.given.1 read_table.ensures in
-    fronts-mean _ _ _ nodes hashes done c.judged.result m place.result place2.result place.ensures.0 place2.ensures.0 c.judged.ensures
+    let m = told_read _ _ _ nodes hashes read.given.1 read_table.ensures in
+    fronts_mean _ _ _ nodes hashes done c.judged.result m place.result place2.result place.ensures.0 place2.ensures.0 c.judged.ensures
 
 pub checked-table-spec : {M : Type 1} → statement M
 checked-table-spec =

@@ -4,10 +4,10 @@ use Prim.Native.Nat.{◌+◌}
 use native.Mathlib.Omega.{arith}
 use borrow.Author.Rules.{rules}
 use Rattle.scope.specs.Reading.{got, code}
-use Rattle.scope.specs.Numbers.{streamOf}
-use Rattle.bititer.specs.Answers.{gotCode}
-use Rattle.decode.specs.Heads.{atNode, head_of}
-use Rattle.decode.proofs.Heads.{at_ended, one-head, combinator-last, combinator-ended, combinator-two, combinator-one, combinator-third}
+use Rattle.scope.specs.Numbers.{stream_of}
+use Rattle.bititer.specs.Answers.{got_code}
+use Rattle.decode.specs.Heads.{at_node, head_of}
+use Rattle.decode.proofs.Heads.{at_ended, one_head, combinator-last, combinator_ended, combinator_two, combinator_one, combinator-third}
 use Rattle.decode.proofs.combinator.Statement.{statement}
 use Rattle.decode.proofs.combinator.Tie as tie
 
@@ -17,12 +17,12 @@ last-group-requires c κs = search rules
 returns : tie.Need-returns
 returns c =
     let start = c.before.before.before in
-    let bits = streamOf start.args.program.now in
+    let bits = stream_of start.args.program.now in
     let i = start.args.i in
     let at = start.args.at in
     let held = start.args.held in
     let two = start.args.code in
-    c.last-group.ensures ∙ ap (atNode i) (sym (combinator-last bits i at held two c.before.if1.true))
+    c.last-group.ensures ∙ ap (at_node i) (sym (combinator-last bits i at held two c.before.if1.true))
 
 two-bits-requires : tie.Need-two-bits-requires
 two-bits-requires c κs = search rules
@@ -36,14 +36,14 @@ enum_told c = search rules
 returns-2 : tie.Need-returns-2
 returns-2 c =
     let start = c.before.before.before.before.before in
-    let bits = streamOf start.args.program.now in
+    let bits = stream_of start.args.program.now in
     let i = start.args.i in
     let at = start.args.at in
     let held = start.args.held in
     let two = start.args.code in
     at_ended i _
-    (combinator-ended bits i at held two c.before.before.before.if1.false
-    (sym c.before.before.two-bits.ensures ∙ ap gotCode c.enum_told.given.1))
+    (combinator_ended bits i at held two c.before.before.before.if1.false
+    (sym c.before.before.two-bits.ensures ∙ ap got_code c.enum_told.given.1))
 
 cast-two-children : tie.Need-overflow-cast-two-children
 cast-two-children c = search rules
@@ -57,7 +57,7 @@ two-children-requires c κs = search rules
 returns-3 : tie.Need-returns-3
 returns-3 c =
     let start = c.before.before.before.before.before.before.before.before in
-    let bits = streamOf start.args.program.now in
+    let bits = stream_of start.args.program.now in
     let i = start.args.i in
     let at = start.args.at in
     let held = start.args.held in
@@ -65,8 +65,8 @@ returns-3 c =
     let sub = c.before.before.before.sub.given.0.0 in
     let n = c.before.before.before.sub.given.0.1.0 in
     let e : code bits 2 at ≡ got sub n =
-    sym c.before.before.before.before.before.two-bits.ensures ∙ ap gotCode c.before.before.before.sub.given.1 in
-    c.two-children.ensures ∙ ap (atNode i) (sym (combinator-two bits i at held two sub n c.before.if2.true e))
+    sym c.before.before.before.before.before.two-bits.ensures ∙ ap got_code c.before.before.before.sub.given.1 in
+    c.two-children.ensures ∙ ap (at_node i) (sym (combinator_two bits i at held two sub n c.before.if2.true e))
 
 cast-one-number : tie.Need-overflow-cast-one-number
 cast-one-number c = search rules
@@ -84,7 +84,7 @@ returns-4 : tie.Need-returns-4
 returns-4 c =
     let start = c.before.before.before.before.before.before.before.before.before.before in
     let child = c.before.child in
-    let bits = streamOf start.args.program.now in
+    let bits = stream_of start.args.program.now in
     let i = start.args.i in
     let at = start.args.at in
     let held = start.args.held in
@@ -92,9 +92,9 @@ returns-4 c =
     let sub = c.before.before.before.before.before.sub.given.0.0 in
     let n = c.before.before.before.before.before.sub.given.0.1.0 in
     let e : code bits 2 at ≡ got sub n = sym c.before.before.before.before.before.before.before.two-bits.ensures
-    ∙ ap gotCode c.before.before.before.before.before.sub.given.1 in
-    ap (head_of bits i) c.one_number.ensures ∙ one-head bits i n (4 + sub) child.result child.ensures
-    ∙ ap (atNode i) (sym (combinator-one bits i at held two sub n c.before.before.if3.true e))
+    ∙ ap got_code c.before.before.before.before.before.sub.given.1 in
+    ap (head_of bits i) c.one_number.ensures ∙ one_head bits i n (4 + sub) child.result child.ensures
+    ∙ ap (at_node i) (sym (combinator_one bits i at held two sub n c.before.before.if3.true e))
 
 third-group-requires : tie.Need-third-group-requires
 third-group-requires c κs = search rules
@@ -102,7 +102,7 @@ third-group-requires c κs = search rules
 returns-5 : tie.Need-returns-5
 returns-5 c =
     let start = c.before.before.before.before.before.before.before.before.before in
-    let bits = streamOf start.args.program.now in
+    let bits = stream_of start.args.program.now in
     let i = start.args.i in
     let at = start.args.at in
     let held = start.args.held in
@@ -110,9 +110,9 @@ returns-5 c =
     let sub = c.before.before.before.before.sub.given.0.0 in
     let n = c.before.before.before.before.sub.given.0.1.0 in
     let e : code bits 2 at ≡ got sub n = sym c.before.before.before.before.before.before.two-bits.ensures
-    ∙ ap gotCode c.before.before.before.before.sub.given.1 in
+    ∙ ap got_code c.before.before.before.before.sub.given.1 in
     let q : two ≡ 2 = omega arith in
-    c.third_group.ensures ∙ ap (atNode i) (sym (combinator-third bits i at held two sub n q e))
+    c.third_group.ensures ∙ ap (at_node i) (sym (combinator-third bits i at held two sub n q e))
 
 pub combinator-spec : {M : Type 1} → statement M
 combinator-spec =

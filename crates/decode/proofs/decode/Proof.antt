@@ -1,6 +1,6 @@
 -- `decode::decode` meets its contract: the stores are cleared behind what the answer keeps.
 use borrow.Author.Rules.{rules}
-use Rattle.decode.proofs.Tables.{clearing-leaves}
+use Rattle.decode.proofs.Tables.{clearing_leaves}
 use Rattle.decode.proofs.decode.Statement.{statement}
 use Rattle.decode.proofs.decode.Tie as tie
 
@@ -38,7 +38,7 @@ returns c =
     let sizes-of = c.before.before.before.before.before.before.before.before.before.before.sizes-of in
     let checked-table =
     c.before.before.before.before.before.before.before.before.before.before.before.before.before.before.before.checked-table in
-    clearing-leaves _ checked-table.result checked-table.last.1.0 checked-table.last.1.1.0 _ _
+    clearing_leaves _ checked-table.result checked-table.last.1.0 checked-table.last.1.1.0 _ _
     checked-table.ensures checked-table.kept.1.0 checked-table.kept.1.1.0 sizes-of.result sizes-of.ensures
     place.result place2.result place.ensures.0 place2.ensures.0 _ _
     c.before.before.before.before.before.before.before.clear-numbers.ensures c.before.before.clear-bytes.ensures

@@ -2,10 +2,10 @@
 use mathlib.Core.Path.{◌≡◌, sym, ap, ◌∙◌}
 use borrow.Author.Rules.{rules}
 use Rattle.scope.specs.Reading.{got, code}
-use Rattle.scope.specs.Numbers.{streamOf}
-use Rattle.bititer.specs.Answers.{gotCode}
-use Rattle.decode.specs.Heads.{atNode}
-use Rattle.decode.proofs.Heads.{at_ended, node-ended, code-ended, code_read, jet-ended, jet-read, no-jet}
+use Rattle.scope.specs.Numbers.{stream_of}
+use Rattle.bititer.specs.Answers.{got_code}
+use Rattle.decode.specs.Heads.{at_node}
+use Rattle.decode.proofs.Heads.{at_ended, node_ended, code_ended, code_read, jet_ended, jet_read, no_jet}
 use Rattle.decode.proofs.head_by_bits.Statement.{statement}
 use Rattle.decode.proofs.head_by_bits.Tie as tie
 
@@ -21,11 +21,11 @@ enum_told c = search rules
 returns : tie.Need-returns
 returns c =
     let start = c.before.before.before.before in
-    let bits = streamOf start.args.program.now in
+    let bits = stream_of start.args.program.now in
     let i = start.args.i in
     let at = start.args.at in
     let held = start.args.held in
-    at_ended i _ (node-ended bits i at held (sym c.before.before.bit.ensures ∙ ap gotCode c.enum_told.given.1))
+    at_ended i _ (node_ended bits i at held (sym c.before.before.bit.ensures ∙ ap got_code c.enum_told.given.1))
 
 two-bits-requires : tie.Need-two-bits-requires
 two-bits-requires c κs = search rules
@@ -40,16 +40,16 @@ returns-2 : tie.Need-returns-2
 returns-2 c =
     let start = c.before.before.before.before.before.before.before.before.before in
     let other = c.before.before.before.before.before.other in
-    let bits = streamOf start.args.program.now in
+    let bits = stream_of start.args.program.now in
     let i = start.args.i in
     let at = start.args.at in
     let held = start.args.held in
     let b = other.given.0.0 in
     let n = other.given.0.1.0 in
-    let e : code bits 1 at ≡ got b n = sym c.before.before.before.before.before.before.before.bit.ensures ∙ ap gotCode other.given.1 in
+    let e : code bits 1 at ≡ got b n = sym c.before.before.before.before.before.before.before.bit.ensures ∙ ap got_code other.given.1 in
     at_ended i _
-    (code-ended bits i at held b n e c.before.before.before.if1.true
-    (sym c.before.before.two-bits.ensures ∙ ap gotCode c.enum-told2.given.1))
+    (code_ended bits i at held b n e c.before.before.before.if1.true
+    (sym c.before.before.two-bits.ensures ∙ ap got_code c.enum-told2.given.1))
 
 combinator-requires : tie.Need-combinator-requires
 combinator-requires c κs = search rules
@@ -58,17 +58,17 @@ returns-3 : tie.Need-returns-3
 returns-3 c =
     let start = c.before.before.before.before.before.before.before.before.before.before.before in
     let other = c.before.before.before.before.before.before.before.other in
-    let bits = streamOf start.args.program.now in
+    let bits = stream_of start.args.program.now in
     let i = start.args.i in
     let at = start.args.at in
     let held = start.args.held in
     let b = other.given.0.0 in
     let n = other.given.0.1.0 in
     let e : code bits 1 at ≡ got b n =
-    sym c.before.before.before.before.before.before.before.before.before.bit.ensures ∙ ap gotCode other.given.1 in
+    sym c.before.before.before.before.before.before.before.before.before.bit.ensures ∙ ap got_code other.given.1 in
     c.combinator.ensures
-    ∙ ap (atNode i) (sym (code_read bits i at held b n _ _ e c.before.before.before.before.before.if1.true
-    (sym c.before.before.before.before.two-bits.ensures ∙ ap gotCode c.before.before.code.given.1)))
+    ∙ ap (at_node i) (sym (code_read bits i at held b n _ _ e c.before.before.before.before.before.if1.true
+    (sym c.before.before.before.before.two-bits.ensures ∙ ap got_code c.before.before.code.given.1)))
 
 bit-requires-2 : tie.Need-bit-requires-2
 bit-requires-2 c κs = search rules
@@ -83,31 +83,31 @@ returns-4 : tie.Need-returns-4
 returns-4 c =
     let start = c.before.before.before.before.before.before.before.before.before in
     let other = c.before.before.before.before.before.other in
-    let bits = streamOf start.args.program.now in
+    let bits = stream_of start.args.program.now in
     let i = start.args.i in
     let at = start.args.at in
     let held = start.args.held in
     let b = other.given.0.0 in
     let n = other.given.0.1.0 in
-    let e : code bits 1 at ≡ got b n = sym c.before.before.before.before.before.before.before.bit.ensures ∙ ap gotCode other.given.1 in
+    let e : code bits 1 at ≡ got b n = sym c.before.before.before.before.before.before.before.bit.ensures ∙ ap got_code other.given.1 in
     at_ended i _
-    (jet-ended bits i at held b n e c.before.before.before.if1.false
-    (sym c.before.before.bit2.ensures ∙ ap gotCode c.enum-told3.given.1))
+    (jet_ended bits i at held b n e c.before.before.before.if1.false
+    (sym c.before.before.bit2.ensures ∙ ap got_code c.enum-told3.given.1))
 
 returns-5 : tie.Need-returns-5
 returns-5 c =
     let start = c.before.before.before.before.before.before.before.before.before.before.before in
     let other = c.before.before.before.before.before.before.before.other in
-    let bits = streamOf start.args.program.now in
+    let bits = stream_of start.args.program.now in
     let i = start.args.i in
     let at = start.args.at in
     let held = start.args.held in
     let b = other.given.0.0 in
     let n = other.given.0.1.0 in
     let e : code bits 1 at ≡ got b n =
-    sym c.before.before.before.before.before.before.before.before.before.bit.ensures ∙ ap gotCode other.given.1 in
-    jet-read bits i at held b n _ _ e c.before.before.before.before.before.if1.false
-    (sym c.before.before.before.before.bit2.ensures ∙ ap gotCode c.before.before.jet.given.1) c.if2.true
+    sym c.before.before.before.before.before.before.before.before.before.bit.ensures ∙ ap got_code other.given.1 in
+    jet_read bits i at held b n _ _ e c.before.before.before.before.before.if1.false
+    (sym c.before.before.before.before.bit2.ensures ∙ ap got_code c.before.before.jet.given.1) c.if2.true
 
 word-requires : tie.Need-word-requires
 word-requires c κs = search rules
@@ -116,17 +116,17 @@ returns-6 : tie.Need-returns-6
 returns-6 c =
     let start = c.before.before.before.before.before.before.before.before.before.before.before.before in
     let other = c.before.before.before.before.before.before.before.before.other in
-    let bits = streamOf start.args.program.now in
+    let bits = stream_of start.args.program.now in
     let i = start.args.i in
     let at = start.args.at in
     let held = start.args.held in
     let b = other.given.0.0 in
     let n = other.given.0.1.0 in
     let e : code bits 1 at ≡ got b n = sym c.before.before.before.before.before.before.before.before.before.before.bit.ensures
-    ∙ ap gotCode other.given.1 in
+    ∙ ap got_code other.given.1 in
     c.word.ensures
-    ∙ ap (atNode i) (sym (no-jet bits i at held b n _ _ e c.before.before.before.before.before.before.if1.false
-    (sym c.before.before.before.before.before.bit2.ensures ∙ ap gotCode c.before.before.before.jet.given.1) c.before.if2.false))
+    ∙ ap (at_node i) (sym (no_jet bits i at held b n _ _ e c.before.before.before.before.before.before.if1.false
+    (sym c.before.before.before.before.before.bit2.ensures ∙ ap got_code c.before.before.before.jet.given.1) c.before.if2.false))
 
 pub head-by-bits-spec : {M : Type 1} → statement M
 head-by-bits-spec =

@@ -1,7 +1,7 @@
 -- `decode::judged` meets its contract: the walk refuses, or the closing, or the table passes.
 use borrow.Author.Rules.{rules}
 use Rattle.decode.specs.Stores.{table_of}
-use Rattle.decode.proofs.Tables.{settled-means, walk-refuses, closing-refuses, all-passed}
+use Rattle.decode.proofs.Tables.{settled_means, walk_refuses, closing_refuses, all_passed}
 use Rattle.decode.proofs.judged.Statement.{statement}
 use Rattle.decode.proofs.judged.Tie as tie
 
@@ -30,8 +30,8 @@ returns c =
     let hashes = c.before.before.before.before.before.before.before.before.before.args.hashes.now in
     let done = c.before.before.before.before.before.before.before.before.before.args.done in
     let p = c.before.before.before.before.before.before.before.before.before.requires in
-    settled-means program (table_of nodes hashes done) done _ _ _ _ c.settled.ensures c.before.enum-told2.given.1
-    (walk-refuses program nodes hashes done.nodes done.at p.0 p.1 p.2 _ _
+    settled_means program (table_of nodes hashes done) done _ _ _ _ c.settled.ensures c.before.enum-told2.given.1
+    (walk_refuses program nodes hashes done.nodes done.at p.0 p.1 p.2 _ _
     c.before.before.before.before.walk.ensures c.before.enum-told2.given.1)
 
 enum-told-3 : tie.Need-enum-told-3
@@ -50,8 +50,8 @@ returns-2 c =
     let hashes = c.before.before.before.before.before.before.before.before.before.before.before.args.hashes.now in
     let done = c.before.before.before.before.before.before.before.before.before.before.before.args.done in
     let p = c.before.before.before.before.before.before.before.before.before.before.before.requires in
-    settled-means program (table_of nodes hashes done) done _ _ _ _ c.settled2.ensures c.before.enum-told4.given.1
-    (closing-refuses program nodes hashes done.nodes done.at p.0 p.1 p.2 _ _ _
+    settled_means program (table_of nodes hashes done) done _ _ _ _ c.settled2.ensures c.before.enum-told4.given.1
+    (closing_refuses program nodes hashes done.nodes done.at p.0 p.1 p.2 _ _ _
     c.before.before.before.before.before.before.walk.ensures c.before.before.before.enum_told.given.1
     c.before.before.before.before.before.closing.ensures c.before.enum-told4.given.1)
 
@@ -62,7 +62,7 @@ returns-3 c =
     let hashes = c.before.before.before.before.before.before.before.before.before.before.args.hashes.now in
     let done = c.before.before.before.before.before.before.before.before.before.before.args.done in
     let p = c.before.before.before.before.before.before.before.before.before.before.requires in (
-      all-passed program nodes hashes done.nodes done.at p.0 p.1 p.2 _ _
+      all_passed program nodes hashes done.nodes done.at p.0 p.1 p.2 _ _
           c.before.before.before.before.before.walk.ensures c.before.before.enum_told.given.1
           c.before.before.before.before.closing.ensures c.enum-told3.given.1,
       c.before.before.before.before.before.before.sized.ensures,

@@ -1,9 +1,9 @@
 -- `decode::next_node` meets its contract: the bytes and the record stand behind those of the nodes before.
 use native.Mathlib.Omega.{arith}
 use borrow.Author.Rules.{rules}
-use Rattle.scope.specs.Numbers.{streamOf}
-use Rattle.decode.proofs.Tables.{step-refused, step-read}
-use Rattle.decode.proofs.Nodes.{size-most, told-node}
+use Rattle.scope.specs.Numbers.{stream_of}
+use Rattle.decode.proofs.Tables.{step_refused, step_read}
+use Rattle.decode.proofs.Nodes.{size_most, told_node}
 use Rattle.decode.proofs.next_node.Statement.{statement}
 use Rattle.decode.proofs.next_node.Tie as tie
 
@@ -29,7 +29,7 @@ add-t21 c =
       fits = omega (
         arith,
         c.before.bytes_of.ensures,
-        size-most c.before.before.before.before.before.before.before.before.read.given.0.0.follows,
+        size_most c.before.before.before.before.before.before.before.before.read.given.0.0.follows,
         start.requires.1.few,
         start.requires.1.most,
       );
@@ -49,15 +49,15 @@ returns c =
     let start = c.before.before.before.before.before.before.before.before.before.before.before.before.before.before.before.before.before in
     let bytes_of = c.before.bytes_of in
     let read = c.before.before.before.before.before.before.before.before.read in
-    let bits = streamOf start.args.program.now in
+    let bits = stream_of start.args.program.now in
     let nodes = start.args.nodes.now in
     let hashes = start.args.hashes.now in
     let done = start.args.done in
-    let m = told-node bits done.nodes done.hashes done.at hashes _ _ _ read.given.1
+    let m = told_node bits done.nodes done.hashes done.at hashes _ _ _ read.given.1
     c.before.before.before.before.before.before.before.before.before.before.before.before.read-node.ensures in
-    step-read bits nodes hashes done start.requires.1 read.given.0.0 read.given.0.1.0 _ _ m
+    step_read bits nodes hashes done start.requires.1 read.given.0.0 read.given.0.1.0 _ _ m
     c.before.before.before.before.put_record.ensures bytes_of.result bytes_of.ensures
-    (omega (arith, bytes_of.ensures, size-most read.given.0.0.follows))
+    (omega (arith, bytes_of.ensures, size_most read.given.0.0.follows))
 
 same-length-3 : tie.Need-same-length-3
 same-length-3 c = search rules
@@ -65,12 +65,12 @@ same-length-3 c = search rules
 returns-2 : tie.Need-returns-2
 returns-2 c =
     let start = c.before.before.before.before.before.before.before.before.before.before in
-    let bits = streamOf start.args.program.now in
+    let bits = stream_of start.args.program.now in
     let nodes = start.args.nodes.now in
     let hashes = start.args.hashes.now in
     let done = start.args.done in
-    step-refused bits nodes hashes done start.requires.1 _
-    (told-node bits done.nodes done.hashes done.at hashes _ _ _ c.before.read2.given.1
+    step_refused bits nodes hashes done start.requires.1 _
+    (told_node bits done.nodes done.hashes done.at hashes _ _ _ c.before.read2.given.1
     c.before.before.before.before.before.read-node.ensures)
 
 pub next-node-spec : {M : Type 1} → statement M

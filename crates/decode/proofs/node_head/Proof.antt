@@ -3,14 +3,14 @@ use mathlib.Core.Path.{◌≡◌, sym, ap, ◌∙◌}
 use Prim.Native.Nat.{◌+◌, ◌/◌}
 use native.Mathlib.Omega.{arith}
 use borrow.Author.Rules.{rules}
-use Rattle.scope.specs.Numbers.{streamOf}
+use Rattle.scope.specs.Numbers.{stream_of}
 use Rattle.scope.specs.Reading.{got, code}
-use Rattle.bititer.specs.Windows.{windowBits, gotWindow}
-use Rattle.bititer.proofs.Streams.{length-stream, code_got}
+use Rattle.bititer.specs.Windows.{window_bits, got_window}
+use Rattle.bititer.proofs.Streams.{length_stream, code_got}
 use Rattle.decode.specs.declared.HeadRead.{HeadRead}
 use Rattle.decode.specs.declared.NodeHead.{NodeHead}
-use Rattle.decode.specs.Heads.{atNode, head_of}
-use Rattle.decode.proofs.Heads.{one-head, kind-two, kind-one, kind-none}
+use Rattle.decode.specs.Heads.{at_node, head_of}
+use Rattle.decode.proofs.Heads.{one_head, kind_two, kind_one, kind_none}
 use Rattle.decode.proofs.node_head.Statement.{statement}
 use Rattle.decode.proofs.node_head.Tie as tie
 
@@ -33,9 +33,9 @@ add-two-children : tie.Need-overflow-add-two-children
 add-two-children c =
     let a = c.before.before.before.before.before.before.args in
     let w = c.before.before.w.given.0.0 in
-    let read : code (streamOf a.program.now) windowBits a.at ≡ got w (a.at + windowBits) =
-    sym c.before.before.before.before.window.ensures ∙ ap (gotWindow a.at) c.before.before.w.given.1 in
-    omega (arith, code_got (streamOf a.program.now) windowBits a.at w _ read, length-stream a.program.now)
+    let read : code (stream_of a.program.now) window_bits a.at ≡ got w (a.at + window_bits) =
+    sym c.before.before.before.before.window.ensures ∙ ap (got_window a.at) c.before.before.w.given.1 in
+    omega (arith, code_got (stream_of a.program.now) window_bits a.at w _ read, length_stream a.program.now)
 
 two-children-requires : tie.Need-two-children-requires
 two-children-requires c κs = search rules
@@ -44,17 +44,17 @@ returns-2 : tie.Need-returns-2
 returns-2 c =
     let a = c.before.before.before.before.before.before.before.args in
     let w = c.before.before.before.w.given.0.0 in
-    let read : code (streamOf a.program.now) windowBits a.at ≡ got w (a.at + windowBits) =
-    sym c.before.before.before.before.before.window.ensures ∙ ap (gotWindow a.at) c.before.before.before.w.given.1 in
-    c.two-children.ensures ∙ ap (atNode a.i) (sym (kind-two a.program.now a.i a.at a.held w read (omega arith) (omega arith)))
+    let read : code (stream_of a.program.now) window_bits a.at ≡ got w (a.at + window_bits) =
+    sym c.before.before.before.before.before.window.ensures ∙ ap (got_window a.at) c.before.before.before.w.given.1 in
+    c.two-children.ensures ∙ ap (at_node a.i) (sym (kind_two a.program.now a.i a.at a.held w read (omega arith) (omega arith)))
 
 add-child : tie.Need-overflow-add-child
 add-child c =
     let a = c.before.before.before.before.before.before.before.args in
     let w = c.before.before.before.w.given.0.0 in
-    let read : code (streamOf a.program.now) windowBits a.at ≡ got w (a.at + windowBits) =
-    sym c.before.before.before.before.before.window.ensures ∙ ap (gotWindow a.at) c.before.before.before.w.given.1 in
-    omega (arith, code_got (streamOf a.program.now) windowBits a.at w _ read, length-stream a.program.now)
+    let read : code (stream_of a.program.now) window_bits a.at ≡ got w (a.at + window_bits) =
+    sym c.before.before.before.before.before.window.ensures ∙ ap (got_window a.at) c.before.before.before.w.given.1 in
+    omega (arith, code_got (stream_of a.program.now) window_bits a.at w _ read, length_stream a.program.now)
 
 child-requires : tie.Need-child-requires
 child-requires c κs = search rules
@@ -66,12 +66,12 @@ returns-3 : tie.Need-returns-3
 returns-3 c =
     let a = c.before.before.before.before.before.before.before.before.before.args in
     let w = c.before.before.before.before.before.w.given.0.0 in
-    let read : code (streamOf a.program.now) windowBits a.at ≡ got w (a.at + windowBits) =
+    let read : code (stream_of a.program.now) window_bits a.at ≡ got w (a.at + window_bits) =
     sym c.before.before.before.before.before.before.before.window.ensures
-    ∙ ap (gotWindow a.at) c.before.before.before.before.before.w.given.1 in
-    ap (head_of (streamOf a.program.now) a.i) c.one_number.ensures
-    ∙ one-head (streamOf a.program.now) a.i (a.at + 5) (w / 1048576) c.before.child.result c.before.child.ensures
-    ∙ ap (atNode a.i) (sym (kind-one a.program.now a.i a.at a.held w read (omega arith) (omega arith) (omega arith)))
+    ∙ ap (got_window a.at) c.before.before.before.before.before.w.given.1 in
+    ap (head_of (stream_of a.program.now) a.i) c.one_number.ensures
+    ∙ one_head (stream_of a.program.now) a.i (a.at + 5) (w / 1048576) c.before.child.result c.before.child.ensures
+    ∙ ap (at_node a.i) (sym (kind_one a.program.now a.i a.at a.held w read (omega arith) (omega arith) (omega arith)))
 
 head-requires : tie.Need-head-requires
 head-requires c κs = search rules
@@ -80,20 +80,20 @@ add-t15 : tie.Need-overflow-add-t15
 add-t15 c =
     let a = c.before.before.before.before.before.before.before.before.before.args in
     let w = c.before.before.before.before.before.w.given.0.0 in
-    let read : code (streamOf a.program.now) windowBits a.at ≡ got w (a.at + windowBits) =
+    let read : code (stream_of a.program.now) window_bits a.at ≡ got w (a.at + window_bits) =
     sym c.before.before.before.before.before.before.before.window.ensures
-    ∙ ap (gotWindow a.at) c.before.before.before.before.before.w.given.1 in
-    omega (arith, code_got (streamOf a.program.now) windowBits a.at w _ read, length-stream a.program.now)
+    ∙ ap (got_window a.at) c.before.before.before.before.before.w.given.1 in
+    omega (arith, code_got (stream_of a.program.now) window_bits a.at w _ read, length_stream a.program.now)
 
 returns-4 : tie.Need-returns-4
 returns-4 c =
     let a = c.before.before.before.before.before.before.before.before.before.args in
     let w = c.before.before.before.before.before.w.given.0.0 in
-    let read : code (streamOf a.program.now) windowBits a.at ≡ got w (a.at + windowBits) =
+    let read : code (stream_of a.program.now) window_bits a.at ≡ got w (a.at + window_bits) =
     sym c.before.before.before.before.before.before.before.window.ensures
-    ∙ ap (gotWindow a.at) c.before.before.before.before.before.w.given.1 in
-    ap (λ (h : NodeHead). head_of (streamOf a.program.now) a.i (HeadRead.Read h (a.at + 5))) c.head.ensures
-    ∙ ap (atNode a.i) (kind-none a.program.now a.i a.at a.held w read (omega arith) (omega arith) (omega arith))
+    ∙ ap (got_window a.at) c.before.before.before.before.before.w.given.1 in
+    ap (λ (h : NodeHead). head_of (stream_of a.program.now) a.i (HeadRead.Read h (a.at + 5))) c.head.ensures
+    ∙ ap (at_node a.i) (kind_none a.program.now a.i a.at a.held w read (omega arith) (omega arith) (omega arith))
 
 head-by-bits-requires-2 : tie.Need-head-by-bits-requires-2
 head-by-bits-requires-2 c κs = search rules

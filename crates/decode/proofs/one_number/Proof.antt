@@ -3,7 +3,7 @@ use mathlib.Core.Path.{sym, ap, ◌∙◌}
 use borrow.Author.Rules.{rules}
 use Rattle.decode.specs.declared.HeadRead.{HeadRead}
 use Rattle.decode.specs.declared.NodeHead.{NodeHead}
-use Rattle.decode.specs.Heads.{withOne}
+use Rattle.decode.specs.Heads.{with_one}
 use Rattle.decode.proofs.one_number.Statement.{statement}
 use Rattle.decode.proofs.one_number.Tie as tie
 
@@ -20,10 +20,10 @@ returns : tie.Need-returns
 returns c =
     let read = c.before.before.read in
     ap (λ (h : NodeHead). HeadRead.Read h read.given.0.1.0) c.head.ensures
-    ∙ sym (ap (withOne c.before.before.before.before.args.kind) read.given.1)
+    ∙ sym (ap (with_one c.before.before.before.before.args.kind) read.given.1)
 
 returns-2 : tie.Need-returns-2
-returns-2 c = sym (ap (withOne c.before.before.before.args.kind) c.before.read2.given.1)
+returns-2 c = sym (ap (with_one c.before.before.before.args.kind) c.before.read2.given.1)
 
 pub one-number-spec : {M : Type 1} → statement M
 one-number-spec =

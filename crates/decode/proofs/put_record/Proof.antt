@@ -4,8 +4,8 @@ use Prim.Native.Nat.{ℕ}
 use native.Mathlib.Omega.{arith}
 use lib.ListN.{length-set}
 use borrow.Author.Rules.{rules}
-use Rattle.table.specs.Answers.{recordOf}
-use Rattle.decode.specs.Stores.{recordPut}
+use Rattle.table.specs.Answers.{record_of}
+use Rattle.decode.specs.Stores.{record_put}
 use Rattle.decode.proofs.put_record.Statement.{statement}
 use Rattle.decode.proofs.put_record.Tie as tie
 
@@ -54,7 +54,7 @@ same_length c = search rules
 returns : tie.Need-returns
 returns c =
     let start = c.before.before in
-    ap (λ (w : ℕ). recordPut start.args.nodes.now w (recordOf start.args.r)) c.place.ensures.0
+    ap (λ (w : ℕ). record_put start.args.nodes.now w (record_of start.args.r)) c.place.ensures.0
 
 pub put-record-spec : {M : Type 1} → statement M
 put-record-spec =

@@ -4,10 +4,10 @@ use Prim.Native.Nat.{◌/◌}
 use native.Mathlib.Omega.{arith}
 use lib.ListN.{length}
 use borrow.Author.Rules.{rules}
-use Rattle.limits.specs.Limits.{nodeNumbers}
-use Rattle.scope.specs.Numbers.{streamOf}
+use Rattle.limits.specs.Limits.{node_numbers}
+use Rattle.scope.specs.Numbers.{stream_of}
 use Rattle.decode.specs.Answers.{number_of}
-use Rattle.decode.proofs.Tables.{too_long, begun-means, count-refused, count-passed, count-bounds, read-means}
+use Rattle.decode.proofs.Tables.{too_long_lem, begun_means, count_refused, count_passed, count_bounds, read_means}
 use Rattle.decode.proofs.read_table.Statement.{statement}
 use Rattle.decode.proofs.read_table.Tie as tie
 
@@ -15,9 +15,9 @@ returns : tie.Need-returns
 returns c =
     let start = c.before.before.before.before in
     let program = start.args.program.now in
-    let room = length start.args.nodes.now / nodeNumbers in
+    let room = length start.args.nodes.now / node_numbers in
     let bytes = length start.args.hashes.now in
-    too_long program room bytes c.if1.true
+    too_long_lem program room bytes c.if1.true
 
 natural-table-requires : tie.Need-natural-table-requires
 natural-table-requires c κs = search rules
@@ -38,20 +38,20 @@ returns-2 : tie.Need-returns-2
 returns-2 c =
     let start = c.before.before.before.before.before.before.before.before.before.before in
     let program = start.args.program.now in
-    let room = length start.args.nodes.now / nodeNumbers in
+    let room = length start.args.nodes.now / node_numbers in
     let bytes = length start.args.hashes.now in
     let told = c.before.enum_told.given.1 in
-    begun-means _ _ _ _ _ _ c.begun.ensures told
-    (count-refused program room bytes _ c.before.before.before.before.before.before.if1.false
+    begun_means _ _ _ _ _ _ c.begun.ensures told
+    (count_refused program room bytes _ c.before.before.before.before.before.before.if1.false
     (sym c.before.before.before.read_count.ensures ∙ ap number_of told))
 
 read-nodes-requires : tie.Need-read-nodes-requires
 read-nodes-requires c κs =
     let start = c.before.before.before.before.before.before.before.before.before.before.before.before.before in
     let program = start.args.program.now in
-    let room = length start.args.nodes.now / nodeNumbers in
+    let room = length start.args.nodes.now / node_numbers in
     let bytes = length start.args.hashes.now in
-    let b = count-bounds (streamOf program) room _ _
+    let b = count_bounds (stream_of program) room _ _
     (sym c.before.before.before.before.before.before.read_count.ensures ∙ ap number_of c.before.before.before.before.count.given.1) in
     (c.before.before.before.before.before.before.before.before.natural-table.ensures, (b.0, b.1, omega arith))
 
@@ -70,10 +70,10 @@ returns-3 c =
     c.before.before.before.before.before.before.before.before.before.before.before.before.before.before.before.before.before.before in
     let read-nodes = c.before.before.before.before.read-nodes in
     let program = start.args.program.now in
-    let room = length start.args.nodes.now / nodeNumbers in
+    let room = length start.args.nodes.now / node_numbers in
     let bytes = length start.args.hashes.now in
-    read-means _ _ read-nodes.result read-nodes.new.1.1.0 read-nodes.new.1.1.1.0
-    (count-passed program room bytes _ _ if1-found.false (sym read-count-call.ensures ∙ ap number_of count-found.given.1)) read-nodes.ensures
+    read_means _ _ read-nodes.result read-nodes.new.1.1.0 read-nodes.new.1.1.1.0
+    (count_passed program room bytes _ _ if1-found.false (sym read-count-call.ensures ∙ ap number_of count-found.given.1)) read-nodes.ensures
 
 pub read-table-spec : {M : Type 1} → statement M
 read-table-spec =

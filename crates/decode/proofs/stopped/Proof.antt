@@ -2,7 +2,7 @@
 use mathlib.Core.Path.{sym, ap, ◌∙◌}
 use borrow.Author.Rules.{rules}
 use Rattle.decode.specs.declared.Decoded.{Decoded}
-use Rattle.decode.specs.Stores.{stoppedOf}
+use Rattle.decode.specs.Stores.{stopped_of}
 use Rattle.decode.proofs.stopped.Statement.{statement}
 use Rattle.decode.proofs.stopped.Tie as tie
 
@@ -16,10 +16,10 @@ enum-known-read-2 : tie.Need-enum-known-read-2
 enum-known-read-2 c = search rules
 
 returns : tie.Need-returns
-returns c = ap Decoded.Table c.sized.ensures ∙ sym (ap stoppedOf c.before.before.read.given.1)
+returns c = ap Decoded.Table c.sized.ensures ∙ sym (ap stopped_of c.before.before.read.given.1)
 
 returns-2 : tie.Need-returns-2
-returns-2 c = sym (ap stoppedOf c.before.read2.given.1)
+returns-2 c = sym (ap stopped_of c.before.read2.given.1)
 
 pub stopped-spec : {M : Type 1} → statement M
 stopped-spec =

@@ -2,11 +2,11 @@
 use mathlib.Core.Path.{ap, ◌∙◌}
 use borrow.Author.Rules.{rules}
 use Rattle.scope.specs.Reading.{child}
-use Rattle.scope.specs.Numbers.{streamOf}
+use Rattle.scope.specs.Numbers.{stream_of}
 use Rattle.decode.specs.declared.HeadRead.{HeadRead}
 use Rattle.decode.specs.declared.NodeHead.{NodeHead}
-use Rattle.decode.specs.Heads.{head_of, withOne}
-use Rattle.decode.proofs.Heads.{number-got, number-stopped, first_stops, second-stops, both_read}
+use Rattle.decode.specs.Heads.{head_of, with_one}
+use Rattle.decode.proofs.Heads.{number_got, number_stopped, first_stops, second_stops, both_read}
 use Rattle.decode.proofs.two_children.Statement.{statement}
 use Rattle.decode.proofs.two_children.Tie as tie
 
@@ -26,11 +26,11 @@ returns : tie.Need-returns
 returns c =
     let start = c.before.before.before.before.before in
     let enum_told = c.before.enum_told in
-    let bits = streamOf start.args.program.now in
+    let bits = stream_of start.args.program.now in
     let i = start.args.i in
     let at = start.args.at in
-    ap (head_of bits i) (c.one_number.ensures ∙ ap (withOne start.args.kind) enum_told.given.1)
-    ∙ first_stops bits i at start.args.kind _ (number-stopped i _ _ _ c.before.before.before.child.ensures enum_told.given.1)
+    ap (head_of bits i) (c.one_number.ensures ∙ ap (with_one start.args.kind) enum_told.given.1)
+    ∙ first_stops bits i at start.args.kind _ (number_stopped i _ _ _ c.before.before.before.child.ensures enum_told.given.1)
 
 child-requires-2 : tie.Need-child-requires-2
 child-requires-2 c κs = search rules
@@ -48,14 +48,14 @@ returns-2 : tie.Need-returns-2
 returns-2 c =
     let start = c.before.before.before.before.before.before.before.before.before in
     let enum-told2 = c.before.enum-told2 in
-    let bits = streamOf start.args.program.now in
+    let bits = stream_of start.args.program.now in
     let i = start.args.i in
     let at = start.args.at in
-    ap (head_of bits i) (c.one-number2.ensures ∙ ap (withOne start.args.kind) enum-told2.given.1)
-    ∙ second-stops bits i at start.args.kind _ _ _
-    (number-got i (child bits i at) _ _ _ c.before.before.before.before.before.before.before.child.ensures
+    ap (head_of bits i) (c.one-number2.ensures ∙ ap (with_one start.args.kind) enum-told2.given.1)
+    ∙ second_stops bits i at start.args.kind _ _ _
+    (number_got i (child bits i at) _ _ _ c.before.before.before.before.before.before.before.child.ensures
     c.before.before.before.before.before.left.given.1)
-    (number-stopped i _ _ _ c.before.before.before.child2.ensures enum-told2.given.1)
+    (number_stopped i _ _ _ c.before.before.before.child2.ensures enum-told2.given.1)
 
 head-requires : tie.Need-head-requires
 head-requires c κs = search rules
@@ -66,14 +66,14 @@ returns-3 c =
     let start = c.before.before.before.before.before.before.before.before.before.before in
     let right = c.before.before.right in
     let left = c.before.before.before.before.before.before.left in
-    let bits = streamOf start.args.program.now in
+    let bits = stream_of start.args.program.now in
     let i = start.args.i in
     let at = start.args.at in
     let m = left.given.0.1.0 in
     let n = right.given.0.1.0 in
     ap (λ (h : NodeHead). head_of bits i (HeadRead.Read h n)) c.head.ensures
-    ∙ both_read bits i at start.args.kind _ m _ n (number-got i (child bits i at) _ _ _ child-call.ensures left.given.1)
-    (number-got i (child bits i m) _ _ _ c.before.before.before.before.child2.ensures right.given.1)
+    ∙ both_read bits i at start.args.kind _ m _ n (number_got i (child bits i at) _ _ _ child-call.ensures left.given.1)
+    (number_got i (child bits i m) _ _ _ c.before.before.before.before.child2.ensures right.given.1)
 
 pub two-children-spec : {M : Type 1} → statement M
 two-children-spec =

@@ -3,13 +3,13 @@ use mathlib.Core.Path.{ap, ◌∙◌, subst}
 use Prim.Native.Nat.{ℕ, ◌+◌, ◌/◌, ◌<◌, ◌≤◌}
 use lib.ListN.{length}
 use borrow.Author.Rules.{rules}
-use Rattle.scope.specs.Numbers.{streamOf}
-use Rattle.common.specs.Words.{word-has}
+use Rattle.scope.specs.Numbers.{stream_of}
+use Rattle.common.specs.Words.{word_has}
 use Rattle.decode.specs.declared.Follows.{Follows}
-use Rattle.decode.specs.Heads.{followed, atNode, head_of}
+use Rattle.decode.specs.Heads.{followed, at_node, head_of}
 use Rattle.decode.specs.declared.HeadRead.{HeadRead}
 use Rattle.decode.specs.declared.NodeHead.{NodeHead}
-use Rattle.decode.proofs.Heads.{word-ended, word-whole}
+use Rattle.decode.proofs.Heads.{word_ended, word_whole_lem}
 use Rattle.decode.proofs.word_from.Statement.{statement}
 use Rattle.decode.proofs.word_from.Tie as tie
 
@@ -30,8 +30,8 @@ returns c =
     let i = start.args.i in
     let n = start.args.n in
     let first = start.args.first in
-    let bits = word-bits.ensures.0 ∙ word-has n start.requires.0 start.requires.1 in
-    word-ended program i n first start.requires.3 (subst (λ (w : ℕ). length program < (first + w + 7) / 8) bits c.if1.true)
+    let bits = word-bits.ensures.0 ∙ word_has n start.requires.0 start.requires.1 in
+    word_ended program i n first start.requires.3 (subst (λ (w : ℕ). length program < (first + w + 7) / 8) bits c.if1.true)
 
 cast-head : tie.Need-overflow-cast-head
 cast-head c = search rules
@@ -48,10 +48,10 @@ returns-2 c =
     let n = start.args.n in
     let first = start.args.first in
     let w = word-bits.result in
-    let bits = word-bits.ensures.0 ∙ word-has n start.requires.0 start.requires.1 in
-    ap (λ (h : NodeHead). head_of (streamOf program) i (HeadRead.Read h (first + w))) c.head.ensures
-    ∙ ap (λ (w : ℕ). atNode i (followed (streamOf program) (record { kind = 14; first = n; second = first; third = 0 }) Follows.Nothing (first + w))) bits
-    ∙ word-whole program i n first start.requires.3 (subst (λ (w : ℕ). (first + w + 7) / 8 ≤ length program) bits c.before.if1.false)
+    let bits = word-bits.ensures.0 ∙ word_has n start.requires.0 start.requires.1 in
+    ap (λ (h : NodeHead). head_of (stream_of program) i (HeadRead.Read h (first + w))) c.head.ensures
+    ∙ ap (λ (w : ℕ). at_node i (followed (stream_of program) (record { kind = 14; first = n; second = first; third = 0 }) Follows.Nothing (first + w))) bits
+    ∙ word_whole_lem program i n first start.requires.3 (subst (λ (w : ℕ). (first + w + 7) / 8 ≤ length program) bits c.before.if1.false)
 
 pub word-from-spec : {M : Type 1} → statement M
 word-from-spec =

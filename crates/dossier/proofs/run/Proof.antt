@@ -1,5 +1,5 @@
 -- `dossier::run` meets its contract.
-use Rattle.dossier.proofs.Steps.{ends-front, ends-undecoded, nodes-within, hashes-within, ends-settled}
+use Rattle.dossier.proofs.Steps.{ends_front, ends_undecoded, nodes_within, hashes_within, ends_settled}
 use lib.Seq.{length-take-le}
 use lib.ListN.{length, take}
 use mathlib.Core.Path.{◌≡◌, refl, sym, ap, ◌∙◌}
@@ -15,7 +15,7 @@ use Rattle.dossier.proofs.check_front.Reads as check-front-reads
 use Rattle.dossier.proofs.run_decoded.Reads as run-decoded-reads
 use Rattle.dossier.proofs.settle.Reads as settle-reads
 use Rattle.dossier.proofs.undecoded.Reads as undecoded-reads
-use Rattle.header.specs.Sections.{section-holds}
+use Rattle.header.specs.Sections.{section_holds}
 use Rattle.header.proofs.section.Reads as section-reads
 
 check-front-requires : tie.Need-check-front-requires
@@ -50,7 +50,7 @@ returns c =
     let enum-told2-found = c.before.before.before.before.before.before.before.before.before.enum-told2 in
     let clear-numbers-call = c.before.before.before.before.before.before.before.clear-numbers in
     let clear-bytes-call = c.before.before.before.clear-bytes in
-    ends-front start.args.dossier.now start.args.nodes.now start.args.hashes.now start.args.cells.now
+    ends_front start.args.dossier.now start.args.nodes.now start.args.hashes.now start.args.cells.now
     start.args.frames.now start.args.answer.now check-front-call.result check-front-call.ensures _
     enum-told2-found.given.1 c.answer-of.result c.answer-of.ensures clear-numbers-call.new.0
     clear-bytes-call.new.0 clear-numbers-call.ensures clear-bytes-call.ensures
@@ -83,9 +83,9 @@ returns-2 c =
     let enum-told-found = c.before.before.before.before.before.before.before.before.before.before.before.enum_told in
     let section-call = c.before.before.before.before.before.before.before.before.before.before.section in
     let decode-Call = c.before.before.before.before.before.before.before.decode in
-    ends-undecoded start.args.dossier.now start.args.nodes.now start.args.hashes.now start.args.cells.now
+    ends_undecoded start.args.dossier.now start.args.nodes.now start.args.hashes.now start.args.cells.now
     start.args.frames.now start.args.answer.now check-front-call.result check-front-call.ensures enum-told-found.given.1
-    section-call.result.now (section-holds _ _ _ section-call.ensures) decode-Call.result decode-Call.new.1.0
+    section-call.result.now (section_holds _ _ _ section-call.ensures) decode-Call.result decode-Call.new.1.0
     decode-Call.new.1.1.0 decode-Call.ensures _ c.before.enum-told3.given.1 c.undecoded.result c.undecoded.ensures
 
 cast-records : tie.Need-overflow-cast-records
@@ -101,9 +101,9 @@ slice-reshare-prefix-records c =
     let enum-told-found = c.before.before.before.before.before.before.before.before.before.before.before.before.enum_told in
     let section-call = c.before.before.before.before.before.before.before.before.before.before.before.section in
     let decode-Call = c.before.before.before.before.before.before.before.before.decode in
-    nodes-within start.args.dossier.now start.args.nodes.now start.args.hashes.now start.args.cells.now
+    nodes_within start.args.dossier.now start.args.nodes.now start.args.hashes.now start.args.cells.now
     start.args.frames.now start.args.answer.now check-front-call.result check-front-call.ensures enum-told-found.given.1
-    section-call.result.now (section-holds _ _ _ section-call.ensures) decode-Call.result decode-Call.new.1.0
+    section-call.result.now (section_holds _ _ _ section-call.ensures) decode-Call.result decode-Call.new.1.0
     decode-Call.new.1.1.0 decode-Call.ensures c.before.before.decoded.given.0.0 c.before.before.decoded.given.1
 
 slice-aggregate-records : tie.Need-slice-aggregate-records
@@ -115,9 +115,9 @@ slice-aggregate-records c =
     let section-call = c.before.before.before.before.before.before.before.before.before.before.before.before.section in
     let decode-Call = c.before.before.before.before.before.before.before.before.before.decode in
     let decoded-found = c.before.before.before.decoded in
-    sym (length-take-le _ _ (nodes-within start.args.dossier.now start.args.nodes.now start.args.hashes.now
+    sym (length-take-le _ _ (nodes_within start.args.dossier.now start.args.nodes.now start.args.hashes.now
     start.args.cells.now start.args.frames.now start.args.answer.now check-front-call.result check-front-call.ensures
-    enum-told-found.given.1 section-call.result.now (section-holds _ _ _ section-call.ensures) decode-Call.result
+    enum-told-found.given.1 section-call.result.now (section_holds _ _ _ section-call.ensures) decode-Call.result
     decode-Call.new.1.0 decode-Call.new.1.1.0 decode-Call.ensures decoded-found.given.0.0 decoded-found.given.1))
 
 cast-run-decoded : tie.Need-overflow-cast-run-decoded
@@ -132,9 +132,9 @@ slice-reshare-prefix-run-decoded c =
     let section-call = c.before.before.before.before.before.before.before.before.before.before.before.before.before.section in
     let decode-Call = c.before.before.before.before.before.before.before.before.before.before.decode in
     let decoded-found = c.before.before.before.before.decoded in
-    hashes-within start.args.dossier.now start.args.nodes.now start.args.hashes.now start.args.cells.now
+    hashes_within start.args.dossier.now start.args.nodes.now start.args.hashes.now start.args.cells.now
     start.args.frames.now start.args.answer.now check-front-call.result check-front-call.ensures
-    enum-told-found.given.1 section-call.result.now (section-holds _ _ _ section-call.ensures) decode-Call.result
+    enum-told-found.given.1 section-call.result.now (section_holds _ _ _ section-call.ensures) decode-Call.result
     decode-Call.new.1.0 decode-Call.new.1.1.0 decode-Call.ensures decoded-found.given.0.0 decoded-found.given.1
 
 slice-aggregate-run-decoded : tie.Need-slice-aggregate-run-decoded
@@ -146,9 +146,9 @@ slice-aggregate-run-decoded c =
     let section-call = c.before.before.before.before.before.before.before.before.before.before.before.before.before.before.section in
     let decode-Call = c.before.before.before.before.before.before.before.before.before.before.before.decode in
     let decoded-found = c.before.before.before.before.before.decoded in
-    sym (length-take-le _ _ (hashes-within start.args.dossier.now start.args.nodes.now start.args.hashes.now
+    sym (length-take-le _ _ (hashes_within start.args.dossier.now start.args.nodes.now start.args.hashes.now
     start.args.cells.now start.args.frames.now start.args.answer.now check-front-call.result check-front-call.ensures
-    enum-told-found.given.1 section-call.result.now (section-holds _ _ _ section-call.ensures) decode-Call.result
+    enum-told-found.given.1 section-call.result.now (section_holds _ _ _ section-call.ensures) decode-Call.result
     decode-Call.new.1.0 decode-Call.new.1.1.0 decode-Call.ensures decoded-found.given.0.0 decoded-found.given.1))
 
 run-decoded-requires : tie.Need-run-decoded-requires
@@ -184,9 +184,9 @@ returns-3 c =
     let decoded-found = c.before.before.before.before.before.before.before.before.before.before.before.before.before.before.before.before.before.before.before.before.before.before.decoded in
     let run-decoded-call = c.before.before.before.before.before.before.before.before.before.before.before.before.before.run-decoded in
     let settle-call = c.before.before.before.before.settle in
-    ends-settled start.args.dossier.now start.args.nodes.now start.args.hashes.now start.args.cells.now
+    ends_settled start.args.dossier.now start.args.nodes.now start.args.hashes.now start.args.cells.now
     start.args.frames.now start.args.answer.now check-front-call.result check-front-call.ensures enum-told-found.given.1
-    section-call.result.now (section-holds _ _ _ section-call.ensures) decode-Call.result decode-Call.last.1.0
+    section-call.result.now (section_holds _ _ _ section-call.ensures) decode-Call.result decode-Call.last.1.0
     decode-Call.last.1.1.0 decode-Call.ensures decoded-found.given.0.0 decoded-found.given.1 run-decoded-call.result
     run-decoded-call.new.1.1.1.0 run-decoded-call.new.1.1.1.1.0 run-decoded-call.new.1.1.1.1.1.0
     run-decoded-call.ensures settle-call.new.1.0 settle-call.new.1.1.0 settle-call.ensures.0 settle-call.ensures.1

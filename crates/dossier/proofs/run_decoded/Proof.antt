@@ -1,5 +1,5 @@
 -- `dossier::run_decoded` meets its contract.
-use Rattle.dossier.proofs.Steps.{sections-run}
+use Rattle.dossier.proofs.Steps.{sections_run_lem}
 use mathlib.Core.Path.{◌≡◌, refl, sym, ap, ◌∙◌}
 use borrow.Author.Rules.{rules}
 use Rattle.dossier.proofs.run_decoded.Statement.{statement}
@@ -8,7 +8,7 @@ use Rattle.dossier.proofs.run_decoded.Reads as reads
 use Rattle.dossier.proofs.run_decoded.Lts as lts
 use Rattle.bit_machine.proofs.run_stage.Reads as run-stage-reads
 use Rattle.header.proofs.count.Reads as count-reads
-use Rattle.header.specs.Sections.{section-holds}
+use Rattle.header.specs.Sections.{section_holds}
 use Rattle.header.proofs.section.Reads as section-reads
 
 section-requires : tie.Need-section-requires
@@ -61,11 +61,11 @@ returns c =
     let section6-call = c.before.before.before.before.before.before.before.before.before.before.before.section6 in
     let count2-call = c.before.before.before.before.before.before.before.before.before.before.count2 in
     c.before.before.before.before.before.before.run-stage.ensures
-    ∙ sections-run start.args.dossier.now start.args.nodes.now start.args.hashes.now start.args.cells.now
-    start.args.frames.now start.args.answer.now _ _ _ _ _ _ _ _ (section-holds _ _ _ section-call.ensures)
-    (section-holds _ _ _ section2-call.ensures) (section-holds _ _ _ section3-call.ensures)
-    (section-holds _ _ _ section4-call.ensures) (section-holds _ _ _ section5-call.ensures) count-call.ensures
-    (section-holds _ _ _ section6-call.ensures) count2-call.ensures
+    ∙ sections_run_lem start.args.dossier.now start.args.nodes.now start.args.hashes.now start.args.cells.now
+    start.args.frames.now start.args.answer.now _ _ _ _ _ _ _ _ (section_holds _ _ _ section-call.ensures)
+    (section_holds _ _ _ section2-call.ensures) (section_holds _ _ _ section3-call.ensures)
+    (section_holds _ _ _ section4-call.ensures) (section_holds _ _ _ section5-call.ensures) count-call.ensures
+    (section_holds _ _ _ section6-call.ensures) count2-call.ensures
 
 pub run-decoded-spec : {M : Type 1} → statement M
 run-decoded-spec =

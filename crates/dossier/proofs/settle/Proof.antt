@@ -1,5 +1,5 @@
 -- `dossier::settle` meets its contract.
-use Rattle.dossier.proofs.Settled.{settled-kept, settled-cleared}
+use Rattle.dossier.proofs.Settled.{settled_kept, settled-cleared}
 use mathlib.Core.Path.{◌≡◌, refl, sym, ap, ◌∙◌}
 use borrow.Author.Rules.{rules}
 use Rattle.dossier.proofs.settle.Statement.{statement}
@@ -14,7 +14,7 @@ keeps-requires : tie.Need-keeps-requires
 keeps-requires c κs = search rules
 
 returns : tie.Need-returns
-returns c = (settled-kept _ _ (sym c.if1.true ∙ c.before.keeps.ensures), settled-kept _ _ (sym c.if1.true ∙ c.before.keeps.ensures))
+returns c = (settled_kept _ _ (sym c.if1.true ∙ c.before.keeps.ensures), settled_kept _ _ (sym c.if1.true ∙ c.before.keeps.ensures))
 
 clear-numbers-requires : tie.Need-clear-numbers-requires
 clear-numbers-requires c κs = search rules

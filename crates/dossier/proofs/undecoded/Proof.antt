@@ -17,7 +17,7 @@ returns : tie.Need-returns
 returns c = search rules
 
 returns-2 : tie.Need-returns-2
-returns-2 c = ap Ends.undecodedOf (sym c.before.decoded.given.1)
+returns-2 c = ap Ends.undecoded_of (sym c.before.decoded.given.1)
 
 pub undecoded-spec : {M : Type 1} → statement M
 undecoded-spec = tie.close (tie.spec enum_told enum-known-decoded returns returns-2)

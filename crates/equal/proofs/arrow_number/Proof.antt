@@ -1,7 +1,7 @@
 -- `equal::arrow_number` meets its contract.
 use mathlib.Core.Path.{◌∙◌}
 use native.Mathlib.Omega.{arith}
-use Rattle.equal.proofs.KindKeys.{arrow-in, arrow-past}
+use Rattle.equal.proofs.KindKeys.{arrow_in, arrow_past}
 use borrow.Author.Rules.{rules}
 use Rattle.equal.proofs.arrow_number.Statement.{statement}
 use Rattle.equal.proofs.arrow_number.Tie as tie
@@ -32,7 +32,7 @@ add-result c = search rules
 
 returns : tie.Need-returns
 returns c =
-    let own = arrow-in c.before.before.before.before.before.before.args.arrows.now
+    let own = arrow_in c.before.before.before.before.before.before.args.arrows.now
     c.before.before.before.before.before.before.args.i c.before.before.index.result c.index2.result
     c.before.before.before.before.if1.true
     (c.before.before.index.ensures.0 ∙ c.before.before.before.half_at.ensures) (c.index2.ensures.0 ∙ c.before.half-at2.ensures) in
@@ -40,7 +40,7 @@ returns c =
 
 returns-2 : tie.Need-returns-2
 returns-2 c =
-    let none = arrow-past c.before.before.args.arrows.now c.before.before.args.i c.if1.false in
+    let none = arrow_past c.before.before.args.arrows.now c.before.before.args.i c.if1.false in
     (none.0, omega (arith, none.1), omega arith)
 
 pub arrow-number-spec : {M : Type 1} → statement M

@@ -2,17 +2,17 @@
 use mathlib.Core.Path.{◌≡◌, refl, sym, ◌∙◌}
 use Prim.Native.Nat.{◌+◌, ◌%◌, ◌^◌, ◌<◌}
 use native.Mathlib.Omega.{arith}
-use Rattle.report.specs.Bits.{bits_of, numberFrom}
-use Rattle.common.specs.Cells.{bitsFrom}
+use Rattle.report.specs.Bits.{bits_of, number_from}
+use Rattle.common.specs.Cells.{bits_from}
 use Rattle.equal.specs.Buckets.{buckets}
-use Rattle.equal.proofs.Digits.{number-by-eight, number-by-one, number-ends}
+use Rattle.equal.proofs.Digits.{number_by_eight, number_by_one, number_ends}
 use borrow.Author.Rules.{rules}
 use Rattle.equal.proofs.bits_number.Statement.{statement}
 use Rattle.equal.proofs.bits_number.Tie as tie
 
 abbrev invariant-loop : tie.invariant-loop
 invariant-loop s p n start at₀ left₀ number₀ at left number =
-    (numberFrom start (bitsFrom (bits_of s) p n) % buckets ≡ numberFrom number (bitsFrom (bits_of s) at left) % buckets)
+    (number_from start (bits_from (bits_of s) p n) % buckets ≡ number_from number (bits_from (bits_of s) at left) % buckets)
     × (at + left ≡ p + n) × (p + n < 2 ^ 40) × (number < 2 ^ 40)
 
 abbrev decreases-loop : tie.decreases-loop
@@ -45,7 +45,7 @@ loop-again : tie.Need-loop-preserved invariant-loop decreases-loop
 loop-again c =
     let l = c.before.before.before.loop in (
       l.invariant.0
-          ∙ number-by-eight c.before.before.before.before.before.args.s.now l.at l.left l.number
+          ∙ number_by_eight c.before.before.before.before.before.args.s.now l.at l.left l.number
           c.before.read-eight.result c.if1.true c.before.read-eight.ensures,
       omega (arith, l.invariant.1, c.if1.true),
       l.invariant.2,
@@ -71,7 +71,7 @@ loop-again-2 : tie.Need-loop-preserved-2 invariant-loop decreases-loop
 loop-again-2 c =
     let l = c.before.before.before.loop in (
       l.invariant.0
-          ∙ number-by-one c.before.before.before.before.before.args.s.now l.at l.left l.number
+          ∙ number_by_one c.before.before.before.before.before.args.s.now l.at l.left l.number
           c.before.read-eight.result c.before.before.loop-test.true
           c.before.read-eight.ensures (omega arith),
       omega (arith, l.invariant.1, c.before.before.loop-test.true),
@@ -82,7 +82,7 @@ loop-again-2 c =
 returns : tie.Need-returns invariant-loop decreases-loop
 returns c =
     let l = c.before.loop in
-    sym (l.invariant.0 ∙ number-ends c.before.before.before.args.s.now l.at l.left l.number (omega (arith, c.loop-test.false)))
+    sym (l.invariant.0 ∙ number_ends c.before.before.before.args.s.now l.at l.left l.number (omega (arith, c.loop-test.false)))
 
 pub bits-number-spec : {M : Type 1} → statement M
 bits-number-spec =

@@ -3,13 +3,13 @@ use mathlib.Core.Path.{ap, ◌∙◌}
 use Prim.Native.Nat.{ℕ, ◌+◌, ◌*◌, ◌%◌}
 use native.Mathlib.Omega.{arith}
 use lib.ListN.{get_or}
-use Rattle.scope.specs.Nodes.{NodeRecord, nodeRecords}
-use Rattle.scope.specs.Arrows.{arrowRecords}
-use Rattle.scope.specs.Stages.{noRecord}
-use Rattle.table.specs.Answers.{recordOf}
-use Rattle.equal.specs.Keys.{recordKey, key_at}
-use Rattle.equal.specs.Buckets.{buckets, keyNumber, arrowNumber, bucketAt}
-use Rattle.equal.proofs.KindKeys.{key-small, no-bucket, a-bucket}
+use Rattle.scope.specs.Nodes.{NodeRecord, node_records}
+use Rattle.scope.specs.Arrows.{arrow_records}
+use Rattle.scope.specs.Stages.{no_record}
+use Rattle.table.specs.Answers.{record_of}
+use Rattle.equal.specs.Keys.{record_key, key_at}
+use Rattle.equal.specs.Buckets.{buckets, key_number, arrow_number, bucket_at}
+use Rattle.equal.proofs.KindKeys.{key_small, no_bucket, a_bucket}
 use borrow.Author.Rules.{rules}
 use Rattle.equal.proofs.bucket.Statement.{statement}
 use Rattle.equal.proofs.bucket.Tie as tie
@@ -21,14 +21,14 @@ key-number-requires : tie.Need-key-number-requires
 key-number-requires c κs = search rules
 
 returns : tie.Need-returns
-unfolding bucketAt key_at
+unfolding bucket_at key_at
 returns c =
     let a = c.before.before.before.before.before.before.before.args in
-    let key = recordKey a.program.now a.hashes.now (get_or (nodeRecords a.nodes.now) a.i noRecord) in
-    no-bucket key c.before.key-number.result
+    let key = record_key a.program.now a.hashes.now (get_or (node_records a.nodes.now) a.i no_record) in
+    no_bucket key c.before.key-number.result
     (c.before.key-number.ensures
-    ∙ ap (λ (r : NodeRecord). keyNumber (recordKey a.program.now a.hashes.now r)) c.before.before.record-in.ensures)
-    (arrowNumber (arrowRecords a.arrows.now) a.i) c.if1.true
+    ∙ ap (λ (r : NodeRecord). key_number (record_key a.program.now a.hashes.now r)) c.before.before.record-in.ensures)
+    (arrow_number (arrow_records a.arrows.now) a.i) c.if1.true
 
 arrow-number-requires : tie.Need-arrow-number-requires
 arrow-number-requires c κs = search rules
@@ -43,19 +43,19 @@ add-result c =
     omega (
       arith,
       c.arrow-number.ensures.2,
-      key-small (recordKey a.program.now a.hashes.now (recordOf c.before.before.before.record-in.result)) made.result made.ensures,
+      key_small (record_key a.program.now a.hashes.now (record_of c.before.before.before.record-in.result)) made.result made.ensures,
     )
 
 returns-2 : tie.Need-returns-2
-unfolding bucketAt key_at
+unfolding bucket_at key_at
 returns-2 c =
     let a = c.before.before.before.before.before.before.before.before.args in
-    let key = recordKey a.program.now a.hashes.now (get_or (nodeRecords a.nodes.now) a.i noRecord) in
+    let key = record_key a.program.now a.hashes.now (get_or (node_records a.nodes.now) a.i no_record) in
     ap (λ (x : ℕ). (c.before.before.key-number.result + 97 * x) % buckets) c.arrow-number.ensures.0
-    ∙ a-bucket key c.before.before.key-number.result
+    ∙ a_bucket key c.before.before.key-number.result
     (c.before.before.key-number.ensures
-    ∙ ap (λ (r : NodeRecord). keyNumber (recordKey a.program.now a.hashes.now r)) c.before.before.before.record-in.ensures)
-    (arrowNumber (arrowRecords a.arrows.now) a.i) c.before.if1.false
+    ∙ ap (λ (r : NodeRecord). key_number (record_key a.program.now a.hashes.now r)) c.before.before.before.record-in.ensures)
+    (arrow_number (arrow_records a.arrows.now) a.i) c.before.if1.false
 
 pub bucket-spec : {M : Type 1} → statement M
 bucket-spec =

@@ -3,16 +3,16 @@ use mathlib.Core.Path.{◌≡◌, refl, sym, ◌∙◌}
 use Prim.Native.Nat.{◌-◌, ◌%◌, ◌^◌, ◌<◌}
 use native.Mathlib.Omega.{arith}
 use lib.ListN.{length, drop}
-use Rattle.report.specs.Bits.{numberFrom}
+use Rattle.report.specs.Bits.{number_from}
 use Rattle.equal.specs.Buckets.{buckets}
-use Rattle.equal.proofs.Digits.{bytes-by-one, bytes-end}
+use Rattle.equal.proofs.Digits.{bytes_by_one, bytes_end}
 use borrow.Author.Rules.{rules}
 use Rattle.equal.proofs.bytes_number.Statement.{statement}
 use Rattle.equal.proofs.bytes_number.Tie as tie
 
 abbrev invariant-loop : tie.invariant-loop
 invariant-loop bytes start k₀ number₀ k number =
-    (numberFrom start bytes % buckets ≡ numberFrom number (drop k bytes) % buckets) × (number < 2 ^ 40)
+    (number_from start bytes % buckets ≡ number_from number (drop k bytes) % buckets) × (number < 2 ^ 40)
 
 abbrev decreases-loop : tie.decreases-loop
 decreases-loop bytes start k₀ number₀ k number =
@@ -43,12 +43,12 @@ loop-less c = search rules
 loop-again : tie.Need-loop-preserved invariant-loop decreases-loop
 loop-again c =
     let l = c.before.before.loop in
-    (l.invariant.0 ∙ bytes-by-one c.before.before.before.args.bytes.now l.k l.number c.before.loop-test.true, omega arith)
+    (l.invariant.0 ∙ bytes_by_one c.before.before.before.args.bytes.now l.k l.number c.before.loop-test.true, omega arith)
 
 returns : tie.Need-returns invariant-loop decreases-loop
 returns c =
     let l = c.before.loop in
-    sym (l.invariant.0 ∙ bytes-end c.before.before.args.bytes.now l.k l.number (omega (arith, c.loop-test.false)))
+    sym (l.invariant.0 ∙ bytes_end c.before.before.args.bytes.now l.k l.number (omega (arith, c.loop-test.false)))
 
 pub bytes-number-spec : {M : Type 1} → statement M
 bytes-number-spec =

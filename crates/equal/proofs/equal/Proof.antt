@@ -1,9 +1,9 @@
 -- `equal::equal` meets its contract.
 use mathlib.Core.Path.{sym, ap₂, ◌∙◌}
 use Rattle.scope.specs.Nodes.{NodeRecord}
-use Rattle.scope.specs.Equal.{sameKey}
-use Rattle.equal.specs.Keys.{recordKey, key_at}
-use Rattle.equal.proofs.KindKeys.{arrows-unlike, arrows-same}
+use Rattle.scope.specs.Equal.{same_key}
+use Rattle.equal.specs.Keys.{record_key, key_at}
+use Rattle.equal.proofs.KindKeys.{arrows_unlike, arrows_same}
 use borrow.Author.Rules.{rules}
 use Rattle.equal.proofs.equal.Statement.{statement}
 use Rattle.equal.proofs.equal.Tie as tie
@@ -17,7 +17,7 @@ arrow-number-requires-2 c κs = search rules
 returns : tie.Need-returns
 returns c =
     let a = c.before.before.before.before.before.before.before.args in
-    arrows-unlike a.nodes.now a.arrows.now a.program.now a.hashes.now a.j a.i
+    arrows_unlike a.nodes.now a.arrows.now a.program.now a.hashes.now a.j a.i
     c.before.before.arrow-number.ensures.1 c.before.arrow-number2.ensures.1
     (λ e. c.if1.true (c.before.before.arrow-number.ensures.0 ∙ e ∙ sym c.before.arrow-number2.ensures.0))
 
@@ -35,9 +35,9 @@ unfolding key_at
 returns-2 c =
     let a = c.before.before.before.before.before.before.before.before.before.before.args in
     c.same_key.ensures
-    ∙ ap₂ (λ (r s : NodeRecord). sameKey (recordKey a.program.now a.hashes.now r) (recordKey a.program.now a.hashes.now s))
+    ∙ ap₂ (λ (r s : NodeRecord). same_key (record_key a.program.now a.hashes.now r) (record_key a.program.now a.hashes.now s))
     c.before.before.record-in.ensures c.before.record-in2.ensures
-    ∙ arrows-same a.nodes.now a.arrows.now a.program.now a.hashes.now a.j a.i
+    ∙ arrows_same a.nodes.now a.arrows.now a.program.now a.hashes.now a.j a.i
     c.before.before.before.before.before.arrow-number.ensures.1
     c.before.before.before.before.arrow-number2.ensures.1
     (sym c.before.before.before.before.before.arrow-number.ensures.0 ∙ c.before.before.before.if1.false

@@ -5,14 +5,14 @@ use Prim.Native.Nat.{ℕ, ◌-◌, ◌≤◌, min}
 use native.Mathlib.Nat.{min-le_right}
 use native.Mathlib.Omega.{arith}
 use lib.ListN.{length, get_or, length-set, length-replicate, get_or-replicate}
-use Rattle.limits.specs.Limits.{nodeCount}
-use Rattle.scope.specs.Check.{firstFailing}
+use Rattle.limits.specs.Limits.{node_count}
+use Rattle.scope.specs.Check.{first_failing}
 use Rattle.scope.specs.Numbers.{zeros}
-use Rattle.scope.specs.Nodes.{nodeRecords}
-use Rattle.common.specs.Passes.{Passing, pass-start, pass-more, first-failed, none-failed}
-use Rattle.equal.specs.Keys.{fresh, firstRepeat}
-use Rattle.equal.specs.Buckets.{buckets, bucketAt, Last, Chained, Latest}
-use Rattle.equal.proofs.Chains.{unbucketed, latest-empty, chained-empty, latest-passed, chained-passed, latest-entered, chained-entered}
+use Rattle.scope.specs.Nodes.{node_records}
+use Rattle.common.specs.Passes.{Passing, pass_start, pass_more, first_failed, none_failed}
+use Rattle.equal.specs.Keys.{fresh, first_repeat}
+use Rattle.equal.specs.Buckets.{buckets, bucket_at, Last, Chained, Latest}
+use Rattle.equal.proofs.Chains.{unbucketed, latest_empty, chained_empty, latest_passed, chained_passed, latest_entered, chained_entered}
 use borrow.Author.Rules.{rules}
 use Rattle.equal.proofs.first_repeat.Statement.{statement}
 use Rattle.equal.proofs.first_repeat.Tie as tie
@@ -20,7 +20,7 @@ use Rattle.equal.proofs.first_repeat.Tie as tie
 abbrev invariant-loop : tie.invariant-loop
 invariant-loop nodes arrows program hashes n latest₀ before₀ i₀ latest before i =
     Passing (fresh nodes arrows program hashes) n i × Latest nodes arrows program hashes latest i × Chained nodes arrows program hashes before i
-    × (length latest ≡ buckets) × (length before ≡ nodeCount) × (n ≡ min (length (nodeRecords nodes)) nodeCount) × (n ≤ nodeCount)
+    × (length latest ≡ buckets) × (length before ≡ node_count) × (n ≡ min (length (node_records nodes)) node_count) × (n ≤ node_count)
 
 abbrev decreases-loop : tie.decreases-loop
 decreases-loop nodes arrows program hashes n latest₀ before₀ i₀ latest before i =
@@ -32,13 +32,13 @@ judged-requires c κs = search rules
 loop-holds : tie.Need-loop-init invariant-loop decreases-loop
 loop-holds c =
     let a = c.before.before.before.before.before.args in (
-      pass-start (fresh a.nodes.now a.arrows.now a.program.now a.hashes.now) c.judged.result,
-      latest-empty a.nodes.now a.arrows.now a.program.now a.hashes.now (zeros buckets) (λ b l. get_or-replicate {A = ℕ} buckets b 0 0 l),
-      chained-empty a.nodes.now a.arrows.now a.program.now a.hashes.now (zeros nodeCount),
+      pass_start (fresh a.nodes.now a.arrows.now a.program.now a.hashes.now) c.judged.result,
+      latest_empty a.nodes.now a.arrows.now a.program.now a.hashes.now (zeros buckets) (λ b l. get_or-replicate {A = ℕ} buckets b 0 0 l),
+      chained_empty a.nodes.now a.arrows.now a.program.now a.hashes.now (zeros node_count),
       length-replicate {A = ℕ} buckets 0,
-      length-replicate {A = ℕ} nodeCount 0,
+      length-replicate {A = ℕ} node_count 0,
       c.judged.ensures,
-      omega (arith, c.judged.ensures, min-le_right (length (nodeRecords a.nodes.now)) nodeCount),
+      omega (arith, c.judged.ensures, min-le_right (length (node_records a.nodes.now)) node_count),
     )
 
 bucket-requires : tie.Need-bucket-requires invariant-loop decreases-loop
@@ -54,13 +54,13 @@ loop-again : tie.Need-loop-preserved invariant-loop decreases-loop
 loop-again c =
     let a = c.before.before.before.before.before.before.before.before.before.args in
     let l = c.before.before.before.loop in
-    let none : buckets ≤ bucketAt a.nodes.now a.arrows.now a.program.now a.hashes.now l.i =
+    let none : buckets ≤ bucket_at a.nodes.now a.arrows.now a.program.now a.hashes.now l.i =
     omega (arith, c.before.bucket.ensures, c.if1.true) in (
-      pass-more (fresh a.nodes.now a.arrows.now a.program.now a.hashes.now)
+      pass_more (fresh a.nodes.now a.arrows.now a.program.now a.hashes.now)
           c.before.before.before.before.judged.result l.i c.before.before.loop-test.true
           (unbucketed a.nodes.now a.arrows.now a.program.now a.hashes.now l.i none) l.invariant.0,
-      latest-passed a.nodes.now a.arrows.now a.program.now a.hashes.now l.i l.latest l.before l.invariant.1 l.invariant.2 none,
-      chained-passed a.nodes.now a.arrows.now a.program.now a.hashes.now l.i l.latest l.before l.invariant.1 l.invariant.2 none,
+      latest_passed a.nodes.now a.arrows.now a.program.now a.hashes.now l.i l.latest l.before l.invariant.1 l.invariant.2 none,
+      chained_passed a.nodes.now a.arrows.now a.program.now a.hashes.now l.i l.latest l.before l.invariant.1 l.invariant.2 none,
       l.invariant.3,
       l.invariant.4,
       l.invariant.5,
@@ -91,12 +91,12 @@ cast-result : tie.Need-overflow-cast-result invariant-loop decreases-loop
 cast-result c = search rules
 
 returns : tie.Need-returns invariant-loop decreases-loop
-unfolding firstRepeat
+unfolding first_repeat
 returns c =
     let a = c.before.before.before.before.before.before.before.before.before.before.before.before.args in
     let l = c.before.before.before.before.before.before.loop in
-    sym (ap (λ (k : ℕ). firstFailing (fresh a.nodes.now a.arrows.now a.program.now a.hashes.now) k 0) (sym l.invariant.5)
-    ∙ first-failed (fresh a.nodes.now a.arrows.now a.program.now a.hashes.now)
+    sym (ap (λ (k : ℕ). first_failing (fresh a.nodes.now a.arrows.now a.program.now a.hashes.now) k 0) (sym l.invariant.5)
+    ∙ first_failed (fresh a.nodes.now a.arrows.now a.program.now a.hashes.now)
     c.before.before.before.before.before.before.before.judged.result l.i
     c.before.before.before.before.before.loop-test.true (sym c.before.met.ensures ∙ ap not c.if2.true) l.invariant.0)
 
@@ -126,12 +126,12 @@ loop-again-2 c =
     let a = c.before.before.before.before.before.before.before.before.before.before.before.before.args in
     let l = c.before.before.before.before.before.before.loop in
     let b = c.before.before.before.before.bucket.result in (
-      pass-more (fresh a.nodes.now a.arrows.now a.program.now a.hashes.now)
+      pass_more (fresh a.nodes.now a.arrows.now a.program.now a.hashes.now)
           c.before.before.before.before.before.before.before.judged.result l.i
           c.before.before.before.before.before.loop-test.true (sym c.before.met.ensures ∙ ap not c.if2.false) l.invariant.0,
-      latest-entered a.nodes.now a.arrows.now a.program.now a.hashes.now l.i l.latest l.before l.invariant.1
+      latest_entered a.nodes.now a.arrows.now a.program.now a.hashes.now l.i l.latest l.before l.invariant.1
           l.invariant.2 b c.before.before.before.before.bucket.ensures (omega (arith, l.invariant.3, c.before.before.before.if1.false)),
-      chained-entered a.nodes.now a.arrows.now a.program.now a.hashes.now l.i l.latest l.before l.invariant.1
+      chained_entered a.nodes.now a.arrows.now a.program.now a.hashes.now l.i l.latest l.before l.invariant.1
           l.invariant.2 b c.before.before.before.before.bucket.ensures
           (omega (arith, l.invariant.4, l.invariant.6, c.before.before.before.before.before.loop-test.true)) c.before.before.before.if1.false,
       length-set l.latest b _ ∙ l.invariant.3,
@@ -144,12 +144,12 @@ cast-result-2 : tie.Need-overflow-cast-result-2 invariant-loop decreases-loop
 cast-result-2 c = search rules
 
 returns-2 : tie.Need-returns-2 invariant-loop decreases-loop
-unfolding firstRepeat
+unfolding first_repeat
 returns-2 c =
     let a = c.before.before.before.before.before.before.before.args in
     let l = c.before.loop in
-    sym (ap (λ (k : ℕ). firstFailing (fresh a.nodes.now a.arrows.now a.program.now a.hashes.now) k 0) (sym l.invariant.5)
-    ∙ none-failed (fresh a.nodes.now a.arrows.now a.program.now a.hashes.now) c.before.before.judged.result l.i
+    sym (ap (λ (k : ℕ). first_failing (fresh a.nodes.now a.arrows.now a.program.now a.hashes.now) k 0) (sym l.invariant.5)
+    ∙ none_failed (fresh a.nodes.now a.arrows.now a.program.now a.hashes.now) c.before.before.judged.result l.i
     (omega (arith, c.loop-test.false)) l.invariant.0)
 
 pub first-repeat-spec : {M : Type 1} → statement M

@@ -2,11 +2,11 @@
 use mathlib.Core.Path.{sym, ap, ◌∙◌}
 use Prim.Native.Nat.{◌+◌, ◌*◌, ◌%◌}
 use native.Mathlib.Omega.{arith}
-use Rattle.report.specs.Bits.{numberFrom}
+use Rattle.report.specs.Bits.{number_from}
 use Rattle.scope.specs.Nodes.{kind_of}
-use Rattle.equal.specs.Keys.{keyFrom}
-use Rattle.equal.specs.Buckets.{buckets, keyNumber}
-use Rattle.equal.proofs.KindKeys.{two-key, one_key, as-kind}
+use Rattle.equal.specs.Keys.{key_from}
+use Rattle.equal.specs.Buckets.{buckets, key_number}
+use Rattle.equal.proofs.KindKeys.{two_key, one_key, as_kind}
 use borrow.Author.Rules.{rules}
 use Rattle.equal.proofs.key_number.Statement.{statement}
 use Rattle.equal.proofs.key_number.Tie as tie
@@ -18,10 +18,10 @@ returns : tie.Need-returns
 returns c = search rules
 
 returns-2 : tie.Need-returns-2
-unfolding keyNumber keyFrom kind_of numberFrom
+unfolding key_number key_from kind_of number_from
 returns-2 c =
-    ap keyNumber
-    (as-kind c.before.before.before.before.before.before.args.program.now
+    ap key_number
+    (as_kind c.before.before.before.before.before.before.args.program.now
     c.before.before.before.before.before.before.args.hashes.now
     c.before.before.before.before.before.before.args.r.first c.before.before.before.before.before.before.args.r.second
     c.before.before.before.before.before.before.args.r.kind 3 c.if2.true)
@@ -48,22 +48,22 @@ add-result : tie.Need-overflow-add-result
 add-result c = search rules
 
 returns-3 : tie.Need-returns-3
-unfolding keyNumber numberFrom
+unfolding key_number number_from
 returns-3 c =
     (λ i. ((c.before.before.before.before.place.ensures.0 i * 2 + c.before.before.before.place2.ensures.0 i) * 2
     + c.place3.ensures.0 i) % buckets)
-    ∙ ap keyNumber (sym (two-key c.before.before.before.before.before.before.before.before.before.before.before.args.program.now
+    ∙ ap key_number (sym (two_key c.before.before.before.before.before.before.before.before.before.before.before.args.program.now
     c.before.before.before.before.before.before.before.before.before.before.before.args.hashes.now
     c.before.before.before.before.before.before.before.before.before.before.before.args.r.first
     c.before.before.before.before.before.before.before.before.before.before.before.args.r.second
     c.before.before.before.before.before.before.before.before.before.before.before.args.r.kind c.before.if3.true))
 
 returns-4 : tie.Need-returns-4
-unfolding keyNumber numberFrom
+unfolding key_number number_from
 returns-4 c =
     let less = c.before.before.before.before.if2.false in
     (λ i. (c.before.before.before.place.ensures.0 i * 2 + c.before.before.place2.ensures.0 i) % buckets)
-    ∙ ap keyNumber (sym (one_key c.before.before.before.before.before.before.before.before.before.before.args.program.now
+    ∙ ap key_number (sym (one_key c.before.before.before.before.before.before.before.before.before.before.args.program.now
     c.before.before.before.before.before.before.before.before.before.before.args.hashes.now
     c.before.before.before.before.before.before.before.before.before.before.args.r.first
     c.before.before.before.before.before.before.before.before.before.before.args.r.second

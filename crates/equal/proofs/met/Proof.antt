@@ -2,7 +2,7 @@
 use mathlib.Core.Path.{sym, ◌∙◌}
 use Prim.Native.Nat.{◌-◌}
 use native.Mathlib.Omega.{arith}
-use Rattle.equal.proofs.Chains.{Searched, search-starts, search-finds, search-goes-on, search-ends}
+use Rattle.equal.proofs.Chains.{Searched, search_starts, search_finds, search_goes_on, search_ends}
 use borrow.Author.Rules.{rules}
 use Rattle.equal.proofs.met.Statement.{statement}
 use Rattle.equal.proofs.met.Tie as tie
@@ -18,7 +18,7 @@ decreases-loop nodes arrows program hashes before i last m₀ m =
 loop-holds : tie.Need-loop-init invariant-loop decreases-loop
 loop-holds c =
     let a = c.before.before.before.before.before.args in
-    search-starts a.nodes.now a.arrows.now a.program.now a.hashes.now a.i a.last c.before.before.before.before.before.requires.3
+    search_starts a.nodes.now a.arrows.now a.program.now a.hashes.now a.i a.last c.before.before.before.before.before.requires.3
 
 sub-equal : tie.Need-overflow-sub-equal invariant-loop decreases-loop
 sub-equal c = search rules
@@ -30,7 +30,7 @@ returns : tie.Need-returns invariant-loop decreases-loop
 returns c =
     let a = c.before.before.before.before.before.before.before.before.before.args in
     let l = c.before.before.before.loop in
-    search-finds a.nodes.now a.arrows.now a.program.now a.hashes.now a.i l.m l.invariant
+    search_finds a.nodes.now a.arrows.now a.program.now a.hashes.now a.i l.m l.invariant
     c.before.before.loop-test.true (sym c.before.equal.ensures ∙ c.if1.true)
 
 sub-m : tie.Need-overflow-sub-m invariant-loop decreases-loop
@@ -49,7 +49,7 @@ loop-less : tie.Need-loop-smaller invariant-loop decreases-loop
 loop-less c =
     let a = c.before.before.before.before.before.before.before.before.before.before.args in
     let l = c.before.before.before.before.loop in
-    (search-goes-on a.nodes.now a.arrows.now a.program.now a.hashes.now a.i l.m a.before.now l.invariant
+    (search_goes_on a.nodes.now a.arrows.now a.program.now a.hashes.now a.i l.m a.before.now l.invariant
     c.before.before.before.loop-test.true c.before.before.before.before.before.before.before.before.before.before.requires.1
     c.before.before.before.before.before.before.before.before.before.before.requires.2
     (sym c.before.before.equal.ensures ∙ c.before.if1.false)).0
@@ -58,7 +58,7 @@ loop-again : tie.Need-loop-preserved invariant-loop decreases-loop
 loop-again c =
     let a = c.before.before.before.before.before.before.before.before.before.before.args in
     let l = c.before.before.before.before.loop in
-    (search-goes-on a.nodes.now a.arrows.now a.program.now a.hashes.now a.i l.m a.before.now l.invariant
+    (search_goes_on a.nodes.now a.arrows.now a.program.now a.hashes.now a.i l.m a.before.now l.invariant
     c.before.before.before.loop-test.true c.before.before.before.before.before.before.before.before.before.before.requires.1
     c.before.before.before.before.before.before.before.before.before.before.requires.2
     (sym c.before.before.equal.ensures ∙ c.before.if1.false)).1
@@ -67,7 +67,7 @@ returns-2 : tie.Need-returns-2 invariant-loop decreases-loop
 returns-2 c =
     let a = c.before.before.before.before.before.before.before.args in
     let l = c.before.loop in
-    search-ends a.nodes.now a.arrows.now a.program.now a.hashes.now a.i l.m l.invariant (omega (arith, c.loop-test.false))
+    search_ends a.nodes.now a.arrows.now a.program.now a.hashes.now a.i l.m l.invariant (omega (arith, c.loop-test.false))
 
 pub met-spec : {M : Type 1} → statement M
 met-spec =

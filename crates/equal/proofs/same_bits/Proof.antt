@@ -2,7 +2,7 @@
 use mathlib.Core.Path.{◌≡◌, sym, ◌∙◌}
 use Prim.Native.Nat.{◌+◌, ◌-◌, ◌^◌, ◌≤◌, ◌<◌}
 use native.Mathlib.Omega.{arith}
-use Rattle.equal.proofs.Digits.{runs, same-starts, same_turn, same-by-eight, unlike-by-eight, same-by-one, unlike-by-one, same_ends}
+use Rattle.equal.proofs.Digits.{runs, same_starts, same_turn, same_by_eight, unlike_by_eight, same_by_one, unlike_by_one, same_ends}
 use borrow.Author.Rules.{rules}
 use Rattle.equal.proofs.same_bits.Statement.{statement}
 use Rattle.equal.proofs.same_bits.Tie as tie
@@ -18,7 +18,7 @@ decreases-loop s p q n k₀ k =
 loop-holds : tie.Need-loop-init invariant-loop decreases-loop
 loop-holds c =
     let a = c.before.args in
-    (same-starts a.s.now a.p a.q a.n, omega arith, c.before.requires.0, c.before.requires.1)
+    (same_starts a.s.now a.p a.q a.n, omega arith, c.before.requires.0, c.before.requires.1)
 
 add-read-eight : tie.Need-overflow-add-read-eight invariant-loop decreases-loop
 add-read-eight c = search rules
@@ -38,7 +38,7 @@ sub-if1 c = search rules
 returns : tie.Need-returns invariant-loop decreases-loop
 returns c =
     let l = c.before.before.before.before.before.loop in
-    sym (l.invariant.0 ∙ unlike-by-eight c.before.before.before.before.before.before.before.args.s.now
+    sym (l.invariant.0 ∙ unlike_by_eight c.before.before.before.before.before.before.before.args.s.now
     (c.before.before.before.before.before.before.before.args.p + l.k)
     (c.before.before.before.before.before.before.before.args.q + l.k)
     (c.before.before.before.before.before.before.before.args.n - l.k) c.before.before.before.read-eight.result
@@ -56,7 +56,7 @@ loop-again : tie.Need-loop-preserved invariant-loop decreases-loop
 loop-again c =
     let l = c.before.before.before.before.before.loop in (
       l.invariant.0
-          ∙ same-by-eight c.before.before.before.before.before.before.before.args.s.now
+          ∙ same_by_eight c.before.before.before.before.before.before.before.args.s.now
           (c.before.before.before.before.before.before.before.args.p + l.k)
           (c.before.before.before.before.before.before.before.args.q + l.k)
           (c.before.before.before.before.before.before.before.args.n - l.k) c.before.before.before.read-eight.result
@@ -75,7 +75,7 @@ loop-again c =
 returns-2 : tie.Need-returns-2 invariant-loop decreases-loop
 returns-2 c =
     let l = c.before.before.before.before.before.loop in
-    sym (l.invariant.0 ∙ unlike-by-one c.before.before.before.before.before.before.before.args.s.now
+    sym (l.invariant.0 ∙ unlike_by_one c.before.before.before.before.before.before.before.args.s.now
     (c.before.before.before.before.before.before.before.args.p + l.k)
     (c.before.before.before.before.before.before.before.args.q + l.k)
     (c.before.before.before.before.before.before.before.args.n - l.k) c.before.before.before.read-eight.result
@@ -93,7 +93,7 @@ loop-again-2 : tie.Need-loop-preserved-2 invariant-loop decreases-loop
 loop-again-2 c =
     let l = c.before.before.before.before.before.loop in (
       l.invariant.0
-          ∙ same-by-one c.before.before.before.before.before.before.before.args.s.now
+          ∙ same_by_one c.before.before.before.before.before.before.before.args.s.now
           (c.before.before.before.before.before.before.before.args.p + l.k)
           (c.before.before.before.before.before.before.before.args.q + l.k)
           (c.before.before.before.before.before.before.before.args.n - l.k) c.before.before.before.read-eight.result

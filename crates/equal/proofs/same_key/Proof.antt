@@ -4,10 +4,10 @@ use mathlib.Core.List.{List}
 use Prim.Native.Nat.{ℕ}
 use native.Mathlib.Omega.{arith}
 use Rattle.scope.specs.Nodes.{kind_of}
-use Rattle.scope.specs.Equal.{sameKey}
-use Rattle.table.specs.Answers.{recordOf}
-use Rattle.equal.specs.Keys.{keyFrom, recordKey}
-use Rattle.equal.proofs.KindKeys.{as-kind, kinds-apart, first-unlike, two-alike, one_alike}
+use Rattle.scope.specs.Equal.{same_key}
+use Rattle.table.specs.Answers.{record_of}
+use Rattle.equal.specs.Keys.{key_from, record_key}
+use Rattle.equal.proofs.KindKeys.{as_kind, kinds_apart, first_unlike, two_alike, one_alike}
 use borrow.Author.Rules.{rules}
 use Rattle.equal.proofs.same_key.Statement.{statement}
 use Rattle.equal.proofs.same_key.Tie as tie
@@ -16,7 +16,7 @@ returns : tie.Need-returns
 returns c =
     let r = c.before.before.before.before.before.args.r in
     let s = c.before.before.before.before.before.args.s in
-    kinds-apart c.before.before.before.before.before.args.program.now c.before.before.before.before.before.args.hashes.now
+    kinds_apart c.before.before.before.before.before.args.program.now c.before.before.before.before.before.args.hashes.now
     r.kind r.first r.second s.kind s.first s.second c.if1.true
 
 same-leaf-requires : tie.Need-same-leaf-requires
@@ -26,12 +26,12 @@ returns-2 : tie.Need-returns-2
 returns-2 c = search rules
 
 returns-3 : tie.Need-returns-3
-unfolding sameKey keyFrom kind_of
+unfolding same_key key_from kind_of
 returns-3 c =
-    ap (λ (xs : List ℕ). sameKey xs (recordKey c.before.before.before.before.before.before.before.before.before.args.program.now
+    ap (λ (xs : List ℕ). same_key xs (record_key c.before.before.before.before.before.before.before.before.before.args.program.now
     c.before.before.before.before.before.before.before.before.before.args.hashes.now
-    (recordOf c.before.before.before.before.before.before.before.before.before.args.s)))
-    (as-kind c.before.before.before.before.before.before.before.before.before.args.program.now
+    (record_of c.before.before.before.before.before.before.before.before.before.args.s)))
+    (as_kind c.before.before.before.before.before.before.before.before.before.args.program.now
     c.before.before.before.before.before.before.before.before.before.args.hashes.now
     c.before.before.before.before.before.before.before.before.before.args.r.first
     c.before.before.before.before.before.before.before.before.before.args.r.second
@@ -39,7 +39,7 @@ returns-3 c =
 
 returns-4 : tie.Need-returns-4
 returns-4 c =
-    first-unlike c.before.before.before.before.before.before.before.before.before.before.before.before.args.program.now
+    first_unlike c.before.before.before.before.before.before.before.before.before.before.before.before.args.program.now
     c.before.before.before.before.before.before.before.before.before.before.before.before.args.hashes.now
     c.before.before.before.before.before.before.before.before.before.before.before.before.args.r.kind
     c.before.before.before.before.before.before.before.before.before.before.before.before.args.r.first
@@ -47,11 +47,11 @@ returns-4 c =
     c.before.before.before.before.before.before.before.before.before.before.before.before.args.s.first
     c.before.before.before.before.before.before.before.before.before.before.before.before.args.s.second
     (omega (arith, c.before.before.before.before.before.if2.false)) c.before.before.before.if3.false c.if4.true
-    ∙ ap (λ (n : ℕ). sameKey
-    (recordKey c.before.before.before.before.before.before.before.before.before.before.before.before.args.program.now
+    ∙ ap (λ (n : ℕ). same_key
+    (record_key c.before.before.before.before.before.before.before.before.before.before.before.before.args.program.now
     c.before.before.before.before.before.before.before.before.before.before.before.before.args.hashes.now
-    (recordOf c.before.before.before.before.before.before.before.before.before.before.before.before.args.r))
-    (keyFrom c.before.before.before.before.before.before.before.before.before.before.before.before.args.program.now
+    (record_of c.before.before.before.before.before.before.before.before.before.before.before.before.args.r))
+    (key_from c.before.before.before.before.before.before.before.before.before.before.before.before.args.program.now
     c.before.before.before.before.before.before.before.before.before.before.before.before.args.hashes.now (kind_of n)
     c.before.before.before.before.before.before.before.before.before.before.before.before.args.s.first
     c.before.before.before.before.before.before.before.before.before.before.before.before.args.s.second))
@@ -59,7 +59,7 @@ returns-4 c =
 
 returns-5 : tie.Need-returns-5
 returns-5 c =
-    two-alike
+    two_alike
     c.before.before.before.before.before.before.before.before.before.before.before.before.before.before.before.before.args.program.now
     c.before.before.before.before.before.before.before.before.before.before.before.before.before.before.before.before.args.hashes.now
     c.before.before.before.before.before.before.before.before.before.before.before.before.before.before.before.before.args.r.kind
@@ -68,11 +68,11 @@ returns-5 c =
     c.before.before.before.before.before.before.before.before.before.before.before.before.before.before.before.before.args.s.first
     c.before.before.before.before.before.before.before.before.before.before.before.before.before.before.before.before.args.s.second
     c.before.before.if5.true c.before.before.before.before.if4.false
-    ∙ ap (λ (n : ℕ). sameKey (recordKey
+    ∙ ap (λ (n : ℕ). same_key (record_key
     c.before.before.before.before.before.before.before.before.before.before.before.before.before.before.before.before.args.program.now
     c.before.before.before.before.before.before.before.before.before.before.before.before.before.before.before.before.args.hashes.now
-    (recordOf c.before.before.before.before.before.before.before.before.before.before.before.before.before.before.before.before.args.r))
-    (keyFrom
+    (record_of c.before.before.before.before.before.before.before.before.before.before.before.before.before.before.before.before.args.r))
+    (key_from
     c.before.before.before.before.before.before.before.before.before.before.before.before.before.before.before.before.args.program.now
     c.before.before.before.before.before.before.before.before.before.before.before.before.before.before.before.before.args.hashes.now
     (kind_of n)
@@ -91,11 +91,11 @@ returns-6 c =
     c.before.before.before.before.before.before.before.before.before.before.before.before.before.before.args.s.first
     c.before.before.before.before.before.before.before.before.before.before.before.before.before.before.args.s.second
     (omega (arith, less, c.if5.false)) (omega (arith, c.before.before.before.before.before.before.before.if2.false)) c.before.before.if4.false
-    ∙ ap (λ (n : ℕ). sameKey (recordKey
+    ∙ ap (λ (n : ℕ). same_key (record_key
     c.before.before.before.before.before.before.before.before.before.before.before.before.before.before.args.program.now
     c.before.before.before.before.before.before.before.before.before.before.before.before.before.before.args.hashes.now
-    (recordOf c.before.before.before.before.before.before.before.before.before.before.before.before.before.before.args.r))
-    (keyFrom c.before.before.before.before.before.before.before.before.before.before.before.before.before.before.args.program.now
+    (record_of c.before.before.before.before.before.before.before.before.before.before.before.before.before.before.args.r))
+    (key_from c.before.before.before.before.before.before.before.before.before.before.before.before.before.before.args.program.now
     c.before.before.before.before.before.before.before.before.before.before.before.before.before.before.args.hashes.now
     (kind_of n) c.before.before.before.before.before.before.before.before.before.before.before.before.before.before.args.s.first
     c.before.before.before.before.before.before.before.before.before.before.before.before.before.before.args.s.second))

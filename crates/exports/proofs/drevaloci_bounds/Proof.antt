@@ -1,5 +1,5 @@
 -- `exports::drevaloci_bounds` meets its contract, by what the call that it wraps promises.
-use Rattle.exports.proofs.Told.{bounds-told, unbounded-told}
+use Rattle.exports.proofs.Told.{bounds_told, unbounded_told}
 use mathlib.Core.Path.{◌≡◌, refl, sym, ap, ◌∙◌}
 use borrow.Author.Rules.{rules}
 use Rattle.exports.proofs.drevaloci_bounds.Statement.{statement}
@@ -26,11 +26,11 @@ number-requires : tie.Need-number-requires
 number-requires c κs = search rules
 
 returns : tie.Need-returns
-returns c = bounds-told c.before.before.before.bounds-stage.result _ c.before.before.before.bounds-stage.ensures _ _ _ c.before.said.given.1
+returns c = bounds_told c.before.before.before.bounds-stage.result _ c.before.before.before.bounds-stage.ensures _ _ _ c.before.said.given.1
 
 returns-2 : tie.Need-returns-2
 returns-2 c =
-    unbounded-told c.before.before.before.before.before.bounds-stage.result _
+    unbounded_told c.before.before.before.before.before.bounds-stage.result _
     c.before.before.before.before.before.bounds-stage.ensures _ c.before.before.before.said2.given.1 _ _
     c.number.ensures c.before.place.ensures
 

@@ -1,5 +1,5 @@
 -- `exports::drevaloci_decode` meets its contract, by what the call that it wraps promises.
-use Rattle.exports.proofs.Told.{table-told, refusal-told}
+use Rattle.exports.proofs.Told.{table_told, refusal_told}
 use mathlib.Core.Path.{◌≡◌, refl, sym, ap, ◌∙◌}
 use borrow.Author.Rules.{rules}
 use Rattle.exports.proofs.drevaloci_decode.Statement.{statement}
@@ -33,7 +33,7 @@ same-length-2 c = search rules
 
 returns : tie.Need-returns
 returns c =
-    table-told c.before.before.before.before.before.before.before.decode.result _ _ _ _ _
+    table_told c.before.before.before.before.before.before.before.decode.result _ _ _ _ _
     c.before.before.before.before.before.before.before.decode.ensures c.before.said.given.0.0 c.before.said.given.1
 
 same-length-3 : tie.Need-same-length-3
@@ -45,7 +45,7 @@ same-length-4 c = search rules
 returns-2 : tie.Need-returns-2
 returns-2 c =
     let decode-Call = c.before.before.before.before.before.before.before.before.before.decode in
-    refusal-told decode-Call.result _ _ _ _ _ decode-Call.ensures _ c.before.before.before.said2.given.1 _ _
+    refusal_told decode-Call.result _ _ _ _ _ decode-Call.ensures _ c.before.before.before.said2.given.1 _ _
     c.number.ensures c.before.place.ensures
 
 pub drevaloci-decode-spec : {M : Type 1} → statement M

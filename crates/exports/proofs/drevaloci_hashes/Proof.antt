@@ -1,5 +1,5 @@
 -- `exports::drevaloci_hashes` meets its contract, by what the call that it wraps promises.
-use Rattle.exports.proofs.Told.{check-told}
+use Rattle.exports.proofs.Told.{check_told}
 use mathlib.Core.Path.{◌≡◌, refl, sym, ap, ◌∙◌}
 use borrow.Author.Rules.{rules}
 use Rattle.exports.proofs.drevaloci_hashes.Statement.{statement}
@@ -24,7 +24,7 @@ answer-code-requires c κs = search rules
 
 returns : tie.Need-returns
 returns c =
-    check-told c.before.before.before.hash-stage.result _ c.before.before.before.hash-stage.ensures
+    check_told c.before.before.before.hash-stage.result _ c.before.before.before.hash-stage.ensures
     c.before.before.answer-of.result c.before.before.answer-of.ensures _ _ c.answer-code.ensures c.before.answer-told.ensures
 
 pub drevaloci-hashes-spec : {M : Type 1} → statement M

@@ -1,5 +1,5 @@
 -- `exports::drevaloci_run` meets its contract, by what the call that it wraps promises.
-use Rattle.exports.proofs.Told.{job-told}
+use Rattle.exports.proofs.Told.{job_told}
 use mathlib.Core.Path.{◌≡◌, refl, sym, ap, ◌∙◌}
 use borrow.Author.Rules.{rules}
 use Rattle.exports.proofs.drevaloci_run.Statement.{statement}
@@ -37,7 +37,7 @@ same-length-5 c = search rules
 returns : tie.Need-returns
 returns c =
     let run_call = c.before.before.before.before.before.before.before.before.before.before.before.before.run in
-    job-told _ run_call.result _ _ _ _ _ run_call.ensures _ _ c.answer-code.ensures c.before.answer-told.ensures
+    job_told _ run_call.result _ _ _ _ _ run_call.ensures _ _ c.answer-code.ensures c.before.answer-told.ensures
 
 pub drevaloci-run-spec : {M : Type 1} → statement M
 drevaloci-run-spec =

@@ -1,5 +1,5 @@
 -- `exports::drevaloci_run_tables` meets its contract, by what the call that it wraps promises.
-use Rattle.exports.proofs.Told.{stage-told}
+use Rattle.exports.proofs.Told.{stage_told}
 use mathlib.Core.Path.{◌≡◌, refl, sym, ap, ◌∙◌}
 use borrow.Author.Rules.{rules}
 use Rattle.exports.proofs.drevaloci_run_tables.Statement.{statement}
@@ -30,7 +30,7 @@ same-length-3 c = search rules
 
 returns : tie.Need-returns
 returns c =
-    stage-told _ c.before.before.before.before.before.before.before.before.run-stage.result _ _ _
+    stage_told _ c.before.before.before.before.before.before.before.before.run-stage.result _ _ _
     c.before.before.before.before.before.before.before.before.run-stage.ensures _ _ c.answer-code.ensures
     c.before.answer-told.ensures
 

@@ -1,5 +1,5 @@
 -- `exports::drevaloci_walk` meets its contract, by what the call that it wraps promises.
-use Rattle.exports.proofs.Told.{check-told}
+use Rattle.exports.proofs.Told.{check_told}
 use mathlib.Core.Path.{◌≡◌, refl, sym, ap, ◌∙◌}
 use borrow.Author.Rules.{rules}
 use Rattle.exports.proofs.drevaloci_walk.Statement.{statement}
@@ -23,7 +23,7 @@ answer-code-requires : tie.Need-answer-code-requires
 answer-code-requires c κs = search rules
 
 returns : tie.Need-returns
-returns c = check-told c.before.before.before.walk-stage.result _ c.before.before.before.walk-stage.ensures
+returns c = check_told c.before.before.before.walk-stage.result _ c.before.before.before.walk-stage.ensures
     c.before.before.answer-of.result c.before.before.answer-of.ensures _ _ c.answer-code.ensures c.before.answer-told.ensures
 
 pub drevaloci-walk-spec : {M : Type 1} → statement M

@@ -41,7 +41,7 @@ use denote.Triple.Walked.{says, Stays, stay_ref, stay_none, walk_of, Goes-none, 
 use denote.Exit.{yes}
 use Rattle.frame.specs.declared.Frame.{Frame}
 use Rattle.frame.proofs.Moves.{moved_back}
-use Rattle.frame.proofs.InPlace.{machineValue, withCursor, cursor-fits, cursor-made}
+use Rattle.frame.proofs.InPlace.{machine_value, with_cursor, cursor_fits, cursor_made}
 use Rattle.frame.specs.contracts.Frame as T
 use Rattle.frame.proofs.Frame.TheLaws as T'
 use Rattle.frame.specs.contracts.cursor_back as callee
@@ -90,11 +90,11 @@ module _ {M : Type 1} {𝓤 : Ura M} (𝓛 : Logic 𝓤) (at_mem : Memory → SP
   said r = ex_e 𝓤 _ (λ ws. snd∗ 𝓤 (sem 𝓛 (lasts callee.ended tt (h.cursor, (n, tt)) ws)) (fact 𝓤 (Said r)))
 
   exits : n < 2 ^ 32 → (r : ℕ) → Said r → ent 𝓤
-      (sep 𝓤 (A.obs γ ((T.the_row).coded.code (withCursor r h))) (sep 𝓤 (A.bor κ (Body (mem T.the_row) b o γ)) (A.lft κ q))) (Post vunit)
+      (sep 𝓤 (A.obs γ ((T.the_row).coded.code (with_cursor r h))) (sep 𝓤 (A.bor κ (Body (mem T.the_row) b o γ)) (A.lft κ q))) (Post vunit)
   exits fits r e =
-      qed 𝓛 (‵ (fobs γ ((T.the_row).coded.code (withCursor r h))) ∷ ‵ (fbor κ (Body (mem T.the_row) b o γ)) ∷ ‵ (flft κ q) ∷ []) ∵
+      qed 𝓛 (‵ (fobs γ ((T.the_row).coded.code (with_cursor r h))) ∷ ‵ (fbor κ (Body (mem T.the_row) b o γ)) ∷ ‵ (flft κ q) ∷ []) ∵
       suffices ! _ (ends_at 𝓛 f.ended stayed (f.clauses 𝓛 at_mem run) (((κ, tt), (q, tt), tt, x, at), tt) vunit tt
-      (withCursor r h, (tt, tt)) (tt, (tt, tt))) $ says ! (moved_back h n r e) $ nothing ! $ move ! (3 ∷ 0 ∷ []) $ join ! $
+      (with_cursor r h, (tt, tt)) (tt, (tt, tt))) $ says ! (moved_back h n r e) $ nothing ! $ move ! (3 ∷ 0 ∷ []) $ join ! $
       frame ! $ feq_i ! (List Val) (vptr b o ∷ []) (vptr b o ∷ []) refl $ fjoin3 ! $ nothing ! $
       owned ! u32 (Is u32) (uint_Makes 𝓛 w32) n _ (refl, fits) $ fjoin ! $ move ! (1 ∷ 0 ∷ []) $ fjoin ! $
       feq_i ! (List Val) (vunit ∷ []) (vunit ∷ []) refl $ move ! (1 ∷ 0 ∷ []) $ done !
@@ -113,8 +113,8 @@ module _ {M : Type 1} {𝓤 : Ura M} (𝓛 : Logic 𝓤) (at_mem : Memory → SP
         move ! (1 ∷ []) $ peeks ! T.the_row (Is T.the_row) (shows 𝓛 T.the_row) h (LL.vals T.the_type T'.the_laws h) (λ was. move ! (1 ∷ 0 ∷ []) $
         -- [the struct's cell; what a Frame owns; the open borrow; obs; auth; true; n's; _4; …; _3; …; _2; …; _1; …; room for _0; …]
         assigns ! (of_opd ! (load ! (from ! (hop ! (look ! 13 refl) (fld ! refl (stop !)))) (look_in ! 0 (sub ! 0 refl (whole !)))))
-        (from ! (stop !)) (init ! 7 refl (tt, record { fits = cursor-fits h was })) $
-        use0 𝓛 (raw ((Callee 𝓛 at_mem run).pre to-callee)) (goes gn (cursor-fits h was)) $
+        (from ! (stop !)) (init ! 7 refl (tt, record { fits = cursor_fits h was })) $
+        use0 𝓛 (raw ((Callee 𝓛 at_mem run).pre to-callee)) (goes gn (cursor_fits h was)) $
         calls_at ! fm (Callee 𝓛 at_mem run) known to-callee
         (and_then ! (load ! (from ! (stop !)) (look ! 8 refl)) (and_then ! (load ! (from ! (stop !)) (look ! 12 refl)) (no_more !))) (λ v.
         use1 𝓛 (later (some (λ (r : ℕ). (‵ ftrue ⊛ ‵ (u32.own_val r (v ∷ [])))
@@ -128,8 +128,8 @@ module _ {M : Type 1} {𝓤 : Ura M} (𝓛 : Logic 𝓤) (at_mem : Memory → SP
         (store_in ! 0 (sub ! 0 refl (whole !)) (tt, record { fits = is.1 })) $
         assigns ! (of_opd ! (unit_lit !)) (from ! (stop !)) (init ! 15 refl (tt, tt)) $
         move ! (1 ∷ []) $ drop ! $
-        owned ! T.the_row (Is T.the_row) ((LL.makes T.the_type T'.the_plain) 𝓛) (withCursor r h) _ (cursor-made h was r is.1) $
-        move ! (1 ∷ 0 ∷ []) $ closes ! tt T.the_row (withCursor r h) (machineValue (withCursor r h) ∷ []) b o $
+        owned ! T.the_row (Is T.the_row) ((LL.makes T.the_type T'.the_plain) 𝓛) (with_cursor r h) _ (cursor_made h was r is.1) $
+        move ! (1 ∷ 0 ∷ []) $ closes ! tt T.the_row (with_cursor r h) (machine_value (with_cursor r h) ∷ []) b o $
         returns ! (look ! 13 refl) $ forget ! 5 refl $ forget ! 7 refl $ forget ! 9 refl $ forget ! 11 refl $ forget ! 13 refl $
         move ! (13 ∷ 14 ∷ []) $ free1 ! $ move ! (11 ∷ 12 ∷ []) $ free1 ! $ move ! (9 ∷ 10 ∷ []) $ free1 ! $ move ! (7 ∷ 8 ∷ []) $ free1 ! $
         move ! (5 ∷ 6 ∷ []) $ free1 ! $ free0 ! $ keep ! (0 ∷ 1 ∷ 2 ∷ []) $ by ! (exits gn r e))))))))))))

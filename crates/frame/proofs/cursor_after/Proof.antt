@@ -43,10 +43,10 @@ use denote.Triple.Walked.{says, Stays, stay_none, walk_of, Goes-none, Walks, end
 use denote.Exit.{yes}
 use lib.Dec.{T as Holds}
 use Rattle.scope.specs.Machine as Machine
-use Rattle.scope.specs.Machine.{frameFrom}
+use Rattle.scope.specs.Machine.{frame_from}
 use Rattle.frame.specs.Cursor.{frame_of, held}
 use Rattle.frame.specs.declared.Frame.{Frame}
-use Rattle.frame.proofs.InPlace.{machineValue, cursor-fits}
+use Rattle.frame.proofs.InPlace.{machine_value, cursor_fits}
 use Rattle.frame.specs.contracts.Frame as T
 use Rattle.frame.proofs.Frame.TheLaws as T'
 use Rattle.frame.specs.contracts.Frame.new as new
@@ -91,12 +91,12 @@ module _ {M : Type 1} {𝓤 : Ura M} (𝓛 : Logic 𝓤) where
       fjoin ! $ fpack ! (List Val) (λ vs. fsep (cell_at full_share (T.the_row).mir vs l 0) ((T.the_row).own_val h vs)) (v ∷ []) $ done !
 
   lies_out : (h : Frame) (l : ℕ) → ent 𝓤 (sem 𝓛 (part_at T.the_row full_share h l 0))
-      (sep 𝓤 (sem 𝓛 (fat full_share T'.mir l 0 (machineValue h))) (sem 𝓛 ((T.the_row).own_val h (machineValue h ∷ []))))
+      (sep 𝓤 (sem 𝓛 (fat full_share T'.mir l 0 (machine_value h))) (sem 𝓛 ((T.the_row).own_val h (machine_value h ∷ []))))
   unfolding part_of
   lies_out h l =
       qed 𝓛 (‵ (part_at T.the_row full_share h l 0) ∷ []) ∵ fpick ! (λ vs. fsplit ! $
       spelt ! T.the_row (Is T.the_row) (shows 𝓛 T.the_row) (LL.vals T.the_type T'.the_laws) (LL.tells T.the_type T'.the_laws) full_share h vs l 0 $
-      use1 𝓛 (‵ (fat full_share T'.mir l 0 (machineValue h))) (𝓛.laws.raw_at full_share T'.mir l 0 (machineValue h)) $ done !)
+      use1 𝓛 (‵ (fat full_share T'.mir l 0 (machine_value h))) (𝓛.laws.raw_at full_share T'.mir l 0 (machine_value h)) $ done !)
 
   -- a frame that is lent for α under the name δ, with a number: what a move is passed
   abbrev lent : ℕ → GName → Frame → MutBor Frame
@@ -124,7 +124,7 @@ module _ {M : Type 1} {𝓤 : Ura M} (𝓛 : Logic 𝓤) (at_mem : Memory → SP
   Post = (walk_of 𝓛 f.ended stayed (f.clauses 𝓛 at_mem run)).post ((tt, tt, tt, x, at), tt)
 
   abbrev After : Machine.Frame
-  After = Machine.backward back (held (Machine.forward on (frameFrom start len)))
+  After = Machine.backward back (held (Machine.forward on (frame_from start len)))
 
   -- the call of `Frame::new`
   abbrev to-new : (New 𝓛 at_mem run).Ghost
@@ -136,8 +136,8 @@ module _ {M : Type 1} {𝓤 : Ura M} (𝓛 : Logic 𝓤) (at_mem : Memory → SP
       owned ! u32 (Is u32) (uint_Makes 𝓛 w32) start _ (refl, gs) $ fjoin ! $
       nothing ! $ join ! $ frame ! $ done !
 
-  new-said : (r : Frame) → ent 𝓤 (ensured 𝓛 new.ended (new.clauses 𝓛 at_mem run) tt (start, (len, tt)) tt r) (fact 𝓤 (frame_of r ≡ frameFrom start len))
-  new-said r = ex_e 𝓤 _ (λ ws. snd∗ 𝓤 (sem 𝓛 (lasts new.ended tt (start, (len, tt)) ws)) (fact 𝓤 (frame_of r ≡ frameFrom start len)))
+  new-said : (r : Frame) → ent 𝓤 (ensured 𝓛 new.ended (new.clauses 𝓛 at_mem run) tt (start, (len, tt)) tt r) (fact 𝓤 (frame_of r ≡ frame_from start len))
+  new-said r = ex_e 𝓤 _ (λ ws. snd∗ 𝓤 (sem 𝓛 (lasts new.ended tt (start, (len, tt)) ws)) (fact 𝓤 (frame_of r ≡ frame_from start len)))
 
   -- the calls of `forward` and `backward`, at a frame h in the local l that is lent for α under the name δ
   abbrev to-forward : ℕ → ℕ → GName → Frame → (Forward 𝓛 at_mem run).Ghost
@@ -191,8 +191,8 @@ module _ {M : Type 1} {𝓤 : Ura M} (𝓛 : Logic 𝓤) (at_mem : Memory → SP
         (and_then ! (load ! (from ! (stop !)) (look ! 17 refl)) (and_then ! (load ! (from ! (stop !)) (look ! 15 refl)) (no_more !))) (λ v.
         use1 𝓛 (later (some (λ (r : Frame). (‵ ftrue ⊛ ‵ ((T.the_row).own_val r (v ∷ [])))
         ⊛ raw (ensured 𝓛 new.ended (new.clauses 𝓛 at_mem run) tt (start, (len, tt)) tt r)))) (id⊢ 𝓤 _) $ await ! tt $ pick ! (λ r.
-        split ! $ move ! (1 ∷ []) $ use1 𝓛 (raw (fact 𝓤 (frame_of r ≡ frameFrom start len))) (new-said r) $
-        heard ! (frame_of r ≡ frameFrom start len) (λ e. split ! $ drop ! $
+        split ! $ move ! (1 ∷ []) $ use1 𝓛 (raw (fact 𝓤 (frame_of r ≡ frame_from start len))) (new-said r) $
+        heard ! (frame_of r ≡ frame_from start len) (λ e. split ! $ drop ! $
         peeks ! T.the_row (Is T.the_row) (shows 𝓛 T.the_row) r (v ∷ []) (λ is.
         -- [what the frame owns; _9; …; _8; …; _7; …; _6; …; _5; …; _4; …; _3; …; _2; …; _1; …; room for _0; …]
         land ! (from ! (stop !)) (init ! 7 refl ((LL.lawful T.the_type T'.the_laws 𝓛).typed r _ is).0) $
@@ -239,17 +239,17 @@ module _ {M : Type 1} {𝓤 : Ura M} (𝓛 : Logic 𝓤) (at_mem : Memory → SP
         use3 𝓛 (later (‵ (part_at T.the_row full_share t.0 l₅ 0))) (ref_back 𝓛 T.the_row (β ∷ []) ε t.0 l₅ 0) $ await ! tt $
         move ! (1 ∷ []) $ drop ! $
         -- the cursor is read, and the locals end
-        use1 𝓛 (‵ (fat full_share T'.mir l₅ 0 (machineValue t.0)) ⊛ ‵ ((T.the_row).own_val t.0 (machineValue t.0 ∷ [])))
+        use1 𝓛 (‵ (fat full_share T'.mir l₅ 0 (machine_value t.0)) ⊛ ‵ ((T.the_row).own_val t.0 (machine_value t.0 ∷ [])))
         (lies_out 𝓛 t.0 l₅) $ split ! $ move ! (1 ∷ []) $
-        peeks ! T.the_row (Is T.the_row) (shows 𝓛 T.the_row) t.0 (machineValue t.0 ∷ []) (λ left. drop ! $
+        peeks ! T.the_row (Is T.the_row) (shows 𝓛 T.the_row) t.0 (machine_value t.0 ∷ []) (λ left. drop ! $
         assigns ! (of_opd ! (load ! (from ! (fld ! refl (stop !))) (look_in ! 0 (sub ! 0 refl (whole !))))) (from ! (stop !))
-        (init ! 18 refl (tt, record { fits = cursor-fits t.0 left })) $
+        (init ! 18 refl (tt, record { fits = cursor_fits t.0 left })) $
         returns ! (look ! 18 refl) $ forget ! 0 refl $ forget ! 1 refl $ forget ! 3 refl $ forget ! 5 refl $ forget ! 7 refl $
         forget ! 10 refl $ forget ! 12 refl $ forget ! 14 refl $ forget ! 16 refl $ forget ! 18 refl $
         move ! (18 ∷ 19 ∷ []) $ free1 ! $ move ! (16 ∷ 17 ∷ []) $ free1 ! $ move ! (14 ∷ 15 ∷ []) $ free1 ! $ move ! (12 ∷ 13 ∷ []) $
         free1 ! $ move ! (10 ∷ 11 ∷ []) $ free1 ! $ move ! (0 ∷ 9 ∷ []) $ free1 ! $
         move ! (6 ∷ 7 ∷ []) $ free1 ! $ move ! (4 ∷ 5 ∷ []) $ free1 ! $ move ! (2 ∷ 3 ∷ []) $ free1 ! $ move ! (0 ∷ 1 ∷ []) $ free1 ! $ free0 ! $
-        by ! (exits gs gl gn gb t.0.cursor (cursor-fits t.0 left)
+        by ! (exits gs gl gn gb t.0.cursor (cursor_fits t.0 left)
         (ap (λ (g : Machine.Frame). g.cursor)
         (e₂ ∙ ap (Machine.backward back) (e₁ ∙ ap (λ (g : Machine.Frame). held (Machine.forward on g)) e)))))))))))))))))))))))))))))))))
 

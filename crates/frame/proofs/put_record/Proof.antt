@@ -4,14 +4,14 @@ use Prim.Native.Nat.{◌*◌}
 use native.Mathlib.Omega.{arith}
 use lib.ListN.{length-set}
 use borrow.Author.Rules.{rules}
-use Rattle.limits.specs.Limits.{frameNumbers}
+use Rattle.limits.specs.Limits.{frame_numbers}
 use Rattle.frame.specs.Cursor.{frame_of}
-use Rattle.frame.proofs.Records.{numbers-set, put_in, put-past}
+use Rattle.frame.proofs.Records.{numbers_set, put_in, put_past}
 use Rattle.frame.proofs.put_record.Statement.{statement}
 use Rattle.frame.proofs.put_record.Tie as tie
 
 returns : tie.Need-returns
-returns c = put-past _ _ (frame_of c.before.args.f) c.if1.true
+returns c = put_past _ _ (frame_of c.before.args.f) c.if1.true
 
 mul_at : tie.Need-overflow-mul-at
 mul_at c = search rules
@@ -46,7 +46,7 @@ same_length c = search rules
 returns-2 : tie.Need-returns-2
 returns-2 c =
     let args = c.before.args in
-    numbers-set args.frames.now (frameNumbers * args.k) (frame_of args.f) ∙ put_in _ args.k (frame_of args.f) c.if1.false
+    numbers_set args.frames.now (frame_numbers * args.k) (frame_of args.f) ∙ put_in _ args.k (frame_of args.f) c.if1.false
 
 pub put-record-spec : {M : Type 1} → statement M
 put-record-spec =

@@ -1,7 +1,7 @@
 -- `frame::record_at` meets its contract.
 use mathlib.Core.Path.{◌∙◌}
 use borrow.Author.Rules.{rules}
-use Rattle.frame.proofs.Records.{record-in, record-past}
+use Rattle.frame.proofs.Records.{record_in, record_past}
 use Rattle.frame.proofs.record_at.Statement.{statement}
 use Rattle.frame.proofs.record_at.Tie as tie
 
@@ -9,7 +9,7 @@ none-requires : tie.Need-none-requires
 none-requires c κs = search rules
 
 returns : tie.Need-returns
-returns c = c.none.ensures ∙ record-past _ _ c.before.if1.true
+returns c = c.none.ensures ∙ record_past _ _ c.before.if1.true
 
 mul_at : tie.Need-overflow-mul-at
 mul_at c = search rules
@@ -39,7 +39,7 @@ shared-slice-read-t15 : tie.Need-shared-slice-read-t15
 shared-slice-read-t15 c = search rules
 
 returns-2 : tie.Need-returns-2
-returns-2 c = record-in _ _ c.before.before.before.if1.false
+returns-2 c = record_in _ _ c.before.before.before.if1.false
 
 pub record-at-spec : {M : Type 1} → statement M
 record-at-spec =

@@ -33,8 +33,8 @@ use denote.Triple.Spec.{Meets, triple_of}
 use denote.Triple.Table.{entered}
 use denote.Triple.Walked.{says, Stays, stay_ref, walk_of, AllGo, Goes-ref, Walks, ends_at, walked, walk_Meets}
 use Rattle.frame.specs.declared.Frame.{Frame}
-use Rattle.frame.proofs.Moves.{moved-to-start}
-use Rattle.frame.proofs.InPlace.{machineValue, withCursor, start_fits, cursor-made}
+use Rattle.frame.proofs.Moves.{moved_to_start}
+use Rattle.frame.proofs.InPlace.{machine_value, with_cursor, start_fits, cursor_made}
 use Rattle.frame.specs.contracts.Frame as T
 use Rattle.frame.proofs.Frame.TheLaws as T'
 use Rattle.frame.specs.contracts.reset.Key.{name as #reset}
@@ -58,11 +58,11 @@ module _ {M : Type 1} {𝓤 : Ura M} (𝓛 : Logic 𝓤) (at_mem : Memory → SP
   abbrev Post : Val → SProp 𝓤
   Post = (walk_of 𝓛 f.ended stayed (f.clauses 𝓛 at_mem run)).post (((κ, tt), (q, tt), tt, x, at), tt)
 
-  exits : ent 𝓤 (sep 𝓤 (A.obs γ ((T.the_row).coded.code (withCursor h.start h))) (sep 𝓤 (A.bor κ (Body (mem T.the_row) b o γ)) (A.lft κ q))) (Post vunit)
+  exits : ent 𝓤 (sep 𝓤 (A.obs γ ((T.the_row).coded.code (with_cursor h.start h))) (sep 𝓤 (A.bor κ (Body (mem T.the_row) b o γ)) (A.lft κ q))) (Post vunit)
   exits =
-      qed 𝓛 (‵ (fobs γ ((T.the_row).coded.code (withCursor h.start h))) ∷ ‵ (fbor κ (Body (mem T.the_row) b o γ)) ∷ ‵ (flft κ q) ∷ []) ∵
+      qed 𝓛 (‵ (fobs γ ((T.the_row).coded.code (with_cursor h.start h))) ∷ ‵ (fbor κ (Body (mem T.the_row) b o γ)) ∷ ‵ (flft κ q) ∷ []) ∵
       suffices ! _ (ends_at 𝓛 f.ended stayed (f.clauses 𝓛 at_mem run) (((κ, tt), (q, tt), tt, x, at), tt) vunit tt
-      ((withCursor h.start h), tt) (tt, tt)) $ says ! (moved-to-start h) $ nothing ! $ move ! (3 ∷ 0 ∷ []) $ join ! $
+      ((with_cursor h.start h), tt) (tt, tt)) $ says ! (moved_to_start h) $ nothing ! $ move ! (3 ∷ 0 ∷ []) $ join ! $
       frame ! $ feq_i ! (List Val) (vptr b o ∷ []) (vptr b o ∷ []) refl $ fjoin3 ! $ nothing ! $ move ! (1 ∷ 0 ∷ []) $ fjoin ! $
       feq_i ! (List Val) (vunit ∷ []) (vunit ∷ []) refl $ move ! (1 ∷ 0 ∷ []) $ done !
 
@@ -82,9 +82,9 @@ module _ {M : Type 1} {𝓤 : Ura M} (𝓛 : Logic 𝓤) (at_mem : Memory → SP
         assigns ! (of_opd ! (load ! (from ! (stop !)) (look ! 7 refl))) (from ! (hop ! (look ! 9 refl) (fld ! refl (stop !))))
         (store_in ! 0 (sub ! 0 refl (whole !)) (tt, record { fits = start_fits h was })) $
         assigns ! (of_opd ! (unit_lit !)) (from ! (stop !)) (init ! 11 refl (tt, tt)) $
-        move ! (1 ∷ []) $ drop ! $ owned ! T.the_row (Is T.the_row) ((LL.makes T.the_type T'.the_plain) 𝓛) (withCursor h.start h) _
-        (cursor-made h was h.start (start_fits h was)) $ move ! (1 ∷ 0 ∷ []) $
-        closes ! tt T.the_row (withCursor h.start h) (machineValue (withCursor h.start h) ∷ []) b o $
+        move ! (1 ∷ []) $ drop ! $ owned ! T.the_row (Is T.the_row) ((LL.makes T.the_type T'.the_plain) 𝓛) (with_cursor h.start h) _
+        (cursor_made h was h.start (start_fits h was)) $ move ! (1 ∷ 0 ∷ []) $
+        closes ! tt T.the_row (with_cursor h.start h) (machine_value (with_cursor h.start h) ∷ []) b o $
         returns ! (look ! 9 refl) $ forget ! 5 refl $ forget ! 7 refl $ forget ! 9 refl $
         move ! (9 ∷ 10 ∷ []) $ free1 ! $ move ! (7 ∷ 8 ∷ []) $ free1 ! $ move ! (5 ∷ 6 ∷ []) $ free1 ! $ free0 ! $ keep ! (0 ∷ 1 ∷ 2 ∷ []) $ by ! exits)))))
 

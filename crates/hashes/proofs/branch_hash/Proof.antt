@@ -3,11 +3,11 @@ use mathlib.Core.Path.{ap, ◌∙◌}
 use Prim.Native.Nat.{ℕ}
 use lib.ListN.{take, drop}
 use borrow.Author.Rules.{rules}
-use Rattle.limits.specs.Limits.{hashBytes}
+use Rattle.limits.specs.Limits.{hash_bytes}
 use Rattle.promise.specs.Parts.{part_of}
-use Rattle.table.specs.Answers.{recordOf}
-use Rattle.hashes.specs.Branch.{wholePart}
-use Rattle.hashes.proofs.Branch.{part-stored, part-supplied}
+use Rattle.table.specs.Answers.{record_of}
+use Rattle.hashes.specs.Branch.{whole_part}
+use Rattle.hashes.proofs.Branch.{part_stored, part_supplied}
 use Rattle.hashes.proofs.branch_hash.Statement.{statement}
 use Rattle.hashes.proofs.branch_hash.Tie as tie
 
@@ -25,8 +25,8 @@ returns c =
     let a = c.before.before.before.before.before.before.before.before.args in
     let own = c.before.before.before.before.record-in in
     c.hash_at.ensures
-    ∙ ap (λ (at : ℕ). wholePart (part_of a.hashes) at (take hashBytes (drop at a.hashes.now))) c.before.place.ensures.0
-    ∙ part-stored _ _ _ _ (recordOf own.result) own.ensures c.before.before.if1.true
+    ∙ ap (λ (at : ℕ). whole_part (part_of a.hashes) at (take hash_bytes (drop at a.hashes.now))) c.before.place.ensures.0
+    ∙ part_stored _ _ _ _ (record_of own.result) own.ensures c.before.before.if1.true
 
 supplied-requires : tie.Need-supplied-requires
 supplied-requires c κs = search rules
@@ -34,7 +34,7 @@ supplied-requires c κs = search rules
 returns-2 : tie.Need-returns-2
 returns-2 c =
     let own = c.before.before.before.record-in in
-    c.supplied.ensures ∙ part-supplied _ _ _ _ (recordOf own.result) own.ensures c.before.if1.false
+    c.supplied.ensures ∙ part_supplied _ _ _ _ (record_of own.result) own.ensures c.before.if1.false
 
 pub branch-hash-spec : {M : Type 1} → statement M
 branch-hash-spec =

@@ -7,8 +7,8 @@ use Prim.Native.Nat.{ℕ, ◌+◌, ◌-◌, ◌≤◌}
 use native.Mathlib.Omega.{arith}
 use borrow.Author.Rules.{rules}
 use Rattle.promise.specs.Parts.{Part, part_of}
-use Rattle.table.specs.Answers.{recordOf}
-use Rattle.hashes.proofs.Branch.{fromNode, found_here, passed-child, passed-kind, at-end}
+use Rattle.table.specs.Answers.{record_of}
+use Rattle.hashes.proofs.Branch.{from_node, found_here, passed_child, passed_kind, at_end}
 use Rattle.hashes.proofs.supplied.Statement.{statement}
 use Rattle.hashes.proofs.supplied.Tie as tie
 
@@ -18,7 +18,7 @@ lying place bytes = record { place = place; bytes = bytes }
 
 abbrev invariant-loop : tie.invariant-loop
 invariant-loop nodes given j count i₀ e₀ i e =
-    ((place : ℕ × ℕ) → fromNode nodes (lying place given) j 0 0 ≡ fromNode nodes (lying place given) j i e) × (i ≤ count) × (e ≤ i)
+    ((place : ℕ × ℕ) → from_node nodes (lying place given) j 0 0 ≡ from_node nodes (lying place given) j i e) × (i ≤ count) × (e ≤ i)
 
 abbrev decreases-loop : tie.decreases-loop
 decreases-loop nodes given j count i₀ e₀ i e = count - i
@@ -42,7 +42,7 @@ returns c =
     let own = c.before.before.before.before.before.record-in in
     c.entry_at.ensures
     ∙ sym (turn.invariant.0 a.given.ptr
-    ∙ found_here a.nodes.now (part_of a.given) a.j turn.i turn.e (recordOf own.result)
+    ∙ found_here a.nodes.now (part_of a.given) a.j turn.i turn.e (record_of own.result)
     c.before.before.before.before.before.before.loop-test.true own.ensures c.before.before.before.if1.true
     (sym c.before.before.place.ensures.0 ∙ c.before.if2.true))
 
@@ -63,18 +63,18 @@ loop-again c =
     ⊎_elim
     (λ w. (
       λ place. turn.invariant.0 place
-          ∙ passed-child a.nodes.now (lying place a.given.now) a.j turn.i turn.e (recordOf own.result)
+          ∙ passed_child a.nodes.now (lying place a.given.now) a.j turn.i turn.e (record_of own.result)
           c.before.before.before.loop-test.true own.ensures w.0.taken
           (λ q. w.2.left (w.1.ensures.0 ∙ q))
-          ∙ ap (fromNode a.nodes.now (lying place a.given.now) a.j (turn.i + 1)) (sym w.3),
+          ∙ ap (from_node a.nodes.now (lying place a.given.now) a.j (turn.i + 1)) (sym w.3),
       omega arith,
       omega arith,
     ))
     (λ w. (
       λ place. turn.invariant.0 place
-          ∙ passed-kind a.nodes.now (lying place a.given.now) a.j turn.i turn.e (recordOf own.result)
+          ∙ passed_kind a.nodes.now (lying place a.given.now) a.j turn.i turn.e (record_of own.result)
           c.before.before.before.loop-test.true own.ensures w.0.left
-          ∙ ap (fromNode a.nodes.now (lying place a.given.now) a.j (turn.i + 1)) (sym w.1),
+          ∙ ap (from_node a.nodes.now (lying place a.given.now) a.j (turn.i + 1)) (sym w.1),
       omega arith,
       omega arith,
     ))
@@ -87,7 +87,7 @@ returns-2 : tie.Need-returns-2 invariant-loop decreases-loop
 returns-2 c =
     let a = c.before.before.before.before.before.args in
     let turn = c.before.before.loop in
-    c.part.ensures ∙ at-end a.nodes.now (part_of a.given) a.j turn.i turn.e c.before.loop-test.false ∙ sym (turn.invariant.0 a.given.ptr)
+    c.part.ensures ∙ at_end a.nodes.now (part_of a.given) a.j turn.i turn.e c.before.loop-test.false ∙ sym (turn.invariant.0 a.given.ptr)
 
 pub supplied-spec : {M : Type 1} → statement M
 supplied-spec =

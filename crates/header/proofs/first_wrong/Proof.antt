@@ -4,14 +4,14 @@ use mathlib.Core.Path.{◌≡◌, refl, sym, ap, ◌∙◌}
 use Prim.Native.Nat.{◌-◌, ◌≤◌}
 use native.Mathlib.Omega.{arith}
 use borrow.Author.Rules.{rules}
-use Rattle.limits.specs.Limits.{dossierBytes}
+use Rattle.limits.specs.Limits.{dossier_bytes}
 use Rattle.scope.specs.Header.{number, count, size, start}
-use Rattle.header.proofs.Rules.{firstWrong, wrongFrom, version-wrong, version-right, no-types, many-types, next_start, count-wrong, offset-wrong, section-right, total-wrong, end-wrong, total_right}
+use Rattle.header.proofs.Rules.{first_wrong, wrong_from, version_wrong, version_right, no_types, many_types, next_start, count_wrong, offset_wrong, section_right, total_wrong, end_wrong, total_right}
 use Rattle.header.proofs.first_wrong.Statement.{statement}
 use Rattle.header.proofs.first_wrong.Tie as tie
 
 abbrev invariant-loop : tie.invariant-loop
-invariant-loop d types bytes place₀ k₀ place k = (firstWrong d ≡ wrongFrom d k) × (place ≡ start d k) × (place ≤ dossierBytes) × (k ≤ 6)
+invariant-loop d types bytes place₀ k₀ place k = (first_wrong d ≡ wrong_from d k) × (place ≡ start d k) × (place ≤ dossier_bytes) × (k ≤ 6)
 
 abbrev decreases-loop : tie.decreases-loop
 decreases-loop d types bytes place₀ k₀ place k = 6 - k
@@ -22,7 +22,7 @@ number-requires c κs = search rules
 returns : tie.Need-returns invariant-loop decreases-loop
 returns c =
     let d = c.before.before.before.args.dossier.now in
-    sym (version-wrong d (λ e. c.if1.true (c.before.number.ensures ∙ e)))
+    sym (version_wrong d (λ e. c.if1.true (c.before.number.ensures ∙ e)))
 
 count-requires : tie.Need-count-requires invariant-loop decreases-loop
 count-requires c κs = search rules
@@ -33,20 +33,20 @@ cast-types c = search rules
 returns-2 : tie.Need-returns-2 invariant-loop decreases-loop
 returns-2 c =
     let d = c.before.before.before.before.before.args.dossier.now in
-    sym (version-right d (sym c.before.before.before.number.ensures ∙ c.before.before.if1.false)
-    ∙ no-types d (sym c.before.count.ensures ∙ c.if2.true))
+    sym (version_right d (sym c.before.before.before.number.ensures ∙ c.before.before.if1.false)
+    ∙ no_types d (sym c.before.count.ensures ∙ c.if2.true))
 
 returns-3 : tie.Need-returns-3 invariant-loop decreases-loop
 returns-3 c =
     let d = c.before.before.before.before.before.before.args.dossier.now in
-    sym (version-right d (sym c.before.before.before.before.number.ensures ∙ c.before.before.before.if1.false)
-    ∙ many-types d (rw (← c.before.before.count.ensures) c.if3.true))
+    sym (version_right d (sym c.before.before.before.before.number.ensures ∙ c.before.before.before.if1.false)
+    ∙ many_types d (rw (← c.before.before.count.ensures) c.if3.true))
 
 loop-holds : tie.Need-loop-init invariant-loop decreases-loop
 unfolding start
 loop-holds c =
     let d = c.before.before.before.before.before.before.args.dossier.now in
-    (version-right d (sym c.before.before.before.before.number.ensures ∙ c.before.before.before.if1.false), refl, search rules, search rules)
+    (version_right d (sym c.before.before.before.before.number.ensures ∙ c.before.before.before.if1.false), refl, search rules, search rules)
 
 size-requires : tie.Need-size-requires invariant-loop decreases-loop
 size-requires c κs = search rules
@@ -67,7 +67,7 @@ returns-4 c =
     let e : c.before.size.result ≡ size d l.k = c.before.size.ensures.0 in
     let p : l.place ≡ start d l.k = l.invariant.1 in
     let n : c.before.before.before.before.before.before.count.result ≡ count d 0 = c.before.before.before.before.before.before.count.ensures in
-    sym (l.invariant.0 ∙ count-wrong d (omega arith) (omega arith) l.k c.before.before.loop-test.true (omega arith))
+    sym (l.invariant.0 ∙ count_wrong d (omega arith) (omega arith) l.k c.before.before.loop-test.true (omega arith))
 
 mul-number : tie.Need-overflow-mul-number invariant-loop decreases-loop
 mul-number c = search rules
@@ -95,7 +95,7 @@ returns-5 c =
     let p : l.place ≡ start d l.k = l.invariant.1 in
     let n : c.before.before.before.before.before.before.before.before.count.result ≡ count d 0 =
     c.before.before.before.before.before.before.before.before.count.ensures in
-    sym (l.invariant.0 ∙ offset-wrong d (omega arith) (omega arith) l.k c.before.before.before.before.loop-test.true (omega arith)
+    sym (l.invariant.0 ∙ offset_wrong d (omega arith) (omega arith) l.k c.before.before.before.before.loop-test.true (omega arith)
     (λ q. c.if5.true (c.before.number2.ensures ∙ q ∙ sym p)))
 
 add-k : tie.Need-overflow-add-k invariant-loop decreases-loop
@@ -113,7 +113,7 @@ loop-again c =
     let n : c.before.before.before.before.before.before.before.before.count.result ≡ count d 0 =
     c.before.before.before.before.before.before.before.before.count.ensures in (
       l.invariant.0
-          ∙ section-right d (omega arith) (omega arith) l.k c.before.before.before.before.loop-test.true (omega arith)
+          ∙ section_right d (omega arith) (omega arith) l.k c.before.before.before.before.loop-test.true (omega arith)
           (sym c.before.number2.ensures ∙ c.if5.false ∙ p),
       next_start d l.k l.place c.before.before.before.size.result p e,
       search rules,
@@ -136,7 +136,7 @@ returns-6 : tie.Need-returns-6 invariant-loop decreases-loop
 returns-6 c =
     let d = c.before.before.before.before.before.before.before.before.before.before.args.dossier.now in
     let k : c.before.before.before.loop.k ≡ 6 = omega arith in
-    sym (c.before.before.before.loop.invariant.0 ∙ ap (wrongFrom d) k ∙ total-wrong d (λ e. c.if6.true (c.before.number3.ensures ∙ e)))
+    sym (c.before.before.before.loop.invariant.0 ∙ ap (wrong_from d) k ∙ total_wrong d (λ e. c.if6.true (c.before.number3.ensures ∙ e)))
 
 sub-result-2 : tie.Need-overflow-sub-result-2 invariant-loop decreases-loop
 sub-result-2 c = search rules
@@ -146,15 +146,15 @@ returns-7 c =
     let d = c.before.before.before.before.before.before.before.before.before.before.before.args.dossier.now in
     let k : c.before.before.before.before.loop.k ≡ 6 = omega arith in
     let p : c.before.before.before.before.loop.place ≡ start d 6 = c.before.before.before.before.loop.invariant.1 ∙ ap (start d) k in
-    sym (c.before.before.before.before.loop.invariant.0 ∙ ap (wrongFrom d) k
-    ∙ end-wrong d (sym c.before.before.number3.ensures ∙ c.before.if6.false) (λ e. c.if7.true (p ∙ e)))
+    sym (c.before.before.before.before.loop.invariant.0 ∙ ap (wrong_from d) k
+    ∙ end_wrong d (sym c.before.before.number3.ensures ∙ c.before.if6.false) (λ e. c.if7.true (p ∙ e)))
 
 returns-8 : tie.Need-returns-8 invariant-loop decreases-loop
 returns-8 c =
     let d = c.before.before.before.before.before.before.before.before.before.before.before.args.dossier.now in
     let k : c.before.before.before.before.loop.k ≡ 6 = omega arith in
     let p : c.before.before.before.before.loop.place ≡ start d 6 = c.before.before.before.before.loop.invariant.1 ∙ ap (start d) k in
-    sym (c.before.before.before.before.loop.invariant.0 ∙ ap (wrongFrom d) k
+    sym (c.before.before.before.before.loop.invariant.0 ∙ ap (wrong_from d) k
     ∙ total_right d (sym c.before.before.number3.ensures ∙ c.before.if6.false) (sym p ∙ c.if7.false))
 
 pub first-wrong-spec : {M : Type 1} → statement M

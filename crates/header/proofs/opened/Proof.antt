@@ -1,8 +1,8 @@
 -- `header::opened` meets its contract: nothing of a header that is refused, and else the section.
 use mathlib.Core.Path.{sym, ap, ◌∙◌}
 use borrow.Author.Rules.{rules}
-use Rattle.common.specs.Answers.{checkOf}
-use Rattle.header.proofs.Rules.{opened-passed, opened-refused}
+use Rattle.common.specs.Answers.{check_of}
+use Rattle.header.proofs.Rules.{opened_passed, opened_refused}
 use Rattle.header.proofs.opened.Statement.{statement}
 use Rattle.header.proofs.opened.Tie as tie
 
@@ -19,13 +19,13 @@ part-requires : tie.Need-part-requires
 part-requires c κs = search rules
 
 returns : tie.Need-returns
-returns c = c.part.ensures ∙ opened-refused _ _ _ (sym c.before.before.before.check-header.ensures ∙ ap checkOf c.before.enum-told2.given.1)
+returns c = c.part.ensures ∙ opened_refused _ _ _ (sym c.before.before.before.check-header.ensures ∙ ap check_of c.before.enum-told2.given.1)
 
 section-requires : tie.Need-section-requires
 section-requires c κs = search rules
 
 returns-2 : tie.Need-returns-2
-returns-2 c = c.section.ensures ∙ opened-passed _ _ (sym c.before.before.before.check-header.ensures ∙ ap checkOf c.before.enum_told.given.1)
+returns-2 c = c.section.ensures ∙ opened_passed _ _ (sym c.before.before.before.check-header.ensures ∙ ap check_of c.before.enum_told.given.1)
 
 pub opened-spec : {M : Type 1} → statement M
 opened-spec =

@@ -3,7 +3,7 @@ use mathlib.Core.Path.{◌≡◌, sym, ap₂, ◌∙◌}
 use Prim.Native.Nat.{ℕ}
 use borrow.Author.Rules.{rules}
 use Rattle.promise.specs.Parts.{part_of, cut}
-use Rattle.header.proofs.Rules.{start-end, size_none}
+use Rattle.header.proofs.Rules.{start_end, size_none}
 use Rattle.header.proofs.section.Statement.{statement}
 use Rattle.header.proofs.section.Tie as tie
 
@@ -18,7 +18,7 @@ returns c =
     let g = c.before.before.before.before.args in
     let past = c.before.before.if1.true in
     c.part.ensures
-    ∙ ap₂ (cut (part_of g.dossier)) (c.before.start.ensures.0 ∙ start-end g.dossier.now g.k past) (size_none g.dossier.now g.k past)
+    ∙ ap₂ (cut (part_of g.dossier)) (c.before.start.ensures.0 ∙ start_end g.dossier.now g.k past) (size_none g.dossier.now g.k past)
 
 start-requires-2 : tie.Need-start-requires-2
 start-requires-2 c κs = search rules

@@ -1,7 +1,7 @@
 -- `header::size` meets its contract: one law for each section.
 use native.Mathlib.Omega.{arith}
 use borrow.Author.Rules.{rules}
-use Rattle.header.proofs.Rules.{size-types, size-program, size-arrows, size-bits, size-hashes, size_none}
+use Rattle.header.proofs.Rules.{size_types, size_program, size_arrows, size_bits, size_hashes, size_none}
 use Rattle.header.proofs.size.Statement.{statement}
 use Rattle.header.proofs.size.Tie as tie
 
@@ -24,19 +24,19 @@ mul-result-3 : tie.Need-overflow-mul-result-3
 mul-result-3 c = search rules
 
 returns : tie.Need-returns
-returns c = (size-types _ _ _ c.before.count.ensures c.if1.true, search rules)
+returns c = (size_types _ _ _ c.before.count.ensures c.if1.true, search rules)
 
 returns-2 : tie.Need-returns-2
-returns-2 c = (size-program _ _ _ c.before.before.count.ensures c.if2.true, search rules)
+returns-2 c = (size_program _ _ _ c.before.before.count.ensures c.if2.true, search rules)
 
 returns-3 : tie.Need-returns-3
-returns-3 c = (size-arrows _ _ _ c.before.before.before.count.ensures c.if3.true, search rules)
+returns-3 c = (size_arrows _ _ _ c.before.before.before.count.ensures c.if3.true, search rules)
 
 returns-4 : tie.Need-returns-4
-returns-4 c = (size-bits _ _ _ c.before.before.before.before.count.ensures (omega arith) c.if4.true, search rules)
+returns-4 c = (size_bits _ _ _ c.before.before.before.before.count.ensures (omega arith) c.if4.true, search rules)
 
 returns-5 : tie.Need-returns-5
-returns-5 c = (size-hashes _ _ _ c.before.before.before.before.before.count.ensures c.if5.true, search rules)
+returns-5 c = (size_hashes _ _ _ c.before.before.before.before.before.count.ensures c.if5.true, search rules)
 
 returns-6 : tie.Need-returns-6
 returns-6 c = (size_none _ _ (omega arith), search rules)

@@ -1,6 +1,6 @@
 -- `packed::after_number` meets its contract.
 use Rattle.std.proofs.Common.{drop, rules}
-use Rattle.packed.specs.Lists.{afterNumber}
+use Rattle.packed.specs.Lists.{after_number}
 use Rattle.packed.proofs.Lists.{in_one, in_two, in_four}
 use Rattle.packed.proofs.after_number.Statement.{statement}
 use Rattle.packed.proofs.after_number.Tie as tie
@@ -12,7 +12,7 @@ from-requires : tie.Need-from-requires
 from-requires c κs = search rules
 
 returns : tie.Need-returns
-unfolding afterNumber
+unfolding after_number
 returns c =
     let v = c.before.before.before.before.args.list.now in
     cc (
@@ -25,7 +25,7 @@ from-requires-2 : tie.Need-from-requires-2
 from-requires-2 c κs = search rules
 
 returns-2 : tie.Need-returns-2
-unfolding afterNumber
+unfolding after_number
 returns-2 c =
     let v = c.before.before.before.before.before.args.list.now in
     cc (
@@ -38,7 +38,7 @@ from-requires-3 : tie.Need-from-requires-3
 from-requires-3 c κs = search rules
 
 returns-3 : tie.Need-returns-3
-unfolding afterNumber
+unfolding after_number
 returns-3 c =
     let v = c.before.before.before.before.before.args.list.now in
     cc (

@@ -1,13 +1,13 @@
 -- `packed::first_number` meets its contract.
 use Rattle.std.proofs.Common.{get_or, sym, rules}
 use Rattle.scope.specs.Numbers.{be16, be32}
-use Rattle.packed.specs.Lists.{firstNumber}
-use Rattle.packed.proofs.Lists.{in_one, in_two, in_four, first_of, first-of-none}
+use Rattle.packed.specs.Lists.{first_number}
+use Rattle.packed.proofs.Lists.{in_one, in_two, in_four, first_of, first_of_none}
 use Rattle.packed.proofs.first_number.Statement.{statement}
 use Rattle.packed.proofs.first_number.Tie as tie
 
 returns : tie.Need-returns
-returns c = sym (first-of-none _ _ c.if1.true)
+returns c = sym (first_of_none _ _ c.if1.true)
 
 byte-at-requires : tie.Need-byte-at-requires
 byte-at-requires c κs = search rules
@@ -16,7 +16,7 @@ cast-result : tie.Need-overflow-cast-result
 cast-result c = search rules
 
 returns-2 : tie.Need-returns-2
-unfolding firstNumber
+unfolding first_number
 returns-2 c =
     let a = c.before.before.before.before.args in
     let v = a.list.now in
@@ -33,7 +33,7 @@ cast-result-2 : tie.Need-overflow-cast-result-2
 cast-result-2 c = search rules
 
 returns-3 : tie.Need-returns-3
-unfolding firstNumber
+unfolding first_number
 returns-3 c =
     let a = c.before.before.before.before.before.before.args in
     let v = a.list.now in
@@ -48,7 +48,7 @@ number-at-requires : tie.Need-number-at-requires
 number-at-requires c κs = search rules
 
 returns-4 : tie.Need-returns-4
-unfolding firstNumber
+unfolding first_number
 returns-4 c =
     let a = c.before.before.before.before.before.before.args in
     let v = a.list.now in

@@ -1,12 +1,12 @@
 -- `packed::holds_numbers` meets its contract. The loop's invariant: the store holds the numbers exactly if it holds those left from place k on.
 use Rattle.std.proofs.Common.{◌≡◌, ◌-◌, ◌≤◌, length, drop, sym, refl, ◌∙◌, rules}
-use Rattle.packed.specs.Lists.{unpacked, holdsNumbers}
-use Rattle.packed.proofs.Lists.{unlike, like, ended, after-of, none_of}
+use Rattle.packed.specs.Lists.{unpacked, holds_numbers}
+use Rattle.packed.proofs.Lists.{unlike, like, ended, after_of, none_of}
 use Rattle.packed.proofs.holds_numbers.Statement.{statement}
 use Rattle.packed.proofs.holds_numbers.Tie as tie
 
 abbrev invariant-loop : tie.invariant-loop
-invariant-loop store list rest left₀ k₀ left k = (k ≤ length store) × (holdsNumbers store (unpacked list) rest ≡ holdsNumbers (drop k store) (unpacked left) rest)
+invariant-loop store list rest left₀ k₀ left k = (k ≤ length store) × (holds_numbers store (unpacked list) rest ≡ holds_numbers (drop k store) (unpacked left) rest)
 
 abbrev decreases-loop : tie.decreases-loop
 decreases-loop store list rest left₀ k₀ left k = length store - k
@@ -45,7 +45,7 @@ loop-again c =
     let l = c.before.before.before.before.before.loop in
     let more = like a.store.now (unpacked l.left.now) a.rest l.k _ c.before.before.before.before.loop-test.true
     c.before.before.first-number.ensures c.before.if1.false in
-    (search rules, cc (l.invariant.1, more, after-of l.left.now, c.after-number.ensures))
+    (search rules, cc (l.invariant.1, more, after_of l.left.now, c.after-number.ensures))
 
 returns-2 : tie.Need-returns-2 invariant-loop decreases-loop
 returns-2 c =

@@ -1,19 +1,19 @@
 -- `packed::laid` meets its contract. The loop's invariant: the numbers left are to be laid from place k on.
 use Rattle.std.proofs.Common.{◌≡◌, ℕ, ◌≤◌, List, ◌∷◌, length, sym, refl, ap, ◌∙◌, length-set, rules}
 use Rattle.packed.specs.Lists.{unpacked, laid}
-use Rattle.packed.proofs.Lists.{laidFrom, none-laid, lay, all_laid, full, taken-off, fewer}
+use Rattle.packed.proofs.Lists.{laid_from, none_laid, lay, all_laid, full, taken_off, fewer}
 use Rattle.packed.proofs.laid.Statement.{statement}
 use Rattle.packed.proofs.laid.Tie as tie
 
 abbrev invariant-loop : tie.invariant-loop
 invariant-loop list store₀ left₀ k₀ store left k =
-    (length store₀ ≡ length store) × (k ≤ length store) × (laid (unpacked list) store₀ ≡ laidFrom k (unpacked left) store)
+    (length store₀ ≡ length store) × (k ≤ length store) × (laid (unpacked list) store₀ ≡ laid_from k (unpacked left) store)
 
 abbrev decreases-loop : tie.decreases-loop
 decreases-loop list store₀ left₀ k₀ store left k = length left
 
 loop-holds : tie.Need-loop-init invariant-loop decreases-loop
-loop-holds c = (refl, search rules, none-laid _ _)
+loop-holds c = (refl, search rules, none_laid _ _)
 
 same_length : tie.Need-same-length invariant-loop decreases-loop
 same_length c = search rules
@@ -47,10 +47,10 @@ loop-again c =
     let n = c.before.first-number.result in
     let w = c.after-number.result.now in
     let off : unpacked l.left.now ≡ n ∷ unpacked w =
-    taken-off l.left.now w n (search rules) c.before.first-number.ensures c.after-number.ensures in (
+    taken_off l.left.now w n (search rules) c.before.first-number.ensures c.after-number.ensures in (
       simp length-set (search rules),
       simp length-set (search rules),
-      l.invariant.2 ∙ ap (λ (ns : List ℕ). laidFrom l.k ns l.store) off ∙ lay l.k l.store n (unpacked w) (search rules),
+      l.invariant.2 ∙ ap (λ (ns : List ℕ). laid_from l.k ns l.store) off ∙ lay l.k l.store n (unpacked w) (search rules),
     )
 
 same-length-2 : tie.Need-same-length-2 invariant-loop decreases-loop

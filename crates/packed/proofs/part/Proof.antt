@@ -1,12 +1,12 @@
 -- `packed::part` meets its contract. The loop's invariant: what is left to be passed over leads to the same bytes.
 use Rattle.std.proofs.Common.{◌≡◌, ◌-◌, refl, rules}
-use Rattle.packed.specs.Records.{afterParts}
-use Rattle.packed.proofs.Records.{next-part, no_part}
+use Rattle.packed.specs.Records.{after_parts}
+use Rattle.packed.proofs.Records.{next_part, no_part}
 use Rattle.packed.proofs.part.Statement.{statement}
 use Rattle.packed.proofs.part.Tie as tie
 
 abbrev invariant-loop : tie.invariant-loop
-invariant-loop «record» first head k rest₀ j₀ rest j = (j₀ ≡ first) × (afterParts «record» first (k - first) rest₀ ≡ afterParts «record» j (k - j) rest)
+invariant-loop «record» first head k rest₀ j₀ rest j = (j₀ ≡ first) × (after_parts «record» first (k - first) rest₀ ≡ after_parts «record» j (k - j) rest)
 
 abbrev decreases-loop : tie.decreases-loop
 decreases-loop «record» first head k rest₀ j₀ rest j = k - j
@@ -40,7 +40,7 @@ loop-again c = (
   refl,
   cc (
     c.before.before.before.loop.invariant.1,
-    next-part _ _ _ c.before.before.before.loop.rest.now c.before.before.loop-test.true,
+    next_part _ _ _ c.before.before.before.loop.rest.now c.before.before.loop-test.true,
     c.from2.ensures,
     c.before.number.ensures,
   ),

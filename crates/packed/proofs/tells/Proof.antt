@@ -1,6 +1,6 @@
 -- `packed::tells` meets its contract.
 use Rattle.std.proofs.Common.{rules}
-use Rattle.packed.proofs.Records.{other-first, same_first}
+use Rattle.packed.proofs.Records.{other_first, same_first}
 use Rattle.packed.proofs.tells.Statement.{statement}
 use Rattle.packed.proofs.tells.Tie as tie
 
@@ -10,7 +10,7 @@ number-requires c κs = search rules
 returns : tie.Need-returns
 returns c =
     let a = c.before.before.before.args in
-    other-first a.«record».now _ a.first a.second c.before.number.ensures c.if1.true
+    other_first a.«record».now _ a.first a.second c.before.number.ensures c.if1.true
 
 number-requires-2 : tie.Need-number-requires-2
 number-requires-2 c κs = search rules

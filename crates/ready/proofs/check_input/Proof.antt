@@ -2,8 +2,8 @@
 use mathlib.Core.Path.{sym, ◌∙◌}
 use borrow.Author.Tests.{not-true, not-false}
 use borrow.Author.Rules.{rules}
-use Rattle.scope.specs.Types.{typeRecords, ty_at}
-use Rattle.ready.proofs.Verdicts.{input-held, input-short, input-left, input-whole}
+use Rattle.scope.specs.Types.{type_records, ty_at}
+use Rattle.ready.proofs.Verdicts.{input_held, input_short, input_left, input_whole}
 use Rattle.ready.proofs.check_input.Statement.{statement}
 use Rattle.ready.proofs.check_input.Tie as tie
 
@@ -23,8 +23,8 @@ returns : tie.Need-returns
 returns c =
     let held-call = c.before.before.before.held in
     let a = c.before.before.before.before.before.before.before.before.args in
-    input-short (ty_at (typeRecords a.types.now) a.source) a.input.now a.count
-    (input-held (ty_at (typeRecords a.types.now) a.source) a.input.now a.count held-call.result.now
+    input_short (ty_at (type_records a.types.now) a.source) a.input.now a.count
+    (input_held (ty_at (type_records a.types.now) a.source) a.input.now a.count held-call.result.now
     held-call.ensures _ (sym c.enum_told.given.1 ∙ c.before.before.value-end.ensures))
 
 all-used-requires : tie.Need-all-used-requires
@@ -35,8 +35,8 @@ returns-2 c =
     let held-call = c.before.before.before.before.before.before.held in
     let end-found = c.before.before.before.end in
     let a = c.before.before.before.before.before.before.before.before.before.before.before.args in
-    input-left (ty_at (typeRecords a.types.now) a.source) a.input.now a.count end-found.given.0.0
-    (input-held (ty_at (typeRecords a.types.now) a.source) a.input.now a.count held-call.result.now held-call.ensures _
+    input_left (ty_at (type_records a.types.now) a.source) a.input.now a.count end-found.given.0.0
+    (input_held (ty_at (type_records a.types.now) a.source) a.input.now a.count held-call.result.now held-call.ensures _
     (sym end-found.given.1 ∙ c.before.before.before.before.before.value-end.ensures))
     (sym c.before.all-used.ensures ∙ not-true _ c.if1.true)
 
@@ -45,8 +45,8 @@ returns-3 c =
     let held-call = c.before.before.before.before.before.before.held in
     let end-found = c.before.before.before.end in
     let a = c.before.before.before.before.before.before.before.before.before.before.before.args in
-    input-whole (ty_at (typeRecords a.types.now) a.source) a.input.now a.count end-found.given.0.0
-    (input-held (ty_at (typeRecords a.types.now) a.source) a.input.now a.count held-call.result.now held-call.ensures _
+    input_whole (ty_at (type_records a.types.now) a.source) a.input.now a.count end-found.given.0.0
+    (input_held (ty_at (type_records a.types.now) a.source) a.input.now a.count held-call.result.now held-call.ensures _
     (sym end-found.given.1 ∙ c.before.before.before.before.before.value-end.ensures))
     (sym c.before.all-used.ensures ∙ not-false _ c.if1.false)
 

@@ -3,14 +3,14 @@ use mathlib.Core.Path.{◌≡◌, sym, ap, ◌∙◌}
 use Prim.Native.Nat.{ℕ, ◌-◌}
 use lib.ListN.{length, get_or}
 use borrow.Author.Rules.{rules}
-use Rattle.common.specs.Nodes.{length-nodes}
-use Rattle.arrow.specs.Answers.{arrowOf}
-use Rattle.scope.specs.Arrows.{noArrow, arrowRecords}
-use Rattle.scope.specs.Nodes.{nodeRecords, nodesOf}
-use Rattle.scope.specs.Types.{typeRecords}
-use Rattle.ready.specs.Answers.{unreadWith}
-use Rattle.ready.proofs.Supplied.{read-refused, input-refused, stores-refused, all-passed}
-use Rattle.ready.proofs.Ends.{width-shown}
+use Rattle.common.specs.Nodes.{length_nodes}
+use Rattle.arrow.specs.Answers.{arrow_of}
+use Rattle.scope.specs.Arrows.{no_arrow, arrow_records}
+use Rattle.scope.specs.Nodes.{node_records, nodes_of}
+use Rattle.scope.specs.Types.{type_records}
+use Rattle.ready.specs.Answers.{unread_with}
+use Rattle.ready.proofs.Supplied.{read_refused, input_refused, stores_refused, all_passed}
+use Rattle.ready.proofs.Ends.{width_shown}
 use Rattle.ready.proofs.check_supplied.Statement.{statement}
 use Rattle.ready.proofs.check_supplied.Tie as tie
 
@@ -25,8 +25,8 @@ enum-told-2 c = search rules
 
 returns : tie.Need-returns
 returns c = λ bits hashes. (let a = c.before.before.before.before.before.before.before.before.before.before.args in
-    let N = nodesOf bits hashes (nodeRecords a.nodes.now) in
-    read-refused (typeRecords a.types.now) N (arrowRecords a.arrows.now) a.witness.now a.witness-bits a.input.now
+    let N = nodes_of bits hashes (node_records a.nodes.now) in
+    read_refused (type_records a.types.now) N (arrow_records a.arrows.now) a.witness.now a.witness-bits a.input.now
     a.input-bits a.cell-bound a.frame_bound a.cells a.frames a.answer c.before.before.check-witness.result
     (c.before.before.check-witness.ensures bits hashes) _ c.enum-told2.given.1)
 
@@ -54,17 +54,17 @@ returns-2 c =
     let arrow-at-call = c.before.before.before.before.arrow-at in
     λ bits hashes.
     (let a = c.before.before.before.before.before.before.before.before.before.before.before.before.before.before.before.before.args in
-    let N = nodesOf bits hashes (nodeRecords a.nodes.now) in
-    let own : arrowOf arrow-at-call.result ≡ get_or (arrowRecords a.arrows.now) (length N - 1) noArrow =
+    let N = nodes_of bits hashes (node_records a.nodes.now) in
+    let own : arrow_of arrow-at-call.result ≡ get_or (arrow_records a.arrows.now) (length N - 1) no_arrow =
     arrow-at-call.ensures
-    ∙ ap (λ (k : ℕ). get_or (arrowRecords a.arrows.now) k noArrow)
+    ∙ ap (λ (k : ℕ). get_or (arrow_records a.arrows.now) k no_arrow)
     (c.before.before.before.before.before.last-node.ensures
-    ∙ ap (λ (n : ℕ). n - 1) (sym (length-nodes bits hashes (nodeRecords a.nodes.now)))) in
-    c.unread.ensures ∙ ap unreadWith c.before.enum-told4.given.1
-    ∙ input-refused (typeRecords a.types.now) N (arrowRecords a.arrows.now) a.witness.now a.witness-bits a.input.now
+    ∙ ap (λ (n : ℕ). n - 1) (sym (length_nodes bits hashes (node_records a.nodes.now)))) in
+    c.unread.ensures ∙ ap unread_with c.before.enum-told4.given.1
+    ∙ input_refused (type_records a.types.now) N (arrow_records a.arrows.now) a.witness.now a.witness-bits a.input.now
     a.input-bits a.cell-bound a.frame_bound a.cells a.frames a.answer check-witness-call.result
     (check-witness-call.ensures bits hashes) c.before.before.before.before.before.before.enum_told.given.1
-    (arrowOf arrow-at-call.result) own _ (sym c.before.enum-told4.given.1 ∙ c.before.before.before.check-input.ensures))
+    (arrow_of arrow-at-call.result) own _ (sym c.before.enum-told4.given.1 ∙ c.before.before.before.check-input.ensures))
 
 width-at-requires : tie.Need-width-at-requires
 width-at-requires c κs = search rules
@@ -91,17 +91,17 @@ returns-3 c =
     let width-at-call = c.before.before.before.before.width-at in
     λ bits hashes.
     (let a = c.before.before.before.before.before.before.before.before.before.before.before.before.before.before.before.before.before.before.before.before.args in
-    let N = nodesOf bits hashes (nodeRecords a.nodes.now) in
-    let own : arrowOf arrow-at-call.result ≡ get_or (arrowRecords a.arrows.now) (length N - 1) noArrow =
+    let N = nodes_of bits hashes (node_records a.nodes.now) in
+    let own : arrow_of arrow-at-call.result ≡ get_or (arrow_records a.arrows.now) (length N - 1) no_arrow =
     arrow-at-call.ensures
-    ∙ ap (λ (k : ℕ). get_or (arrowRecords a.arrows.now) k noArrow)
-    (last-node-call.ensures ∙ ap (λ (n : ℕ). n - 1) (sym (length-nodes bits hashes (nodeRecords a.nodes.now)))) in
-    c.unread2.ensures ∙ ap unreadWith c.before.enum-told6.given.1 ∙ stores-refused (typeRecords a.types.now) N
-    (arrowRecords a.arrows.now) a.witness.now a.witness-bits a.input.now a.input-bits a.cell-bound a.frame_bound
+    ∙ ap (λ (k : ℕ). get_or (arrow_records a.arrows.now) k no_arrow)
+    (last-node-call.ensures ∙ ap (λ (n : ℕ). n - 1) (sym (length_nodes bits hashes (node_records a.nodes.now)))) in
+    c.unread2.ensures ∙ ap unread_with c.before.enum-told6.given.1 ∙ stores_refused (type_records a.types.now) N
+    (arrow_records a.arrows.now) a.witness.now a.witness-bits a.input.now a.input-bits a.cell-bound a.frame_bound
     a.cells a.frames a.answer check-witness-call.result (check-witness-call.ensures bits hashes) enum-told-found.given.1
-    (arrowOf arrow-at-call.result) own (sym c.before.before.before.before.before.enum-told3.given.1
+    (arrow_of arrow-at-call.result) own (sym c.before.before.before.before.before.enum-told3.given.1
     ∙ c.before.before.before.before.before.before.before.check-input.ensures) width-at-call.result
-    (width-at-call.ensures ∙ width-shown a.types.now a.widths.now a.next.now start.pre.0 arrow-at-call.result.target) _
+    (width-at-call.ensures ∙ width_shown a.types.now a.widths.now a.next.now start.pre.0 arrow-at-call.result.target) _
     (sym c.before.enum-told6.given.1 ∙ c.before.before.before.check-stores.ensures))
 
 returns-4 : tie.Need-returns-4
@@ -114,16 +114,16 @@ returns-4 c =
     let width-at-call = c.before.before.before.width-at in
     λ bits hashes.
     (let a = c.before.before.before.before.before.before.before.before.before.before.before.before.before.before.before.before.before.before.before.args in
-    let N = nodesOf bits hashes (nodeRecords a.nodes.now) in
-    let own : arrowOf arrow-at-call.result ≡ get_or (arrowRecords a.arrows.now) (length N - 1) noArrow =
+    let N = nodes_of bits hashes (node_records a.nodes.now) in
+    let own : arrow_of arrow-at-call.result ≡ get_or (arrow_records a.arrows.now) (length N - 1) no_arrow =
     arrow-at-call.ensures
-    ∙ ap (λ (k : ℕ). get_or (arrowRecords a.arrows.now) k noArrow)
-    (last-node-call.ensures ∙ ap (λ (n : ℕ). n - 1) (sym (length-nodes bits hashes (nodeRecords a.nodes.now)))) in
-    all-passed (typeRecords a.types.now) N (arrowRecords a.arrows.now) a.witness.now a.witness-bits a.input.now
+    ∙ ap (λ (k : ℕ). get_or (arrow_records a.arrows.now) k no_arrow)
+    (last-node-call.ensures ∙ ap (λ (n : ℕ). n - 1) (sym (length_nodes bits hashes (node_records a.nodes.now)))) in
+    all_passed (type_records a.types.now) N (arrow_records a.arrows.now) a.witness.now a.witness-bits a.input.now
     a.input-bits a.cell-bound a.frame_bound a.cells a.frames a.answer check-witness-call.result
-    (check-witness-call.ensures bits hashes) enum-told-found.given.1 (arrowOf arrow-at-call.result) own
+    (check-witness-call.ensures bits hashes) enum-told-found.given.1 (arrow_of arrow-at-call.result) own
     (sym c.before.before.before.before.enum-told3.given.1 ∙ c.before.before.before.before.before.before.check-input.ensures)
-    width-at-call.result (width-at-call.ensures ∙ width-shown a.types.now a.widths.now a.next.now start.pre.0
+    width-at-call.result (width-at-call.ensures ∙ width_shown a.types.now a.widths.now a.next.now start.pre.0
     arrow-at-call.result.target) (sym c.enum-told5.given.1 ∙ c.before.before.check-stores.ensures))
 
 pub check-supplied-spec : {M : Type 1} → statement M

@@ -3,12 +3,12 @@ use mathlib.Core.Path.{sym, ◌∙◌}
 use lib.ListN.{take}
 use borrow.Author.Tests.{not-true, not-false}
 use borrow.Author.Rules.{rules}
-use Rattle.arrow.specs.Answers.{arrowOf}
-use Rattle.scope.specs.Arrows.{arrowRecords}
-use Rattle.scope.specs.Nodes.{nodeRecords, nodesOf}
-use Rattle.scope.specs.Types.{typeRecords}
-use Rattle.scope.specs.Numbers.{streamOf}
-use Rattle.ready.proofs.Ends.{ends-here, ends_there}
+use Rattle.arrow.specs.Answers.{arrow_of}
+use Rattle.scope.specs.Arrows.{arrow_records}
+use Rattle.scope.specs.Nodes.{node_records, nodes_of}
+use Rattle.scope.specs.Types.{type_records}
+use Rattle.scope.specs.Numbers.{stream_of}
+use Rattle.ready.proofs.Ends.{ends_here, ends_there}
 use Rattle.ready.proofs.node_end.Statement.{statement}
 use Rattle.ready.proofs.node_end.Tie as tie
 
@@ -17,8 +17,8 @@ witness-at-requires c κs = search rules
 
 returns : tie.Need-returns
 returns c = λ bits hashes. (let a = c.before.before.before.before.before.before.before.before.args in
-    ends-here (typeRecords a.types.now) (nodesOf bits hashes (nodeRecords a.nodes.now)) (arrowRecords a.arrows.now)
-    (take a.count (streamOf a.witness.now)) a.i a.p
+    ends_here (type_records a.types.now) (nodes_of bits hashes (node_records a.nodes.now)) (arrow_records a.arrows.now)
+    (take a.count (stream_of a.witness.now)) a.i a.p
     (sym (c.before.witness-at.ensures bits hashes) ∙ not-true _ c.if1.true))
 
 arrow-at-requires : tie.Need-arrow-at-requires
@@ -30,10 +30,10 @@ value-end-requires c κs = search rules
 returns-2 : tie.Need-returns-2
 returns-2 c = λ bits hashes. (let a = c.before.before.before.before.before.before.before.before.before.before.args in
     c.value-end.ensures
-    ∙ ends_there (typeRecords a.types.now) (nodesOf bits hashes (nodeRecords a.nodes.now)) (arrowRecords a.arrows.now)
-    (take a.count (streamOf a.witness.now)) a.i a.p
+    ∙ ends_there (type_records a.types.now) (nodes_of bits hashes (node_records a.nodes.now)) (arrow_records a.arrows.now)
+    (take a.count (stream_of a.witness.now)) a.i a.p
     (sym (c.before.before.before.witness-at.ensures bits hashes) ∙ not-false _ c.before.before.if1.false)
-    (arrowOf c.before.arrow-at.result) c.before.arrow-at.ensures)
+    (arrow_of c.before.arrow-at.result) c.before.arrow-at.ensures)
 
 pub node-end-spec : {M : Type 1} → statement M
 node-end-spec =

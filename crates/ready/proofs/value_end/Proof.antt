@@ -3,10 +3,10 @@ use mathlib.Core.Path.{sym, ◌∙◌}
 use native.Mathlib.Omega.{arith}
 use lib.ListN.{drop}
 use borrow.Author.Rules.{rules}
-use Rattle.scope.specs.Types.{typeRecords, ty_at}
-use Rattle.scope.specs.Numbers.{streamOf}
-use Rattle.ready.proofs.Ends.{skip-ends}
-use Rattle.ready.proofs.FirstBits.{ends_nowhere, ends-past, ends-within}
+use Rattle.scope.specs.Types.{type_records, ty_at}
+use Rattle.scope.specs.Numbers.{stream_of}
+use Rattle.ready.proofs.Ends.{skip_ends}
+use Rattle.ready.proofs.FirstBits.{ends_nowhere, ends_past, ends_within}
 use Rattle.ready.proofs.value_end.Statement.{statement}
 use Rattle.ready.proofs.value_end.Tie as tie
 
@@ -21,9 +21,9 @@ enum_told c = search rules
 
 returns : tie.Need-returns
 returns c = let a = c.before.before.before.before.before.before.before.args in
-    ends_nowhere (ty_at (typeRecords a.types.now) a.i) a.p a.count (streamOf a.s.now)
-    (sym c.enum_told.given.1 ∙ c.before.before.skip.ensures ∙ skip-ends a.types.now a.widths.now a.next.now
-    c.before.before.before.before.before.before.before.requires.0 a.i a.p (drop a.p (streamOf a.s.now)))
+    ends_nowhere (ty_at (type_records a.types.now) a.i) a.p a.count (stream_of a.s.now)
+    (sym c.enum_told.given.1 ∙ c.before.before.skip.ensures ∙ skip_ends a.types.now a.widths.now a.next.now
+    c.before.before.before.before.before.before.before.requires.0 a.i a.p (drop a.p (stream_of a.s.now)))
 
 place-requires : tie.Need-place-requires
 place-requires c κs = search rules
@@ -33,9 +33,9 @@ returns-2 c =
     let start = c.before.before.before.before.before.before.before.before.before.before in
     let end-found = c.before.before.before.end in
     let a = c.before.before.before.before.before.before.before.before.before.before.args in
-    ends-past (ty_at (typeRecords a.types.now) a.i) a.p a.count (streamOf a.s.now) end-found.given.0.0
+    ends_past (ty_at (type_records a.types.now) a.i) a.p a.count (stream_of a.s.now) end-found.given.0.0
     (sym end-found.given.1 ∙ c.before.before.before.before.before.skip.ensures
-    ∙ skip-ends a.types.now a.widths.now a.next.now start.requires.0 a.i a.p (drop a.p (streamOf a.s.now)))
+    ∙ skip_ends a.types.now a.widths.now a.next.now start.requires.0 a.i a.p (drop a.p (stream_of a.s.now)))
     start.requires.1 (omega arith)
 
 returns-3 : tie.Need-returns-3
@@ -43,9 +43,9 @@ returns-3 c =
     let start = c.before.before.before.before.before.before.before.before.before.before in
     let end-found = c.before.before.before.end in
     let a = c.before.before.before.before.before.before.before.before.before.before.args in
-    ends-within (ty_at (typeRecords a.types.now) a.i) a.p a.count (streamOf a.s.now) end-found.given.0.0
+    ends_within (ty_at (type_records a.types.now) a.i) a.p a.count (stream_of a.s.now) end-found.given.0.0
     (sym end-found.given.1 ∙ c.before.before.before.before.before.skip.ensures
-    ∙ skip-ends a.types.now a.widths.now a.next.now start.requires.0 a.i a.p (drop a.p (streamOf a.s.now)))
+    ∙ skip_ends a.types.now a.widths.now a.next.now start.requires.0 a.i a.p (drop a.p (stream_of a.s.now)))
     start.requires.1 (omega arith)
 
 pub value-end-spec : {M : Type 1} → statement M

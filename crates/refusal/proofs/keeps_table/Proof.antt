@@ -1,6 +1,6 @@
 -- `refusal::keeps_table` meets its contract, case by case.
 use mathlib.Core.Path.{sym, ap}
-use Rattle.refusal.specs.Numbers.{keepsTable}
+use Rattle.refusal.specs.Numbers.{keeps_table}
 use borrow.Author.Rules.{rules}
 use Rattle.refusal.proofs.keeps_table.Statement.{statement}
 use Rattle.refusal.proofs.keeps_table.Tie as tie
@@ -117,7 +117,7 @@ returns-16 : tie.Need-returns-16
 returns-16 c = search rules
 
 returns-17 : tie.Need-returns-17
-returns-17 c = ap keepsTable (sym c.before.refusal.given.1)
+returns-17 c = ap keeps_table (sym c.before.refusal.given.1)
 
 returns-18 : tie.Need-returns-18
 returns-18 c = search rules

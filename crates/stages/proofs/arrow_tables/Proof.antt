@@ -1,8 +1,8 @@
 -- `stages::arrow_tables` meets its contract.
 use mathlib.Core.Path.{◌≡◌, ◌∙◌}
 use borrow.Author.Rules.{rules}
-use Rattle.types.proofs.Check.{answer-says}
-use Rattle.stages.proofs.Lent.{arrows-told}
+use Rattle.types.proofs.Check.{answer_says}
+use Rattle.stages.proofs.Lent.{arrows_told}
 use Rattle.stages.proofs.arrow_tables.Statement.{statement}
 use Rattle.stages.proofs.arrow_tables.Tie as tie
 
@@ -19,9 +19,9 @@ returns : tie.Need-returns
 returns c =
     let args = c.before.before.before.before.before.before.before.before.args in
     let made = c.before.before.check-types.ensures in
-    let says = c.before.without-count.ensures ∙ answer-says args.types.now c.before.before.check-types.result made in
+    let says = c.before.without-count.ensures ∙ answer_says args.types.now c.before.before.check-types.result made in
     let answers = c.told-arrows.ensures
-    ∙ arrows-told args.types.now args.nodes.now args.program.now args.hashes.now args.arrows.now _ says in
+    ∙ arrows_told args.types.now args.nodes.now args.program.now args.hashes.now args.arrows.now _ says in
     λ k. (answers k, made k)
 
 pub arrow-tables-spec : {M : Type 1} → statement M

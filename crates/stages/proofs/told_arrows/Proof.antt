@@ -1,8 +1,8 @@
 -- `stages::told_arrows` meets its contract.
 use mathlib.Core.Path.{sym, ap, ◌∙◌}
 use borrow.Author.Rules.{rules}
-use Rattle.common.specs.Answers.{checkOf}
-use Rattle.stages.proofs.Lent.{told-arrows-stop, told-arrows-last}
+use Rattle.common.specs.Answers.{check_of}
+use Rattle.stages.proofs.Lent.{told_arrows_stop, told_arrows_last}
 use Rattle.stages.proofs.told_arrows.Statement.{statement}
 use Rattle.stages.proofs.told_arrows.Tie as tie
 
@@ -19,8 +19,8 @@ returns : tie.Need-returns
 returns c =
     let args = c.before.before.before.before.before.before.before.before.args in
     let told-tables-call = c.before.before.told-tables in
-    told-tables-call.ensures ∙ told-arrows-stop (checkOf args.held) args.types.now args.nodes.now args.program.now args.hashes.now
-    args.arrows.now (sym told-tables-call.ensures ∙ ap checkOf c.enum-told2.given.1)
+    told-tables-call.ensures ∙ told_arrows_stop (check_of args.held) args.types.now args.nodes.now args.program.now args.hashes.now
+    args.arrows.now (sym told-tables-call.ensures ∙ ap check_of c.enum-told2.given.1)
 
 check-arrows-requires : tie.Need-check-arrows-requires
 check-arrows-requires c κs = search rules
@@ -29,8 +29,8 @@ returns-2 : tie.Need-returns-2
 returns-2 c =
     let args = c.before.before.before.before.before.before.before.before.before.args in
     let told-tables-call = c.before.before.before.told-tables in
-    c.check-arrows.ensures ∙ told-arrows-last (checkOf args.held) args.types.now args.nodes.now args.program.now args.hashes.now
-    args.arrows.now (sym told-tables-call.ensures ∙ ap checkOf c.before.enum_told.given.1)
+    c.check-arrows.ensures ∙ told_arrows_last (check_of args.held) args.types.now args.nodes.now args.program.now args.hashes.now
+    args.arrows.now (sym told-tables-call.ensures ∙ ap check_of c.before.enum_told.given.1)
 
 pub told-arrows-spec : {M : Type 1} → statement M
 told-arrows-spec =

@@ -1,8 +1,8 @@
 -- `stages::told_hashes` meets its contract.
 use mathlib.Core.Path.{sym, ap, ◌∙◌}
 use borrow.Author.Rules.{rules}
-use Rattle.common.specs.Answers.{checkOf}
-use Rattle.stages.proofs.Lent.{told-hashes-stop, told-hashes-last}
+use Rattle.common.specs.Answers.{check_of}
+use Rattle.stages.proofs.Lent.{told_hashes_stop, told_hashes_last}
 use Rattle.stages.proofs.told_hashes.Statement.{statement}
 use Rattle.stages.proofs.told_hashes.Tie as tie
 
@@ -19,8 +19,8 @@ returns : tie.Need-returns
 returns c =
     let args = c.before.before.before.before.before.before.before.before.before.args in
     let told-arrows-call = c.before.before.told-arrows in
-    told-arrows-call.ensures ∙ told-hashes-stop (checkOf args.held) args.types.now args.nodes.now args.program.now args.hashes.now
-    args.arrows.now args.given.now (sym told-arrows-call.ensures ∙ ap checkOf c.enum-told2.given.1)
+    told-arrows-call.ensures ∙ told_hashes_stop (check_of args.held) args.types.now args.nodes.now args.program.now args.hashes.now
+    args.arrows.now args.given.now (sym told-arrows-call.ensures ∙ ap check_of c.enum-told2.given.1)
 
 check-hashes-requires : tie.Need-check-hashes-requires
 check-hashes-requires c κs = search rules
@@ -29,8 +29,8 @@ returns-2 : tie.Need-returns-2
 returns-2 c =
     let args = c.before.before.before.before.before.before.before.before.before.before.args in
     let told-arrows-call = c.before.before.before.told-arrows in
-    c.check-hashes.ensures ∙ told-hashes-last (checkOf args.held) args.types.now args.nodes.now args.program.now args.hashes.now
-    args.arrows.now args.given.now (sym told-arrows-call.ensures ∙ ap checkOf c.before.enum_told.given.1)
+    c.check-hashes.ensures ∙ told_hashes_last (check_of args.held) args.types.now args.nodes.now args.program.now args.hashes.now
+    args.arrows.now args.given.now (sym told-arrows-call.ensures ∙ ap check_of c.before.enum_told.given.1)
 
 pub told-hashes-spec : {M : Type 1} → statement M
 told-hashes-spec =

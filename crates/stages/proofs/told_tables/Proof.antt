@@ -1,8 +1,8 @@
 -- `stages::told_tables` meets its contract.
 use mathlib.Core.Path.{sym, ap, ◌∙◌}
 use borrow.Author.Rules.{rules}
-use Rattle.common.specs.Answers.{checkOf}
-use Rattle.stages.proofs.Lent.{nodes-stop, types-stop, records-stop, too_long, rules-stop, walk-last}
+use Rattle.common.specs.Answers.{check_of}
+use Rattle.stages.proofs.Lent.{nodes_stop, types_stop, records_stop, too_long_lem, rules_stop, walk_last}
 use Rattle.stages.proofs.told_tables.Statement.{statement}
 use Rattle.stages.proofs.told_tables.Tie as tie
 
@@ -19,8 +19,8 @@ returns : tie.Need-returns
 returns c =
     let args = c.before.before.before.before.before.before.before.args in
     let check-count-call = c.before.before.check-count in
-    check-count-call.ensures ∙ nodes-stop (checkOf args.held) args.types.now args.nodes.now args.program.now args.hashes.now
-    (sym check-count-call.ensures ∙ ap checkOf c.enum-told2.given.1)
+    check-count-call.ensures ∙ nodes_stop (check_of args.held) args.types.now args.nodes.now args.program.now args.hashes.now
+    (sym check-count-call.ensures ∙ ap check_of c.enum-told2.given.1)
 
 type-count-requires : tie.Need-type-count-requires
 type-count-requires c κs = search rules
@@ -37,8 +37,8 @@ returns-2 c =
     let check-count-call = c.before.before.before.before.before.check-count in
     let enum-told-found = c.before.before.before.enum_told in
     let type-count-call = c.before.before.type-count in
-    type-count-call.ensures ∙ types-stop (checkOf args.held) args.types.now args.nodes.now args.program.now args.hashes.now
-    (sym check-count-call.ensures ∙ ap checkOf enum-told-found.given.1) (sym type-count-call.ensures ∙ ap checkOf c.enum-told4.given.1)
+    type-count-call.ensures ∙ types_stop (check_of args.held) args.types.now args.nodes.now args.program.now args.hashes.now
+    (sym check-count-call.ensures ∙ ap check_of enum-told-found.given.1) (sym type-count-call.ensures ∙ ap check_of c.enum-told4.given.1)
 
 check-records-requires : tie.Need-check-records-requires
 check-records-requires c κs = search rules
@@ -57,10 +57,10 @@ returns-3 c =
     let type-count-call = c.before.before.before.before.before.type-count in
     let enum-told3-found = c.before.before.before.enum-told3 in
     let check-records-call = c.before.before.check-records in
-    check-records-call.ensures ∙ records-stop (checkOf args.held) args.types.now args.nodes.now args.program.now args.hashes.now
-    (sym check-count-call.ensures ∙ ap checkOf enum-told-found.given.1)
-    (sym type-count-call.ensures ∙ ap checkOf enum-told3-found.given.1)
-    (sym check-records-call.ensures ∙ ap checkOf c.enum-told6.given.1)
+    check-records-call.ensures ∙ records_stop (check_of args.held) args.types.now args.nodes.now args.program.now args.hashes.now
+    (sym check-count-call.ensures ∙ ap check_of enum-told-found.given.1)
+    (sym type-count-call.ensures ∙ ap check_of enum-told3-found.given.1)
+    (sym check-records-call.ensures ∙ ap check_of c.enum-told6.given.1)
 
 returns-4 : tie.Need-returns-4
 returns-4 c =
@@ -70,10 +70,10 @@ returns-4 c =
     let type-count-call = c.before.before.before.before.before.before.type-count in
     let enum-told3-found = c.before.before.before.before.enum-told3 in
     let check-records-call = c.before.before.before.check-records in
-    too_long (checkOf args.held) args.types.now args.nodes.now args.program.now args.hashes.now
-    (sym check-count-call.ensures ∙ ap checkOf enum-told-found.given.1)
-    (sym type-count-call.ensures ∙ ap checkOf enum-told3-found.given.1)
-    (sym check-records-call.ensures ∙ ap checkOf c.before.enum-told5.given.1) c.if1.true
+    too_long_lem (check_of args.held) args.types.now args.nodes.now args.program.now args.hashes.now
+    (sym check-count-call.ensures ∙ ap check_of enum-told-found.given.1)
+    (sym type-count-call.ensures ∙ ap check_of enum-told3-found.given.1)
+    (sym check-records-call.ensures ∙ ap check_of c.before.enum-told5.given.1) c.if1.true
 
 enum-told-7 : tie.Need-enum-told-7
 enum-told-7 c = search rules
@@ -92,10 +92,10 @@ returns-5 c =
     let check-records-call = c.before.before.before.before.before.check-records in
     let enum-told5-found = c.before.before.before.enum-told5 in
     let if1-found = c.before.before.if1 in
-    rules-stop (checkOf args.held) args.types.now args.nodes.now args.program.now args.hashes.now
-    (sym check-count-call.ensures ∙ ap checkOf enum-told-found.given.1)
-    (sym type-count-call.ensures ∙ ap checkOf enum-told3-found.given.1)
-    (sym check-records-call.ensures ∙ ap checkOf enum-told5-found.given.1) if1-found.false (ap checkOf c.enum-told8.given.1)
+    rules_stop (check_of args.held) args.types.now args.nodes.now args.program.now args.hashes.now
+    (sym check-count-call.ensures ∙ ap check_of enum-told-found.given.1)
+    (sym type-count-call.ensures ∙ ap check_of enum-told3-found.given.1)
+    (sym check-records-call.ensures ∙ ap check_of enum-told5-found.given.1) if1-found.false (ap check_of c.enum-told8.given.1)
 
 walk-requires : tie.Need-walk-requires
 walk-requires c κs = search rules
@@ -111,10 +111,10 @@ returns-6 c =
     let check-records-call = c.before.before.before.before.before.before.check-records in
     let enum-told5-found = c.before.before.before.before.enum-told5 in
     let if1-found = c.before.before.before.if1 in
-    c.walk.ensures ∙ walk-last (checkOf args.held) args.types.now args.nodes.now args.program.now args.hashes.now
-    (sym check-count-call.ensures ∙ ap checkOf enum-told-found.given.1)
-    (sym type-count-call.ensures ∙ ap checkOf enum-told3-found.given.1)
-    (sym check-records-call.ensures ∙ ap checkOf enum-told5-found.given.1) if1-found.false (ap checkOf c.before.enum-told7.given.1)
+    c.walk.ensures ∙ walk_last (check_of args.held) args.types.now args.nodes.now args.program.now args.hashes.now
+    (sym check-count-call.ensures ∙ ap check_of enum-told-found.given.1)
+    (sym type-count-call.ensures ∙ ap check_of enum-told3-found.given.1)
+    (sym check-records-call.ensures ∙ ap check_of enum-told5-found.given.1) if1-found.false (ap check_of c.before.enum-told7.given.1)
 
 pub told-tables-spec : {M : Type 1} → statement M
 told-tables-spec =

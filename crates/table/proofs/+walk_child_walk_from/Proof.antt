@@ -1,7 +1,7 @@
 -- `table::walk_from` and `table::walk_child` meet their contracts. The index falls: a child that is walked is below its parent.
 -- `walk_from` at node i is measured by 2 * i + 1, `walk_child` at a child of node i by 2 * i.
-use Rattle.table.proofs.Steps.{child-below, child-not-below, walk-done, left-stops, right-stops, both-pass}
-use Rattle.table.specs.Answers.{walkedOf}
+use Rattle.table.proofs.Steps.{child_below, child_not_below, walk_done, left_stops, right_stops, both_pass}
+use Rattle.table.specs.Answers.{walked_of}
 use mathlib.Core.Path.{sym, ap, ◌∙◌, refl}
 use borrow.Author.Rules.{rules}
 use Prim.Native.Nat.{ℕ, ◌<◌, ◌+◌, ◌*◌}
@@ -64,7 +64,7 @@ walk-child-returns :
     (walk-child-calls t)
     (walk-child-at t)
     walk-child.Post
-walk-child-returns t c = sym (child-not-below _ _ _ _ c.if1.true)
+walk-child-returns t c = sym (child_not_below _ _ _ _ c.if1.true)
 
 walk-child-walk-from-requires : (t : ℕ) → walk-child-lts.Need-walk-from-requires (walk-child-calls t) (walk-child-at t) walk-child.Post
 walk-child-walk-from-requires t c κs = search rules
@@ -75,11 +75,11 @@ walk-child-returns-2 :
     (walk-child-calls t)
     (walk-child-at t)
     walk-child.Post
-walk-child-returns-2 t c = c.walk_from.ensures ∙ sym (child-below _ _ _ _ c.before.if1.false)
+walk-child-returns-2 t c = c.walk_from.ensures ∙ sym (child_below _ _ _ _ c.before.if1.false)
 
 walk-from-returns : (t : ℕ) → walk-from-lts.Need-returns (walk-from-calls t) (walk-from-at t) walk_from.Post
 walk-from-returns t c =
-    walk-done c.before.before.before.args.hashes.now c.before.before.before.args.nodes.now
+    walk_done c.before.before.before.args.hashes.now c.before.before.before.args.nodes.now
     c.before.before.before.args.i _ refl _ c.before.before.before.requires.1.0 c.if1.true
 
 walk-from-record-at-requires : (t : ℕ) → walk-from-lts.Need-record-at-requires (walk-from-calls t) (walk-from-at t) walk_from.Post
@@ -101,10 +101,10 @@ walk-from-returns-2 : (t : ℕ) → walk-from-lts.Need-returns-2 (walk-from-call
 walk-from-returns-2 t c =
     let start = c.before.before.before.before.before.before.before.before in
     let told = c.enum_told.given.1 in
-    ap walkedOf told
-    ∙ left-stops _ _ _ _ c.before.before.before.before.record-at.ensures _ start.requires.1.0
+    ap walked_of told
+    ∙ left_stops _ _ _ _ c.before.before.before.before.record-at.ensures _ start.requires.1.0
     c.before.before.before.before.before.if1.false _ _ c.before.before.before.left-child.ensures
-    (sym c.before.before.walk-child.ensures ∙ ap walkedOf told)
+    (sym c.before.before.walk-child.ensures ∙ ap walked_of told)
 
 walk-from-right-child-requires : (t : ℕ) → walk-from-lts.Need-right-child-requires (walk-from-calls t) (walk-from-at t) walk_from.Post
 walk-from-right-child-requires t c κs = search rules
@@ -125,11 +125,11 @@ walk-from-returns-3 t c =
     let record-at-call = c.before.before.before.before.before.before.before.before.before.record-at in
     let left-child-call = c.before.before.before.before.before.before.before.before.left-child in
     let told = c.enum-told2.given.1 in
-    ap walkedOf told
-    ∙ right-stops _ _ _ _ record-at-call.ensures _ start.requires.1.0 if1-found.false _ _ _ _ left-child-call.ensures
+    ap walked_of told
+    ∙ right_stops _ _ _ _ record-at-call.ensures _ start.requires.1.0 if1-found.false _ _ _ _ left-child-call.ensures
     (sym c.before.before.before.before.before.before.before.walk-child.ensures
-    ∙ ap walkedOf c.before.before.before.before.before.left.given.1)
-    c.before.before.before.right_child.ensures (sym c.before.before.walk-child2.ensures ∙ ap walkedOf told)
+    ∙ ap walked_of c.before.before.before.before.before.left.given.1)
+    c.before.before.before.right_child.ensures (sym c.before.before.walk-child2.ensures ∙ ap walked_of told)
 
 walk-from-arrive-requires : (t : ℕ) → walk-from-lts.Need-arrive-requires (walk-from-calls t) (walk-from-at t) walk_from.Post
 walk-from-arrive-requires t c κs = search rules
@@ -142,10 +142,10 @@ walk-from-returns-4 t c =
     let left-child-call = c.before.before.before.before.before.before.before.before.before.before.left-child in
     let walk-child-call = c.before.before.before.before.before.before.before.before.before.walk-child in
     c.arrive.ensures
-    ∙ both-pass _ _ _ _ record-at-call.ensures _ start.requires.1.0 if1-found.false _ _ _ _ left-child-call.ensures
-    (sym walk-child-call.ensures ∙ ap walkedOf c.before.before.before.before.before.before.before.left.given.1)
+    ∙ both_pass _ _ _ _ record-at-call.ensures _ start.requires.1.0 if1-found.false _ _ _ _ left-child-call.ensures
+    (sym walk-child-call.ensures ∙ ap walked_of c.before.before.before.before.before.before.before.left.given.1)
     c.before.before.before.before.before.right_child.ensures
-    (sym c.before.before.before.before.walk-child2.ensures ∙ ap walkedOf c.before.before.right.given.1)
+    (sym c.before.before.before.before.walk-child2.ensures ∙ ap walked_of c.before.before.right.given.1)
 
 pub +walk-child-walk-from-spec : {M : Type 1} → statement M
 +walk-child-walk-from-spec = close μ-walk-child μ-walk-from (λ t. walk-child-lts.spec (walk-child-calls t)

@@ -1,5 +1,5 @@
 -- `table::allowed` meets its contract: a hidden node, a case, any other node.
-use Rattle.table.proofs.Steps.{asks-hidden, asks-case, asks-other}
+use Rattle.table.proofs.Steps.{asks_hidden, asks_case, asks_other}
 use mathlib.Core.Path.{sym, ◌∙◌}
 use borrow.Author.Rules.{rules}
 use Rattle.table.proofs.allowed.Statement.{statement}
@@ -17,7 +17,7 @@ not-repeated-requires c κs = search rules
 returns : tie.Need-returns
 returns c =
     c.not-repeated.ensures
-    ∙ sym (asks-hidden _ _ _ _ c.before.before.before.record-at.ensures (sym c.before.before.is_hidden.ensures ∙ c.before.if1.true))
+    ∙ sym (asks_hidden _ _ _ _ c.before.before.before.record-at.ensures (sym c.before.before.is_hidden.ensures ∙ c.before.if1.true))
 
 left-child-requires : tie.Need-left-child-requires
 left-child-requires c κs = search rules
@@ -38,7 +38,7 @@ returns-2 : tie.Need-returns-2
 returns-2 c =
     let record-at-call = c.before.before.before.before.before.before.before.before.before.record-at in
     c.one-hidden.ensures
-    ∙ sym (asks-case _ _ _ _ record-at-call.ensures _ _ _ _ c.before.before.before.before.before.before.left-child.ensures
+    ∙ sym (asks_case _ _ _ _ record-at-call.ensures _ _ _ _ c.before.before.before.before.before.before.left-child.ensures
     c.before.before.before.before.right_child.ensures c.before.before.before.before.before.hidden_at.ensures
     c.before.before.before.hidden-at2.ensures c.before.if2.true)
 
@@ -50,7 +50,7 @@ returns-3 c =
     let record-at-call = c.before.before.before.before.before.before.before.before.before.record-at in
     let is-hidden-call = c.before.before.before.before.before.before.before.before.is_hidden in
     c.none_hidden.ensures
-    ∙ sym (asks-other _ _ _ _ record-at-call.ensures _ _ _ _ c.before.before.before.before.before.before.left-child.ensures
+    ∙ sym (asks_other _ _ _ _ record-at-call.ensures _ _ _ _ c.before.before.before.before.before.before.left-child.ensures
     c.before.before.before.before.right_child.ensures c.before.before.before.before.before.hidden_at.ensures
     c.before.before.before.hidden-at2.ensures c.before.if2.false
     (sym is-hidden-call.ensures ∙ c.before.before.before.before.before.before.before.if1.false))

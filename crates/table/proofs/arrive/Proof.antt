@@ -1,6 +1,6 @@
 -- `table::arrive` meets its contract: the order is judged first, then what the node asks.
-use Rattle.table.proofs.Steps.{turn-refused, turn-passed}
-use Rattle.common.specs.Answers.{checkOf}
+use Rattle.table.proofs.Steps.{turn_refused, turn_passed}
+use Rattle.common.specs.Answers.{check_of}
 use mathlib.Core.Path.{ap}
 use borrow.Author.Rules.{rules}
 use Rattle.table.proofs.arrive.Statement.{statement}
@@ -26,13 +26,13 @@ enum-known-both c = search rules
 
 returns : tie.Need-returns
 returns c =
-    turn-passed _ _ _ _ _ _ _ c.before.before.before.before.in_order.ensures c.before.before.before.allowed.ensures
-    c.before.before.first-refusal.ensures (ap checkOf c.enum_told.given.1)
+    turn_passed _ _ _ _ _ _ _ c.before.before.before.before.in_order.ensures c.before.before.before.allowed.ensures
+    c.before.before.first-refusal.ensures (ap check_of c.enum_told.given.1)
 
 returns-2 : tie.Need-returns-2
 returns-2 c =
-    turn-refused _ _ _ _ _ _ _ c.before.before.before.before.before.in_order.ensures c.before.before.before.before.allowed.ensures
-    c.before.before.before.first-refusal.ensures _ (ap checkOf c.before.both.given.1)
+    turn_refused _ _ _ _ _ _ _ c.before.before.before.before.before.in_order.ensures c.before.before.before.before.allowed.ensures
+    c.before.before.before.first-refusal.ensures _ (ap check_of c.before.both.given.1)
 
 pub arrive-spec : {M : Type 1} → statement M
 arrive-spec =

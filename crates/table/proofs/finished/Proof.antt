@@ -1,5 +1,5 @@
 -- `table::finished` meets its contract, case by case.
-use Rattle.table.specs.Answers.{finishOf}
+use Rattle.table.specs.Answers.{finish_of}
 use mathlib.Core.Path.{sym, ap}
 use borrow.Author.Rules.{rules}
 use Rattle.table.proofs.finished.Statement.{statement}
@@ -15,7 +15,7 @@ returns : tie.Need-returns
 returns c = search rules
 
 returns-2 : tie.Need-returns-2
-returns-2 c = sym (ap finishOf c.before.w.given.1)
+returns-2 c = sym (ap finish_of c.before.w.given.1)
 
 pub finished-spec : {M : Type 1} → statement M
 finished-spec = tie.close (tie.spec enum_told enum-known-w returns returns-2)

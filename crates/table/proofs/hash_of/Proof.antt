@@ -1,6 +1,6 @@
 -- `table::hash_of` meets its contract: the bytes from the position on, as far as the store has them.
 use Rattle.table.proofs.Hashes.{hash_at}
-use Rattle.table.proofs.Groups.{no-hash}
+use Rattle.table.proofs.Groups.{no_hash}
 use Rattle.promise.specs.Parts.{Part}
 use mathlib.Core.Path.{sym, ap, ◌∙◌}
 use borrow.Author.Rules.{rules}
@@ -11,7 +11,7 @@ slice-aggregate-result : tie.Need-slice-aggregate-result
 slice-aggregate-result c = search rules
 
 returns : tie.Need-returns
-returns c = sym (no-hash _ _ _ _ c.before.if1.true)
+returns c = sym (no_hash _ _ _ _ c.before.if1.true)
 
 place-requires : tie.Need-place-requires
 place-requires c κs = search rules

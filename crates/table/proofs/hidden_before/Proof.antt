@@ -1,8 +1,8 @@
 -- `table::hidden_before` meets its contract. The loop's invariant: a node below i hides the hash exactly if one below j does.
-use Rattle.common.specs.Checks.{any_found, any-later, any_none}
-use Rattle.table.specs.Lent.{lentNodes}
+use Rattle.common.specs.Checks.{any_found, any_later, any_none}
+use Rattle.table.specs.Lent.{lent_nodes}
 use Rattle.scope.specs.Walk.{hides}
-use Rattle.scope.specs.Numbers.{anyBelow}
+use Rattle.scope.specs.Numbers.{any_below}
 use native.Mathlib.Omega.{arith}
 use Prim.Native.Nat.{◌≤◌}
 use mathlib.Core.Path.{◌≡◌, sym, refl, ◌∙◌}
@@ -11,7 +11,7 @@ use Rattle.table.proofs.hidden_before.Statement.{statement}
 use Rattle.table.proofs.hidden_before.Tie as tie
 
 abbrev invariant-loop : tie.invariant-loop
-invariant-loop nodes hashes hash i j₀ j = (anyBelow i (hides (lentNodes hashes nodes) hash) ≡ anyBelow j (hides (lentNodes hashes nodes) hash)) × (j ≤ i)
+invariant-loop nodes hashes hash i j₀ j = (any_below i (hides (lent_nodes hashes nodes) hash) ≡ any_below j (hides (lent_nodes hashes nodes) hash)) × (j ≤ i)
 
 abbrev decreases-loop : tie.decreases-loop
 decreases-loop nodes hashes hash i j₀ j = j
@@ -35,7 +35,7 @@ loop-less c = search rules
 loop-again : tie.Need-loop-preserved invariant-loop decreases-loop
 loop-again c = (
   c.before.before.before.loop.invariant.0
-      ∙ any-later _ _ c.before.before.loop-test.true (sym c.before.hides.ensures ∙ c.if1.false),
+      ∙ any_later _ _ c.before.before.loop-test.true (sym c.before.hides.ensures ∙ c.if1.false),
   omega arith,
 )
 

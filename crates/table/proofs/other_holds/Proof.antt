@@ -1,6 +1,6 @@
 -- `table::other_holds` meets its contract: each kind's rule.
-use Rattle.table.proofs.Groups.{rule-unknown, above-kinds}
-use Rattle.scope.specs.Stages.{numbersRule}
+use Rattle.table.proofs.Groups.{rule_unknown, above_kinds}
+use Rattle.scope.specs.Stages.{numbers_rule}
 use Rattle.scope.specs.Nodes.{kind_of}
 use mathlib.Core.Path.{sym}
 use borrow.Author.Rules.{rules}
@@ -29,29 +29,29 @@ word-within-requires : tie.Need-word-within-requires
 word-within-requires c κs = search rules
 
 returns : tie.Need-returns
-unfolding numbersRule kind_of
+unfolding numbers_rule kind_of
 returns c = rw c.before.match.keys1 c.stored-within.ensures
 
 returns-2 : tie.Need-returns-2
-unfolding numbersRule kind_of
+unfolding numbers_rule kind_of
 returns-2 c = rw c.before.match.keys2 c.one_below.ensures
 
 returns-3 : tie.Need-returns-3
-unfolding numbersRule kind_of
+unfolding numbers_rule kind_of
 returns-3 c = rw c.before.match.keys3 c.unused.ensures
 
 returns-4 : tie.Need-returns-4
-unfolding numbersRule kind_of
+unfolding numbers_rule kind_of
 returns-4 c = rw c.before.match.keys4 c.stored-within2.ensures
 
 returns-5 : tie.Need-returns-5
-unfolding numbersRule kind_of
+unfolding numbers_rule kind_of
 returns-5 c = rw c.before.match.keys5 c.word-within.ensures
 
 returns-6 : tie.Need-returns-6
 returns-6 c =
-    sym (rule-unknown _ _ _ _ _ _ _
-    (above-kinds _ c.before.requires c.match.rest.0.0.0.0.1 c.match.rest.0.0.0.1 c.match.rest.0.0.1
+    sym (rule_unknown _ _ _ _ _ _ _
+    (above_kinds _ c.before.requires c.match.rest.0.0.0.0.1 c.match.rest.0.0.0.1 c.match.rest.0.0.1
     c.match.rest.0.1 c.match.rest.1))
 
 pub other-holds-spec : {M : Type 1} → statement M

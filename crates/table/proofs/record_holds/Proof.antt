@@ -1,5 +1,5 @@
 -- `table::record_holds` meets its contract: the groups of kinds.
-use Rattle.table.proofs.Groups.{rule-by}
+use Rattle.table.proofs.Groups.{rule_by}
 use borrow.Author.Tests.{le-leb, lt-leb}
 use borrow.Author.Rules.{rules}
 use Rattle.table.proofs.record_holds.Statement.{statement}
@@ -9,13 +9,13 @@ two-below-requires : tie.Need-two-below-requires
 two-below-requires c κs = search rules
 
 returns : tie.Need-returns
-returns c = rw (rule-by, le-leb _ _ c.before.if1.true) c.two-below.ensures
+returns c = rw (rule_by, le-leb _ _ c.before.if1.true) c.two-below.ensures
 
 one-below-requires : tie.Need-one-below-requires
 one-below-requires c κs = search rules
 
 returns-2 : tie.Need-returns-2
-returns-2 c = rw (rule-by, lt-leb _ _ c.before.before.if1.false, le-leb _ _ c.before.if2.true) c.one_below.ensures
+returns-2 c = rw (rule_by, lt-leb _ _ c.before.before.if1.false, le-leb _ _ c.before.if2.true) c.one_below.ensures
 
 unused-requires : tie.Need-unused-requires
 unused-requires c κs = search rules
@@ -23,7 +23,7 @@ unused-requires c κs = search rules
 returns-3 : tie.Need-returns-3
 returns-3 c =
     rw (
-      rule-by,
+      rule_by,
       lt-leb _ _ c.before.before.before.if1.false,
       lt-leb _ _ c.before.before.if2.false,
       le-leb _ _ c.before.if3.true,

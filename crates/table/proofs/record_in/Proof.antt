@@ -1,6 +1,6 @@
 -- `table::record_in` meets its contract: the four numbers of record k are where its definition reads them.
-use Rattle.common.specs.Nodes.{record-in, record-past}
-use Rattle.scope.specs.Nodes.{nodeRecord}
+use Rattle.common.specs.Nodes.{record_in, record_past}
+use Rattle.scope.specs.Nodes.{node_record}
 use native.Mathlib.Omega.{arith}
 use mathlib.Core.Path.{sym}
 use borrow.Author.Rules.{rules}
@@ -44,11 +44,11 @@ shared-slice-read-t21 : tie.Need-shared-slice-read-t21
 shared-slice-read-t21 c = search rules
 
 returns : tie.Need-returns
-unfolding nodeRecord
-returns c = sym (record-in c.before.before.before.before.before.args.nodes.now c.before.before.before.before.before.args.k (omega arith))
+unfolding node_record
+returns c = sym (record_in c.before.before.before.before.before.args.nodes.now c.before.before.before.before.before.args.k (omega arith))
 
 returns-2 : tie.Need-returns-2
-returns-2 c = sym (record-past c.before.args.nodes.now c.before.args.k (omega arith))
+returns-2 c = sym (record_past c.before.args.nodes.now c.before.args.k (omega arith))
 
 pub record-in-spec : {M : Type 1} → statement M
 record-in-spec =

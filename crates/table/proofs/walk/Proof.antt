@@ -1,8 +1,8 @@
 -- `table::walk` meets its contract: the count, then the walk from the last node, which is not hidden.
-use Rattle.table.proofs.Stages.{count-refuses-walk, walk-stops, walk_ends}
-use Rattle.common.specs.Nodes.{length-records, fine-records}
-use Rattle.common.specs.Answers.{checkOf}
-use Rattle.table.specs.Answers.{walkedOf, finishOf}
+use Rattle.table.proofs.Stages.{count_refuses_walk, walk_stops, walk_ends}
+use Rattle.common.specs.Nodes.{length_records, fine_records}
+use Rattle.common.specs.Answers.{check_of}
+use Rattle.table.specs.Answers.{walked_of, finish_of}
 use Rattle.scope.specs.Check.{require}
 use native.Mathlib.Omega.{arith}
 use mathlib.Core.Path.{sym, ap, ◌∙◌}
@@ -20,23 +20,23 @@ enum-told-2 : tie.Need-enum-told-2
 enum-told-2 c = search rules
 
 returns : tie.Need-returns
-returns c = count-refuses-walk _ _ _ _ c.before.before.check-count.ensures c.enum-told2.given.1
+returns c = count_refuses_walk _ _ _ _ c.before.before.check-count.ensures c.enum-told2.given.1
 
 sub-last : tie.Need-overflow-sub-last
 sub-last c =
-    (fine-records c.before.before.before.before.before.args.nodes.now
-    (sym c.before.before.check-count.ensures ∙ ap checkOf c.enum_told.given.1)).0
+    (fine_records c.before.before.before.before.before.args.nodes.now
+    (sym c.before.before.check-count.ensures ∙ ap check_of c.enum_told.given.1)).0
 
 cast-last : tie.Need-overflow-cast-last
 cast-last c =
-    let some = fine-records c.before.before.before.before.before.args.nodes.now
-    (sym c.before.before.check-count.ensures ∙ ap checkOf c.enum_told.given.1) in record { fits = omega arith }
+    let some = fine_records c.before.before.before.before.before.args.nodes.now
+    (sym c.before.before.check-count.ensures ∙ ap check_of c.enum_told.given.1) in record { fits = omega arith }
 
 walk-from-requires : tie.Need-walk-from-requires
 walk-from-requires c κs =
-    let some = fine-records c.before.before.before.before.before.args.nodes.now
-    (sym c.before.before.check-count.ensures ∙ ap checkOf c.enum_told.given.1) in
-    let n = length-records c.before.before.before.before.before.args.nodes.now in
+    let some = fine_records c.before.before.before.before.before.args.nodes.now
+    (sym c.before.before.check-count.ensures ∙ ap check_of c.enum_told.given.1) in
+    let n = length_records c.before.before.before.before.before.args.nodes.now in
     (omega arith, omega arith)
 
 enum-told-3 : tie.Need-enum-told-3
@@ -51,10 +51,10 @@ finished-requires c κs = search rules
 returns-2 : tie.Need-returns-2
 returns-2 c =
     let told = c.before.enum-told4.given.1 in
-    c.finished.ensures ∙ ap finishOf told
-    ∙ walk-stops _ _
-    (sym c.before.before.before.before.before.before.check-count.ensures ∙ ap checkOf
-    c.before.before.before.before.enum_told.given.1) _ (sym c.before.before.before.walk_from.ensures ∙ ap walkedOf told)
+    c.finished.ensures ∙ ap finish_of told
+    ∙ walk_stops _ _
+    (sym c.before.before.before.before.before.before.check-count.ensures ∙ ap check_of
+    c.before.before.before.before.enum_told.given.1) _ (sym c.before.before.before.walk_from.ensures ∙ ap walked_of told)
 
 hidden-at-requires : tie.Need-hidden-at-requires
 hidden-at-requires c κs = search rules
@@ -64,8 +64,8 @@ unfolding require
 returns-3 c =
     let p = walk_ends _ _
     (sym c.before.before.before.before.before.before.before.check-count.ensures
-    ∙ ap checkOf c.before.before.before.before.before.enum_told.given.1) _ _
-    (sym c.before.before.before.before.walk_from.ensures ∙ ap walkedOf c.before.before.enum-told3.given.1)
+    ∙ ap check_of c.before.before.before.before.before.enum_told.given.1) _ _
+    (sym c.before.before.before.before.walk_from.ensures ∙ ap walked_of c.before.before.enum-told3.given.1)
     c.before.hidden_at.ensures in
     rw c.if1.true at p
 
@@ -74,8 +74,8 @@ unfolding require
 returns-4 c =
     let p = walk_ends _ _
     (sym c.before.before.before.before.before.before.before.check-count.ensures
-    ∙ ap checkOf c.before.before.before.before.before.enum_told.given.1) _ _
-    (sym c.before.before.before.before.walk_from.ensures ∙ ap walkedOf c.before.before.enum-told3.given.1)
+    ∙ ap check_of c.before.before.before.before.before.enum_told.given.1) _ _
+    (sym c.before.before.before.before.walk_from.ensures ∙ ap walked_of c.before.before.enum-told3.given.1)
     c.before.hidden_at.ensures in
     rw c.if1.false at p
 

@@ -2,8 +2,8 @@
 use mathlib.Core.Path.{◌≡◌, refl, sym, ◌∙◌}
 use borrow.Author.Tests.{not-true, not-false}
 use borrow.Author.Rules.{rules}
-use Rattle.scope.specs.Types.{typeRecords}
-use Rattle.types.proofs.Words.{first-fails, second-fails, third-tells, bit_is}
+use Rattle.scope.specs.Types.{type_records}
+use Rattle.types.proofs.Words.{first_fails, second_fails, third_tells, bit_is}
 use Rattle.types.proofs.is_bit.Statement.{statement}
 use Rattle.types.proofs.is_bit.Tie as tie
 
@@ -18,8 +18,8 @@ is-sum-requires c κs = search rules
 
 returns : tie.Need-returns
 returns c =
-    first-fails _ _ _ (sym c.before.is_sum.ensures ∙ not-true _ c.if1.true)
-    ∙ bit_is (typeRecords c.before.before.before.before.before.args.types.now) c.before.before.before.before.before.args.j _ _
+    first_fails _ _ _ (sym c.before.is_sum.ensures ∙ not-true _ c.if1.true)
+    ∙ bit_is (type_records c.before.before.before.before.before.args.types.now) c.before.before.before.before.before.args.j _ _
     c.before.before.before.left-of.ensures c.before.before.right_of.ensures
 
 is-unit-requires : tie.Need-is-unit-requires
@@ -27,9 +27,9 @@ is-unit-requires c κs = search rules
 
 returns-2 : tie.Need-returns-2
 returns-2 c =
-    second-fails _ _ _ (sym c.before.before.before.is_sum.ensures ∙ not-false _ c.before.before.if1.false)
+    second_fails _ _ _ (sym c.before.before.before.is_sum.ensures ∙ not-false _ c.before.before.if1.false)
     (sym c.before.is-unit.ensures ∙ not-true _ c.if2.true)
-    ∙ bit_is (typeRecords c.before.before.before.before.before.before.before.args.types.now)
+    ∙ bit_is (type_records c.before.before.before.before.before.before.before.args.types.now)
     c.before.before.before.before.before.before.before.args.j _ _ c.before.before.before.before.before.left-of.ensures
     c.before.before.before.before.right_of.ensures
 
@@ -39,9 +39,9 @@ is-unit-requires-2 c κs = search rules
 returns-3 : tie.Need-returns-3
 returns-3 c =
     c.is-unit2.ensures
-    ∙ third-tells _ _ _ (sym c.before.before.before.before.is_sum.ensures ∙ not-false _ c.before.before.before.if1.false)
+    ∙ third_tells _ _ _ (sym c.before.before.before.before.is_sum.ensures ∙ not-false _ c.before.before.before.if1.false)
     (sym c.before.before.is-unit.ensures ∙ not-false _ c.before.if2.false)
-    ∙ bit_is (typeRecords c.before.before.before.before.before.before.before.before.args.types.now)
+    ∙ bit_is (type_records c.before.before.before.before.before.before.before.before.args.types.now)
     c.before.before.before.before.before.before.before.before.args.j _ _
     c.before.before.before.before.before.before.left-of.ensures c.before.before.before.before.before.right_of.ensures
 

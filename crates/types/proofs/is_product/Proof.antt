@@ -1,7 +1,7 @@
 -- `types::is_product` meets its contract.
 use borrow.Author.Rules.{rules}
-use Rattle.scope.specs.Types.{isProduct}
-use Rattle.types.specs.Records.{isRecord}
+use Rattle.scope.specs.Types.{is_product}
+use Rattle.types.specs.Records.{is_record}
 use Rattle.types.proofs.is_product.Statement.{statement}
 use Rattle.types.proofs.is_product.Tie as tie
 
@@ -9,7 +9,7 @@ is-record-requires : tie.Need-is-record-requires
 is-record-requires c κs = search rules
 
 returns : tie.Need-returns
-unfolding isProduct isRecord
+unfolding is_product is_record
 returns c = c.is-record.ensures
 
 pub is-product-spec : {M : Type 1} → statement M

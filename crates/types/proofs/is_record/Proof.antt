@@ -3,7 +3,7 @@ use mathlib.Core.Path.{◌≡◌, sym, ap, ◌∙◌}
 use Prim.Native.Nat.{ℕ}
 use lib.Dec.{eqb}
 use borrow.Author.Rules.{rules}
-use Rattle.types.proofs.Words.{other_tag, other-left, by_right}
+use Rattle.types.proofs.Words.{other_tag, other_left, by_right}
 use Rattle.types.proofs.is_record.Statement.{statement}
 use Rattle.types.proofs.is_record.Tie as tie
 
@@ -19,7 +19,7 @@ index-requires c κs = search rules
 returns-2 : tie.Need-returns-2
 returns-2 c =
     let own = c.before.before.before.before.record-at.ensures in
-    other-left _ _ _ _ _ (sym (ap (λ r. r.tag) own) ∙ c.before.before.if1.false)
+    other_left _ _ _ _ _ (sym (ap (λ r. r.tag) own) ∙ c.before.before.if1.false)
     (λ e. c.if2.true (c.before.index.ensures.0 ∙ ap (λ r. r.left) own ∙ e))
 
 index-requires-2 : tie.Need-index-requires-2

@@ -4,13 +4,13 @@ use Prim.Native.Nat.{ℕ}
 use native.Mathlib.Omega.{arith}
 use borrow.Author.Tests.{not-true, not-false}
 use borrow.Author.Rules.{rules}
-use Rattle.scope.specs.Types.{typeRecords, isWord}
-use Rattle.types.proofs.Words.{word-down, word-stops}
+use Rattle.scope.specs.Types.{type_records, is_word}
+use Rattle.types.proofs.Words.{word_down, word_stops}
 use Rattle.types.proofs.is_word.Statement.{statement}
 use Rattle.types.proofs.is_word.Tie as tie
 
 abbrev invariant-loop : tie.invariant-loop
-invariant-loop types k j left₀ at₀ left at = isWord (typeRecords types) k j ≡ isWord (typeRecords types) left at
+invariant-loop types k j left₀ at₀ left at = is_word (type_records types) k j ≡ is_word (type_records types) left at
 
 abbrev decreases-loop : tie.decreases-loop
 decreases-loop types k j left₀ at₀ left at = left
@@ -27,7 +27,7 @@ is-product-requires c κs = search rules
 returns : tie.Need-returns invariant-loop decreases-loop
 returns c =
     let turn = c.before.before.before.before.loop in
-    sym (turn.invariant ∙ word-stops (typeRecords c.before.before.before.before.before.before.args.types.now) turn.left turn.at
+    sym (turn.invariant ∙ word_stops (type_records c.before.before.before.before.before.before.args.types.now) turn.left turn.at
     c.before.before.left-of.result c.before.before.before.loop-test.true c.before.before.left-of.ensures
     (sym c.before.is-product.ensures ∙ not-true _ c.if1.true))
 
@@ -40,7 +40,7 @@ loop-less c = search rules
 loop-again : tie.Need-loop-preserved invariant-loop decreases-loop
 loop-again c =
     let turn = c.before.before.before.before.loop in
-    turn.invariant ∙ word-down (typeRecords c.before.before.before.before.before.before.args.types.now) turn.left turn.at
+    turn.invariant ∙ word_down (type_records c.before.before.before.before.before.before.args.types.now) turn.left turn.at
     c.before.before.left-of.result c.before.before.before.loop-test.true c.before.before.left-of.ensures
     (sym c.before.is-product.ensures ∙ not-false _ c.if1.false)
 
@@ -51,7 +51,7 @@ returns-2 : tie.Need-returns-2 invariant-loop decreases-loop
 returns-2 c =
     let turn = c.before.before.loop in
     let ended : 0 ≡ turn.left = omega arith in
-    c.is-bit.ensures ∙ ap (λ (k : ℕ). isWord (typeRecords c.before.before.before.before.args.types.now) k turn.at) ended
+    c.is-bit.ensures ∙ ap (λ (k : ℕ). is_word (type_records c.before.before.before.before.args.types.now) k turn.at) ended
     ∙ sym turn.invariant
 
 pub is-word-spec : {M : Type 1} → statement M

@@ -8,13 +8,13 @@ use lib.Dec.{leb}
 use lib.ListN.{get_or}
 use borrow.Author.Rules.{rules}
 use borrow.Author.Tests.{le-leb, lt-leb, not-true, not-false}
-use Rattle.limits.specs.Limits.{typeWidth}
-use Rattle.scope.specs.Numbers.{anyBelow}
-use Rattle.scope.specs.Types.{typeRecords, type_at, sameType, partsRule}
-use Rattle.types.specs.Records.{partsWidth, verdict}
+use Rattle.limits.specs.Limits.{type_width}
+use Rattle.scope.specs.Numbers.{any_below}
+use Rattle.scope.specs.Types.{type_records, type_at, same_type, parts_rule}
+use Rattle.types.specs.Records.{parts_width, verdict}
 use Rattle.types.specs.declared.Judged.TheVariants.{Width}
 use Rattle.types.specs.declared.TypeRecord.{TypeRecord}
-use Rattle.types.proofs.Records.{rule-any, rule-of, width_of}
+use Rattle.types.proofs.Records.{rule_any, rule_of_lem, width_of}
 use Rattle.types.proofs.judge.Statement.{statement}
 use Rattle.types.proofs.judge.Tie as tie
 
@@ -34,20 +34,20 @@ returns : tie.Need-returns
 returns c =
     let a = c.before.before.before.before.before.before.before.args in
     let w = a.widths.now in
-    let T = typeRecords a.types.now in
+    let T = type_records a.types.now in
     let R = type_at T a.i in
     let own = c.before.before.before.before.record-at.ensures in
     let t : c.before.before.before.before.record-at.result.tag ≡ R.tag = ap (λ (r : TypeRecord). r.tag) own in
     let x : c.before.before.before.index.result ≡ R.left = c.before.before.before.index.ensures.0 ∙ ap (λ (r : TypeRecord). r.left) own in
     let y : c.before.before.index2.result ≡ R.right = c.before.before.index2.ensures.0 ∙ ap (λ (r : TypeRecord). r.right) own in
-    let rule : c.before.parts-fit.result ≡ partsRule T a.i R.tag R.left R.right =
+    let rule : c.before.parts-fit.result ≡ parts_rule T a.i R.tag R.left R.right =
     c.before.parts-fit.ensures
-    ∙ rule-any [] T a.i c.before.before.before.before.record-at.result.tag c.before.before.before.index.result
+    ∙ rule_any [] T a.i c.before.before.before.before.record-at.result.tag c.before.before.before.index.result
     c.before.before.index2.result
-    ∙ rule-of T a.i t x y in
-    let again = anyBelow a.i (sameType T a.i) in
-    let W = partsWidth R.tag (get_or w R.left 0) (get_or w R.right 0) in
-    ap (λ (p : Bool). verdict p (leb W typeWidth) again W) (sym (not-true _ c.if1.true) ∙ rule)
+    ∙ rule_of_lem T a.i t x y in
+    let again = any_below a.i (same_type T a.i) in
+    let W = parts_width R.tag (get_or w R.left 0) (get_or w R.right 0) in
+    ap (λ (p : Bool). verdict p (leb W type_width) again W) (sym (not-true _ c.if1.true) ∙ rule)
 
 width-at-requires : tie.Need-width-at-requires
 width-at-requires c κs = search rules
@@ -69,22 +69,22 @@ returns-2 c =
     let parts-fit-call = c.before.before.before.before.before.before.parts-fit in
     let a = c.before.before.before.before.before.before.before.before.before.before.before.before.args in
     let w = a.widths.now in
-    let T = typeRecords a.types.now in
+    let T = type_records a.types.now in
     let R = type_at T a.i in
     let own = c.before.before.before.before.before.before.before.before.before.record-at.ensures in
     let t : record-at-call.result.tag ≡ R.tag = ap (λ (r : TypeRecord). r.tag) own in
     let x : index-call.result ≡ R.left = index-call.ensures.0 ∙ ap (λ (r : TypeRecord). r.left) own in
     let y : index2-call.result ≡ R.right = index2-call.ensures.0 ∙ ap (λ (r : TypeRecord). r.right) own in
-    let rule : parts-fit-call.result ≡ partsRule T a.i R.tag R.left R.right =
-    parts-fit-call.ensures ∙ rule-any [] T a.i record-at-call.result.tag index-call.result index2-call.result ∙ rule-of T a.i t x y in
-    let again = anyBelow a.i (sameType T a.i) in
-    let W = partsWidth R.tag (get_or w R.left 0) (get_or w R.right 0) in
-    let ok : true ≡ partsRule T a.i R.tag R.left R.right = sym (not-false _ c.before.before.before.before.before.if1.false) ∙ rule in
+    let rule : parts-fit-call.result ≡ parts_rule T a.i R.tag R.left R.right =
+    parts-fit-call.ensures ∙ rule_any [] T a.i record-at-call.result.tag index-call.result index2-call.result ∙ rule_of_lem T a.i t x y in
+    let again = any_below a.i (same_type T a.i) in
+    let W = parts_width R.tag (get_or w R.left 0) (get_or w R.right 0) in
+    let ok : true ≡ parts_rule T a.i R.tag R.left R.right = sym (not-false _ c.before.before.before.before.before.if1.false) ∙ rule in
     let v : c.before.before.parts-width.result ≡ W =
     c.before.before.parts-width.ensures
     ∙ width_of t (c.before.before.before.before.width-at.ensures ∙ ap (λ (k : ℕ). get_or w k 0) x)
     (c.before.before.before.width-at2.ensures ∙ ap (λ (k : ℕ). get_or w k 0) y) in
-    let wide : false ≡ leb W typeWidth = sym (lt-leb W typeWidth (omega arith)) in
+    let wide : false ≡ leb W type_width = sym (lt-leb W type_width (omega arith)) in
     ap₂ (λ (p f : Bool). verdict p f again W) ok wide
 
 repeated-requires : tie.Need-repeated-requires
@@ -99,23 +99,23 @@ returns-3 c =
     let parts-width-call = c.before.before.before.before.parts-width in
     let a = c.before.before.before.before.before.before.before.before.before.before.before.before.before.before.args in
     let w = a.widths.now in
-    let T = typeRecords a.types.now in
+    let T = type_records a.types.now in
     let R = type_at T a.i in
     let own = c.before.before.before.before.before.before.before.before.before.before.before.record-at.ensures in
     let t : record-at-call.result.tag ≡ R.tag = ap (λ (r : TypeRecord). r.tag) own in
     let x : index-call.result ≡ R.left = index-call.ensures.0 ∙ ap (λ (r : TypeRecord). r.left) own in
     let y : index2-call.result ≡ R.right = index2-call.ensures.0 ∙ ap (λ (r : TypeRecord). r.right) own in
-    let rule : parts-fit-call.result ≡ partsRule T a.i R.tag R.left R.right =
-    parts-fit-call.ensures ∙ rule-any [] T a.i record-at-call.result.tag index-call.result index2-call.result ∙ rule-of T a.i t x y in
-    let again = anyBelow a.i (sameType T a.i) in
-    let W = partsWidth R.tag (get_or w R.left 0) (get_or w R.right 0) in
-    let ok : true ≡ partsRule T a.i R.tag R.left R.right =
+    let rule : parts-fit-call.result ≡ parts_rule T a.i R.tag R.left R.right =
+    parts-fit-call.ensures ∙ rule_any [] T a.i record-at-call.result.tag index-call.result index2-call.result ∙ rule_of_lem T a.i t x y in
+    let again = any_below a.i (same_type T a.i) in
+    let W = parts_width R.tag (get_or w R.left 0) (get_or w R.right 0) in
+    let ok : true ≡ parts_rule T a.i R.tag R.left R.right =
     sym (not-false _ c.before.before.before.before.before.before.before.if1.false) ∙ rule in
     let v : parts-width-call.result ≡ W =
     parts-width-call.ensures
     ∙ width_of t (c.before.before.before.before.before.before.width-at.ensures ∙ ap (λ (k : ℕ). get_or w k 0) x)
     (c.before.before.before.before.before.width-at2.ensures ∙ ap (λ (k : ℕ). get_or w k 0) y) in
-    let fits : true ≡ leb W typeWidth = sym (le-leb W typeWidth (omega arith)) in
+    let fits : true ≡ leb W type_width = sym (le-leb W type_width (omega arith)) in
     let twice : true ≡ again = sym c.if3.true ∙ c.before.repeated.ensures in
     ap (λ (r : Bool). verdict true true r W) twice ∙ ap₂ (λ (p f : Bool). verdict p f again W) ok fits
 
@@ -131,23 +131,23 @@ returns-4 c =
     let parts-width-call = c.before.before.before.before.parts-width in
     let a = c.before.before.before.before.before.before.before.before.before.before.before.before.before.before.args in
     let w = a.widths.now in
-    let T = typeRecords a.types.now in
+    let T = type_records a.types.now in
     let R = type_at T a.i in
     let own = c.before.before.before.before.before.before.before.before.before.before.before.record-at.ensures in
     let t : record-at-call.result.tag ≡ R.tag = ap (λ (r : TypeRecord). r.tag) own in
     let x : index-call.result ≡ R.left = index-call.ensures.0 ∙ ap (λ (r : TypeRecord). r.left) own in
     let y : index2-call.result ≡ R.right = index2-call.ensures.0 ∙ ap (λ (r : TypeRecord). r.right) own in
-    let rule : parts-fit-call.result ≡ partsRule T a.i R.tag R.left R.right =
-    parts-fit-call.ensures ∙ rule-any [] T a.i record-at-call.result.tag index-call.result index2-call.result ∙ rule-of T a.i t x y in
-    let again = anyBelow a.i (sameType T a.i) in
-    let W = partsWidth R.tag (get_or w R.left 0) (get_or w R.right 0) in
-    let ok : true ≡ partsRule T a.i R.tag R.left R.right =
+    let rule : parts-fit-call.result ≡ parts_rule T a.i R.tag R.left R.right =
+    parts-fit-call.ensures ∙ rule_any [] T a.i record-at-call.result.tag index-call.result index2-call.result ∙ rule_of_lem T a.i t x y in
+    let again = any_below a.i (same_type T a.i) in
+    let W = parts_width R.tag (get_or w R.left 0) (get_or w R.right 0) in
+    let ok : true ≡ parts_rule T a.i R.tag R.left R.right =
     sym (not-false _ c.before.before.before.before.before.before.before.if1.false) ∙ rule in
     let v : parts-width-call.result ≡ W =
     parts-width-call.ensures
     ∙ width_of t (c.before.before.before.before.before.before.width-at.ensures ∙ ap (λ (k : ℕ). get_or w k 0) x)
     (c.before.before.before.before.before.width-at2.ensures ∙ ap (λ (k : ℕ). get_or w k 0) y) in
-    let fits : true ≡ leb W typeWidth = sym (le-leb W typeWidth (omega arith)) in
+    let fits : true ≡ leb W type_width = sym (le-leb W type_width (omega arith)) in
     let once : false ≡ again = sym c.if3.false ∙ c.before.repeated.ensures in
     ap Width v ∙ ap (λ (r : Bool). verdict true true r W) once ∙ ap₂ (λ (p f : Bool). verdict p f again W) ok fits
 

@@ -3,7 +3,7 @@ use mathlib.Core.Path.{◌≡◌, ap, ◌∙◌}
 use Prim.Native.Nat.{ℕ}
 use lib.ListN.{get_or}
 use borrow.Author.Rules.{rules}
-use Rattle.scope.specs.Types.{typeRecords, type_at}
+use Rattle.scope.specs.Types.{type_records, type_at}
 use Rattle.types.specs.declared.TypeRecord.{TypeRecord}
 use Rattle.types.proofs.Records.{next_of}
 use Rattle.types.proofs.next_record.Statement.{statement}
@@ -41,7 +41,7 @@ returns c =
     let a = c.before.before.before.before.before.before.before.before.before.before.before.args in
     let w = a.widths.now in
     let n = a.next.now in
-    let R = type_at (typeRecords a.types.now) a.i in
+    let R = type_at (type_records a.types.now) a.i in
     let own = c.before.before.before.before.before.before.before.record-at.ensures in
     let x : c.before.before.before.before.before.before.index.result ≡ R.left =
     c.before.before.before.before.before.before.index.ensures.0 ∙ ap (λ (r : TypeRecord). r.left) own in

@@ -3,7 +3,7 @@ use mathlib.Core.Path.{◌≡◌, ap₂, sym, ◌∙◌}
 use Prim.Native.Nat.{ℕ, ◌+◌, max}
 use native.Mathlib.Omega.{arith}
 use borrow.Author.Rules.{rules}
-use Rattle.types.proofs.Records.{width-sum, width-product}
+use Rattle.types.proofs.Records.{width_sum, width_product}
 use Rattle.types.proofs.parts_width.Statement.{statement}
 use Rattle.types.proofs.parts_width.Tie as tie
 
@@ -29,19 +29,19 @@ returns-2 : tie.Need-returns-2
 returns-2 c =
     let a = c.before.before.before.before.before.args in
     let e : 1 + c.before.before.before.wide2.result ≡ 1 + max a.left a.right = omega arith in
-    e ∙ sym (width-sum a.tag a.left a.right c.before.if2.true)
+    e ∙ sym (width_sum a.tag a.left a.right c.before.if2.true)
 
 returns-3 : tie.Need-returns-3
 returns-3 c =
     let a = c.before.before.before.before.before.args in
     let e : 1 + c.before.before.before.before.wide.result ≡ 1 + max a.left a.right = omega arith in
-    e ∙ sym (width-sum a.tag a.left a.right c.before.if2.true)
+    e ∙ sym (width_sum a.tag a.left a.right c.before.if2.true)
 
 returns-4 : tie.Need-returns-4
 returns-4 c =
     let a = c.before.before.before.before.args in
     ap₂ (λ (x y : ℕ). x + y) c.before.before.before.wide.ensures.0 c.before.before.wide2.ensures.0
-    ∙ sym (width-product a.tag a.left a.right c.before.if1.false c.if2.false)
+    ∙ sym (width_product a.tag a.left a.right c.before.if1.false c.if2.false)
 
 pub parts-width-spec : {M : Type 1} → statement M
 parts-width-spec =

@@ -6,10 +6,10 @@ use lib.ListN.{get_or}
 use borrow.Author.Rules.{rules}
 use Rattle.limits.specs.Limits.{type_bytes}
 use Rattle.scope.specs.Numbers.{be16}
-use Rattle.scope.specs.Types.{typeRecord}
-use Rattle.types.specs.Table.{recordOf}
+use Rattle.scope.specs.Types.{type_record}
+use Rattle.types.specs.Table.{record_of}
 use Rattle.types.specs.declared.TypeRecord.{TypeRecord}
-use Rattle.types.proofs.Records.{record-in, record-past}
+use Rattle.types.proofs.Records.{record_in, record_past}
 use Rattle.types.proofs.record_at.Statement.{statement}
 use Rattle.types.proofs.record_at.Tie as tie
 
@@ -19,7 +19,7 @@ made e f g = λ i. record { tag = e i; left = f i; right = g i }
 returns : tie.Need-returns
 returns c =
     let a = c.before.before.args in
-    ap recordOf (sym (record-past a.types.now a.i (omega arith)))
+    ap record_of (sym (record_past a.types.now a.i (omega arith)))
 
 mul_at : tie.Need-overflow-mul-at
 mul_at c = search rules
@@ -40,15 +40,15 @@ half-at-requires-2 : tie.Need-half-at-requires-2
 half-at-requires-2 c κs = search rules
 
 returns-2 : tie.Need-returns-2
-unfolding typeRecord
+unfolding type_record
 returns-2 c =
     let a = c.before.before.before.before.before.args in
     let e : a.i * type_bytes ≡ type_bytes * a.i = omega arith in
-    let tag : get_or a.types.now (a.i * type_bytes) 0 ≡ (typeRecord a.types.now a.i).tag = ap (λ (k : ℕ). get_or a.types.now k 0) e in
-    let left : c.before.half_at.result ≡ (typeRecord a.types.now a.i).left =
+    let tag : get_or a.types.now (a.i * type_bytes) 0 ≡ (type_record a.types.now a.i).tag = ap (λ (k : ℕ). get_or a.types.now k 0) e in
+    let left : c.before.half_at.result ≡ (type_record a.types.now a.i).left =
     c.before.half_at.ensures ∙ ap (λ (k : ℕ). be16 a.types.now (k + 1)) e in
-    let right : c.half-at2.result ≡ (typeRecord a.types.now a.i).right = c.half-at2.ensures ∙ ap (λ (k : ℕ). be16 a.types.now (k + 3)) e in
-    made tag left right ∙ ap recordOf (sym (record-in a.types.now a.i (omega arith)))
+    let right : c.half-at2.result ≡ (type_record a.types.now a.i).right = c.half-at2.ensures ∙ ap (λ (k : ℕ). be16 a.types.now (k + 3)) e in
+    made tag left right ∙ ap record_of (sym (record_in a.types.now a.i (omega arith)))
 
 pub record-at-spec : {M : Type 1} → statement M
 record-at-spec =

@@ -8,20 +8,20 @@ use lib.ListN.{get_or, drop}
 use borrow.Author.Rules.{rules}
 use borrow.Fn.Kinds.{In}
 use borrow.Fn.PlainCycle.{Measures, is, falls, and}
-use Rattle.limits.specs.Limits.{cellCount}
+use Rattle.limits.specs.Limits.{cell_count}
 use Rattle.report.specs.Bits.{bits_of}
-use Rattle.scope.specs.Numbers.{streamOf}
+use Rattle.scope.specs.Numbers.{stream_of}
 use Rattle.scope.specs.Reading.{got, code}
-use Rattle.bititer.proofs.Streams.{bit-got, bit-ended, bit_below}
+use Rattle.bititer.proofs.Streams.{bit_got, bit_ended, bit_below}
 use Rattle.bititer.proofs.bit.Reads as bit-reads
-use Rattle.bititer.specs.Answers.{gotCode}
-use Rattle.value.specs.Shapes.{stepAt}
+use Rattle.bititer.specs.Answers.{got_code}
+use Rattle.value.specs.Shapes.{step_at}
 use Rattle.value.specs.declared.Step.TheVariants.{Nothing, Plain, Tag, Both}
 use Rattle.value.proofs.+pad_part.{statement}
 use Rattle.value.proofs.+pad_part.Lts-pad_part as pad-part-lts
 use Rattle.value.proofs.+pad_part.Tie.{close}
-use Rattle.value.proofs.Steps.{plain-told, tag-told, both_told, part-wide}
-use Rattle.value.proofs.Ways.{skip-nothing, skip-along, pad-along, skip-ended, skip-tag, skip-cut, skip_both, pad-nothing, pad-ended, pad-tag, pad-cut, pad-both}
+use Rattle.value.proofs.Steps.{plain_told, tag_told, both_told, part_wide}
+use Rattle.value.proofs.Ways.{skip_nothing, skip_along, pad_along, skip_ended, skip_tag, skip_cut, skip_both, pad_nothing, pad_ended, pad_tag, pad_cut, pad_both}
 use Rattle.value.proofs.pad_part.Kinds as pad-part-kinds
 use Rattle.value.proofs.pad_part.Reads as pad-part
 use Rattle.value.proofs.pad_plain.Reads as pad-plain-reads
@@ -75,8 +75,8 @@ pad-part-pad-plain-requires t c κs =
     let n = a.next.now in
     let g = c.before.before.way.given in
     let v = g.0.0 in
-    let e : stepAt ts w n a.i ≡ Plain v = sym c.before.before.before.before.step-at.ensures ∙ g.1 in
-    let told = plain-told ts w n a.i v e in
+    let e : step_at ts w n a.i ≡ Plain v = sym c.before.before.before.before.step-at.ensures ∙ g.1 in
+    let told = plain_told ts w n a.i v e in
     omega arith
 
 pad-part-enum-known-way-2 : (t : ℕ) → pad-part-lts.Need-enum-known-way-2 (pad-part-calls t) (pad-part-at t) pad-part.Post
@@ -97,16 +97,16 @@ pad-part-returns t c =
     let ts = a.types.now in
     let w = a.widths.now in
     let n = a.next.now in
-    let bits = streamOf a.s.now in
+    let bits = stream_of a.s.now in
     let g = c.before.before.before.before.way2.given in
     let l = g.0.0 in
     let r = g.0.1.0 in
     let x = g.0.1.1.0 in
     let y = g.0.1.1.1.0 in
-    let e : stepAt ts w n a.i ≡ Tag l r x y = sym c.before.before.before.before.before.before.step-at.ensures ∙ g.1 in
-    let ended : drop a.p bits ≡ [] = bit-ended bits a.p (sym c.before.before.bit.ensures ∙ ap gotCode c.enum-told2.given.1) in (
-      skip-ended ts w n a.i l r x y e a.p (drop a.p bits) ended,
-      pad-ended ts w n a.i l r x y e (drop a.p bits) (bits_of a.cells.now) a.at ended,
+    let e : step_at ts w n a.i ≡ Tag l r x y = sym c.before.before.before.before.before.before.step-at.ensures ∙ g.1 in
+    let ended : drop a.p bits ≡ [] = bit_ended bits a.p (sym c.before.before.bit.ensures ∙ ap got_code c.enum-told2.given.1) in (
+      skip_ended ts w n a.i l r x y e a.p (drop a.p bits) ended,
+      pad_ended ts w n a.i l r x y e (drop a.p bits) (bits_of a.cells.now) a.at ended,
     )
 
 pad-part-padding-of-requires : (t : ℕ) → pad-part-lts.Need-padding-of-requires (pad-part-calls t) (pad-part-at t) pad-part.Post
@@ -123,9 +123,9 @@ pad-part-write-tag-requires t c κs =
     let r = g.0.1.0 in
     let x = g.0.1.1.0 in
     let y = g.0.1.1.1.0 in
-    let e : stepAt ts w n a.i ≡ Tag l r x y = sym c.before.before.before.before.before.before.before.before.before.step-at.ensures ∙ g.1 in
-    let told = tag-told ts w n a.i l r x y e in
-    let room : a.at + get_or w a.i 0 ≤ cellCount =
+    let e : step_at ts w n a.i ≡ Tag l r x y = sym c.before.before.before.before.before.before.before.before.before.step-at.ensures ∙ g.1 in
+    let told = tag_told ts w n a.i l r x y e in
+    let room : a.at + get_or w a.i 0 ≤ cell_count =
     c.before.before.before.before.before.before.before.before.before.before.before.before.before.before.before.requires.1
     (omega arith) in
     omega arith
@@ -144,11 +144,11 @@ pad-part-add-pad-part t c =
     let r = g.0.1.0 in
     let x = g.0.1.1.0 in
     let y = g.0.1.1.1.0 in
-    let e : stepAt ts w n a.i ≡ Tag l r x y =
+    let e : step_at ts w n a.i ≡ Tag l r x y =
     sym c.before.before.before.before.before.before.before.before.before.before.before.before.before.before.step-at.ensures
     ∙ g.1 in
-    let told = tag-told ts w n a.i l r x y e in
-    let room : a.at + get_or w a.i 0 ≤ cellCount = c.before.before.before.before.before.before.before.before.before.before.before.before.before.before.before.before.before.before.before.before.requires.1 (omega arith) in
+    let told = tag_told ts w n a.i l r x y e in
+    let room : a.at + get_or w a.i 0 ≤ cell_count = c.before.before.before.before.before.before.before.before.before.before.before.before.before.before.before.before.before.before.before.before.requires.1 (omega arith) in
     omega arith
 
 pad-part-add-pad-part-2 : (t : ℕ) → pad-part-lts.Need-overflow-add-pad-part-2 (pad-part-calls t) (pad-part-at t) pad-part.Post
@@ -162,13 +162,13 @@ pad-part-add-pad-part-2 t c =
     let r = g.0.1.0 in
     let x = g.0.1.1.0 in
     let y = g.0.1.1.1.0 in
-    let e : stepAt ts w n a.i ≡ Tag l r x y =
+    let e : step_at ts w n a.i ≡ Tag l r x y =
     sym c.before.before.before.before.before.before.before.before.before.before.before.before.before.before.step-at.ensures
     ∙ g.1 in
-    let told = tag-told ts w n a.i l r x y e in
-    let room : a.at + get_or w a.i 0 ≤ cellCount = c.before.before.before.before.before.before.before.before.before.before.before.before.before.before.before.before.before.before.before.before.requires.1 (omega arith) in
+    let told = tag_told ts w n a.i l r x y e in
+    let room : a.at + get_or w a.i 0 ≤ cell_count = c.before.before.before.before.before.before.before.before.before.before.before.before.before.before.before.before.before.before.before.before.requires.1 (omega arith) in
     let side = c.before.before.before.before.before.before.before.before.side.given.0.0 in
-    let wide = part-wide ts w n a.i l r x y told side c.before.part_of.result
+    let wide = part_wide ts w n a.i l r x y told side c.before.part_of.result
     c.before.before.before.before.before.before.padding-of.result c.before.part_of.ensures
     c.before.before.before.before.before.before.padding-of.ensures in
     omega arith
@@ -184,13 +184,13 @@ pad-part-pad-part-requires t c κs =
     let r = g.0.1.0 in
     let x = g.0.1.1.0 in
     let y = g.0.1.1.1.0 in
-    let e : stepAt ts w n a.i ≡ Tag l r x y =
+    let e : step_at ts w n a.i ≡ Tag l r x y =
     sym c.before.before.before.before.before.before.before.before.before.before.before.before.before.before.step-at.ensures
     ∙ g.1 in
-    let told = tag-told ts w n a.i l r x y e in
-    let room : a.at + get_or w a.i 0 ≤ cellCount = c.before.before.before.before.before.before.before.before.before.before.before.before.before.before.before.before.before.before.before.before.requires.1 (omega arith) in
+    let told = tag_told ts w n a.i l r x y e in
+    let room : a.at + get_or w a.i 0 ≤ cell_count = c.before.before.before.before.before.before.before.before.before.before.before.before.before.before.before.before.before.before.before.before.requires.1 (omega arith) in
     let side = c.before.before.before.before.before.before.before.before.side.given.0.0 in
-    let wide = part-wide ts w n a.i l r x y told side c.before.part_of.result
+    let wide = part_wide ts w n a.i l r x y told side c.before.part_of.result
     c.before.before.before.before.before.before.padding-of.result c.before.part_of.ensures
     c.before.before.before.before.before.before.padding-of.ensures in
     (omega arith, λ some. omega arith)
@@ -208,9 +208,9 @@ pad-part-pad-part-requires-2 t c κs =
     let l = g.0.0 in
     let r = g.0.1.0 in
     let v = g.0.1.1.0 in
-    let e : stepAt ts w n a.i ≡ Both l r v = sym c.before.before.before.before.step-at.ensures ∙ g.1 in
+    let e : step_at ts w n a.i ≡ Both l r v = sym c.before.before.before.before.step-at.ensures ∙ g.1 in
     let told = both_told ts w n a.i l r v e in
-    let room : a.at + get_or w a.i 0 ≤ cellCount = c.before.before.before.before.before.before.before.before.before.before.requires.1 (omega arith) in
+    let room : a.at + get_or w a.i 0 ≤ cell_count = c.before.before.before.before.before.before.before.before.before.before.requires.1 (omega arith) in
     (omega arith, λ some. omega arith)
 
 pad-part-enum-known-middle : (t : ℕ) → pad-part-lts.Need-enum-known-middle (pad-part-calls t) (pad-part-at t) pad-part.Post
@@ -228,15 +228,15 @@ pad-part-returns-2 t c =
     let ts = a.types.now in
     let w = a.widths.now in
     let n = a.next.now in
-    let bits = streamOf a.s.now in
+    let bits = stream_of a.s.now in
     let g = c.before.before.before.before.before.before.before.way3.given in
     let l = g.0.0 in
     let r = g.0.1.0 in
     let v = g.0.1.1.0 in
-    let e : stepAt ts w n a.i ≡ Both l r v = sym c.before.before.before.before.before.before.before.before.before.step-at.ensures ∙ g.1 in (
-      skip-cut ts w n a.i l r v e a.p (drop a.p bits)
+    let e : step_at ts w n a.i ≡ Both l r v = sym c.before.before.before.before.before.before.before.before.before.step-at.ensures ∙ g.1 in (
+      skip_cut ts w n a.i l r v e a.p (drop a.p bits)
           (sym c.enum-told3.given.1 ∙ c.before.before.before.before.pad-part2.ensures.0),
-      pad-cut ts w n a.i l r v e a.p a.at (drop a.p bits) (bits_of a.cells.now) _ (sym c.enum-told3.given.1
+      pad_cut ts w n a.i l r v e a.p a.at (drop a.p bits) (bits_of a.cells.now) _ (sym c.enum-told3.given.1
           ∙ c.before.before.before.before.pad-part2.ensures.0) c.before.before.before.before.pad-part2.ensures.1,
     )
 
@@ -250,10 +250,10 @@ pad-part-add-pad-part-3 t c =
     let l = g.0.0 in
     let r = g.0.1.0 in
     let v = g.0.1.1.0 in
-    let e : stepAt ts w n a.i ≡ Both l r v =
+    let e : step_at ts w n a.i ≡ Both l r v =
     sym c.before.before.before.before.before.before.before.before.before.before.before.step-at.ensures ∙ g.1 in
     let told = both_told ts w n a.i l r v e in
-    let room : a.at + get_or w a.i 0 ≤ cellCount =
+    let room : a.at + get_or w a.i 0 ≤ cell_count =
     c.before.before.before.before.before.before.before.before.before.before.before.before.before.before.before.before.before.requires.1
     (omega arith) in
     omega arith
@@ -268,10 +268,10 @@ pad-part-pad-part-requires-3 t c κs =
     let l = g.0.0 in
     let r = g.0.1.0 in
     let v = g.0.1.1.0 in
-    let e : stepAt ts w n a.i ≡ Both l r v =
+    let e : step_at ts w n a.i ≡ Both l r v =
     sym c.before.before.before.before.before.before.before.before.before.before.before.step-at.ensures ∙ g.1 in
     let told = both_told ts w n a.i l r v e in
-    let room : a.at + get_or w a.i 0 ≤ cellCount =
+    let room : a.at + get_or w a.i 0 ≤ cell_count =
     c.before.before.before.before.before.before.before.before.before.before.before.before.before.before.before.before.before.requires.1
     (omega arith) in
     (omega arith, λ some. omega arith)
@@ -282,9 +282,9 @@ pad-part-returns-3 t c =
     let ts = a.types.now in
     let w = a.widths.now in
     let n = a.next.now in
-    let bits = streamOf a.s.now in
-    let e : stepAt ts w n a.i ≡ Nothing = sym c.before.before.step-at.ensures ∙ c.enum_told.given.1 in
-    (skip-nothing ts w n a.i a.p (drop a.p bits) e, pad-nothing ts w n a.i (drop a.p bits) (bits_of a.cells.now) a.at e)
+    let bits = stream_of a.s.now in
+    let e : step_at ts w n a.i ≡ Nothing = sym c.before.before.step-at.ensures ∙ c.enum_told.given.1 in
+    (skip_nothing ts w n a.i a.p (drop a.p bits) e, pad_nothing ts w n a.i (drop a.p bits) (bits_of a.cells.now) a.at e)
 
 pad-part-same-length-2 : (t : ℕ) → pad-part-lts.Need-same-length-2 (pad-part-calls t) (pad-part-at t) pad-part.Post
 pad-part-same-length-2 t c = search rules
@@ -297,10 +297,10 @@ pad-part-returns-4 t c =
     let n = a.next.now in
     let g = c.before.before.before.before.before.way.given in
     let v = g.0.0 in
-    let e : stepAt ts w n a.i ≡ Plain v = sym c.before.before.before.before.before.before.before.step-at.ensures ∙ g.1 in (
-      skip-along ts w n a.i v a.p c.before.before.pad-plain.result (drop a.p (streamOf a.s.now)) e
+    let e : step_at ts w n a.i ≡ Plain v = sym c.before.before.before.before.before.before.before.step-at.ensures ∙ g.1 in (
+      skip_along ts w n a.i v a.p c.before.before.pad-plain.result (drop a.p (stream_of a.s.now)) e
           c.before.before.pad-plain.ensures.0,
-      pad-along ts w n a.i v a.at (drop a.p (streamOf a.s.now)) (bits_of a.cells.now) _ e c.before.before.pad-plain.ensures.1,
+      pad_along ts w n a.i v a.at (drop a.p (stream_of a.s.now)) (bits_of a.cells.now) _ e c.before.before.pad-plain.ensures.1,
     )
 
 pad-part-same-length-3 : (t : ℕ) → pad-part-lts.Need-same-length-3 (pad-part-calls t) (pad-part-at t) pad-part.Post
@@ -312,24 +312,24 @@ pad-part-returns-5 t c =
     let ts = a.types.now in
     let w = a.widths.now in
     let n = a.next.now in
-    let bits = streamOf a.s.now in
+    let bits = stream_of a.s.now in
     let g = c.before.before.before.before.before.before.before.before.before.before.before.before.before.before.before.way2.given in
     let l = g.0.0 in
     let r = g.0.1.0 in
     let x = g.0.1.1.0 in
     let y = g.0.1.1.1.0 in
-    let e : stepAt ts w n a.i ≡ Tag l r x y = sym c.before.before.before.before.before.before.before.before.before.before.before.before.before.before.before.before.before.step-at.ensures ∙ g.1 in
+    let e : step_at ts w n a.i ≡ Tag l r x y = sym c.before.before.before.before.before.before.before.before.before.before.before.before.before.before.before.before.before.step-at.ensures ∙ g.1 in
     let b = c.before.before.before.before.before.before.before.before.before.before.before.side.given in
     let side = b.0.0 in
     let after = b.0.1.0 in
     let read : code bits 1 a.p ≡ got side after =
     sym c.before.before.before.before.before.before.before.before.before.before.before.before.before.bit.ensures
-    ∙ ap gotCode b.1 in
-    let rest = bit-got bits a.p side after read in (
+    ∙ ap got_code b.1 in
+    let rest = bit_got bits a.p side after read in (
       c.before.before.pad-part.ensures.0
-          ∙ skip-tag ts w n a.i l r x y e side c.before.before.before.before.part_of.result a.p after bits
+          ∙ skip_tag ts w n a.i l r x y e side c.before.before.before.before.part_of.result a.p after bits
           c.before.before.before.before.part_of.ensures rest.1 rest.2,
-      pad-tag ts w n a.i l r x y e side c.before.before.before.before.part_of.result
+      pad_tag ts w n a.i l r x y e side c.before.before.before.before.part_of.result
           c.before.before.before.before.before.before.before.before.before.padding-of.result a.p after a.at bits
           (bits_of a.cells.now) _ _
           (bit_below a.s.now a.p side after read) c.before.before.before.before.part_of.ensures
@@ -346,19 +346,19 @@ pad-part-returns-6 t c =
     let ts = a.types.now in
     let w = a.widths.now in
     let n = a.next.now in
-    let bits = streamOf a.s.now in
+    let bits = stream_of a.s.now in
     let g = c.before.before.before.before.before.before.before.before.before.before.before.before.way3.given in
     let l = g.0.0 in
     let r = g.0.1.0 in
     let v = g.0.1.1.0 in
-    let e : stepAt ts w n a.i ≡ Both l r v =
+    let e : step_at ts w n a.i ≡ Both l r v =
     sym c.before.before.before.before.before.before.before.before.before.before.before.before.before.before.step-at.ensures
     ∙ g.1 in
     let m = c.before.before.before.before.before.middle.given.0.0 in
     let first = sym c.before.before.before.before.before.middle.given.1
     ∙ c.before.before.before.before.before.before.before.before.before.pad-part2.ensures.0 in (
       c.before.before.pad-part3.ensures.0 ∙ skip_both ts w n a.i l r v e a.p m bits first,
-      pad-both ts w n a.i l r v e a.p m a.at bits (bits_of a.cells.now) _ _ first
+      pad_both ts w n a.i l r v e a.p m a.at bits (bits_of a.cells.now) _ _ first
           c.before.before.before.before.before.before.before.before.before.pad-part2.ensures.1
           c.before.before.pad-part3.ensures.1,
     )

@@ -8,18 +8,18 @@ use lib.ListN.{drop}
 use borrow.Author.Rules.{rules}
 use borrow.Fn.Kinds.{In}
 use borrow.Fn.PlainCycle.{Measures, is, falls, and}
-use Rattle.scope.specs.Numbers.{streamOf}
+use Rattle.scope.specs.Numbers.{stream_of}
 use Rattle.scope.specs.Reading.{got, code}
-use Rattle.bititer.proofs.Streams.{bit-got, bit-ended}
+use Rattle.bititer.proofs.Streams.{bit_got, bit_ended}
 use Rattle.bititer.proofs.bit.Reads as bit-reads
-use Rattle.bititer.specs.Answers.{gotCode}
-use Rattle.value.specs.Shapes.{stepAt}
+use Rattle.bititer.specs.Answers.{got_code}
+use Rattle.value.specs.Shapes.{step_at}
 use Rattle.value.specs.declared.Step.TheVariants.{Plain, Tag, Both}
 use Rattle.value.proofs.+skip.{statement}
 use Rattle.value.proofs.+skip.Lts-skip as skip-lts
 use Rattle.value.proofs.+skip.Tie.{close}
-use Rattle.value.proofs.Steps.{tag-told, both_told, part_falls}
-use Rattle.value.proofs.Ways.{skip-nothing, skip-along, skip-ended, skip-tag, skip-cut, skip_both}
+use Rattle.value.proofs.Steps.{tag_told, both_told, part_falls}
+use Rattle.value.proofs.Ways.{skip_nothing, skip_along, skip_ended, skip_tag, skip_cut, skip_both}
 use Rattle.value.proofs.part_of.Reads as part-of-reads
 use Rattle.value.proofs.skip.Kinds as skip-kinds
 use Rattle.value.proofs.skip.Reads as skip
@@ -79,15 +79,15 @@ skip-returns t c =
     let ts = a.types.now in
     let w = a.widths.now in
     let n = a.next.now in
-    let bits = streamOf a.s.now in
+    let bits = stream_of a.s.now in
     let g = c.before.before.before.before.way2.given in
     let l = g.0.0 in
     let r = g.0.1.0 in
     let x = g.0.1.1.0 in
     let y = g.0.1.1.1.0 in
-    let e : stepAt ts w n a.i ≡ Tag l r x y = sym c.before.before.before.before.before.before.step-at.ensures ∙ g.1 in
-    let ended : drop a.p bits ≡ [] = bit-ended bits a.p (sym c.before.before.bit.ensures ∙ ap gotCode c.enum-told2.given.1) in
-    skip-ended ts w n a.i l r x y e a.p (drop a.p bits) ended
+    let e : step_at ts w n a.i ≡ Tag l r x y = sym c.before.before.before.before.before.before.step-at.ensures ∙ g.1 in
+    let ended : drop a.p bits ≡ [] = bit_ended bits a.p (sym c.before.before.bit.ensures ∙ ap got_code c.enum-told2.given.1) in
+    skip_ended ts w n a.i l r x y e a.p (drop a.p bits) ended
 
 skip-part-of-requires : (t : ℕ) → skip-lts.Need-part-of-requires (skip-calls t) (skip_at t) skip.Post
 skip-part-of-requires t c κs = search rules
@@ -98,14 +98,14 @@ skip-skip-requires t c κs =
     let ts = a.types.now in
     let w = a.widths.now in
     let n = a.next.now in
-    let bits = streamOf a.s.now in
+    let bits = stream_of a.s.now in
     let g = c.before.before.before.before.before.before.way2.given in
     let l = g.0.0 in
     let r = g.0.1.0 in
     let x = g.0.1.1.0 in
     let y = g.0.1.1.1.0 in
-    let e : stepAt ts w n a.i ≡ Tag l r x y = sym c.before.before.before.before.before.before.before.before.step-at.ensures ∙ g.1 in
-    let told = tag-told ts w n a.i l r x y e in
+    let e : step_at ts w n a.i ≡ Tag l r x y = sym c.before.before.before.before.before.before.before.before.step-at.ensures ∙ g.1 in
+    let told = tag_told ts w n a.i l r x y e in
     (part_falls t c.before.before.side.given.0.0 l r c.part_of.result (omega arith) (omega arith) c.part_of.ensures, tt)
 
 skip-enum-known-way-3 : (t : ℕ) → skip-lts.Need-enum-known-way-3 (skip-calls t) (skip_at t) skip.Post
@@ -121,7 +121,7 @@ skip-skip-requires-2 t c κs =
     let l = g.0.0 in
     let r = g.0.1.0 in
     let v = g.0.1.1.0 in
-    let e : stepAt ts w n a.i ≡ Both l r v = sym c.before.before.before.step-at.ensures ∙ g.1 in
+    let e : step_at ts w n a.i ≡ Both l r v = sym c.before.before.before.step-at.ensures ∙ g.1 in
     let told = both_told ts w n a.i l r v e in
     (omega arith, tt)
 
@@ -137,13 +137,13 @@ skip-returns-2 t c =
     let ts = a.types.now in
     let w = a.widths.now in
     let n = a.next.now in
-    let bits = streamOf a.s.now in
+    let bits = stream_of a.s.now in
     let g = c.before.before.before.before.way3.given in
     let l = g.0.0 in
     let r = g.0.1.0 in
     let v = g.0.1.1.0 in
-    let e : stepAt ts w n a.i ≡ Both l r v = sym c.before.before.before.before.before.before.step-at.ensures ∙ g.1 in
-    skip-cut ts w n a.i l r v e a.p (drop a.p bits) (sym c.enum-told3.given.1 ∙ c.before.before.skip2.ensures)
+    let e : step_at ts w n a.i ≡ Both l r v = sym c.before.before.before.before.before.before.step-at.ensures ∙ g.1 in
+    skip_cut ts w n a.i l r v e a.p (drop a.p bits) (sym c.enum-told3.given.1 ∙ c.before.before.skip2.ensures)
 
 skip-skip-requires-3 : (t : ℕ) → skip-lts.Need-skip-requires-3 (skip-calls t) (skip_at t) skip.Post
 skip-skip-requires-3 t c κs =
@@ -155,7 +155,7 @@ skip-skip-requires-3 t c κs =
     let l = g.0.0 in
     let r = g.0.1.0 in
     let v = g.0.1.1.0 in
-    let e : stepAt ts w n a.i ≡ Both l r v = sym c.before.before.before.before.before.before.before.step-at.ensures ∙ g.1 in
+    let e : step_at ts w n a.i ≡ Both l r v = sym c.before.before.before.before.before.before.before.step-at.ensures ∙ g.1 in
     let told = both_told ts w n a.i l r v e in
     (omega arith, tt)
 
@@ -165,8 +165,8 @@ skip-returns-3 t c =
     let ts = a.types.now in
     let w = a.widths.now in
     let n = a.next.now in
-    let bits = streamOf a.s.now in
-    skip-nothing ts w n a.i a.p (drop a.p bits) (sym c.before.before.step-at.ensures ∙ c.enum_told.given.1)
+    let bits = stream_of a.s.now in
+    skip_nothing ts w n a.i a.p (drop a.p bits) (sym c.before.before.step-at.ensures ∙ c.enum_told.given.1)
 
 skip-returns-4 : (t : ℕ) → skip-lts.Need-returns-4 (skip-calls t) (skip_at t) skip.Post
 skip-returns-4 t c =
@@ -176,8 +176,8 @@ skip-returns-4 t c =
     let n = a.next.now in
     let g = c.before.before.way.given in
     let v = g.0.0 in
-    let e : stepAt ts w n a.i ≡ Plain v = sym c.before.before.before.before.step-at.ensures ∙ g.1 in
-    skip-along ts w n a.i v a.p c.skip-plain.result (drop a.p (streamOf a.s.now)) e c.skip-plain.ensures
+    let e : step_at ts w n a.i ≡ Plain v = sym c.before.before.before.before.step-at.ensures ∙ g.1 in
+    skip_along ts w n a.i v a.p c.skip-plain.result (drop a.p (stream_of a.s.now)) e c.skip-plain.ensures
 
 skip-returns-5 : (t : ℕ) → skip-lts.Need-returns-5 (skip-calls t) (skip_at t) skip.Post
 skip-returns-5 t c =
@@ -185,19 +185,19 @@ skip-returns-5 t c =
     let ts = a.types.now in
     let w = a.widths.now in
     let n = a.next.now in
-    let bits = streamOf a.s.now in
+    let bits = stream_of a.s.now in
     let g = c.before.before.before.before.before.before.before.way2.given in
     let l = g.0.0 in
     let r = g.0.1.0 in
     let x = g.0.1.1.0 in
     let y = g.0.1.1.1.0 in
-    let e : stepAt ts w n a.i ≡ Tag l r x y = sym c.before.before.before.before.before.before.before.before.before.step-at.ensures ∙ g.1 in
+    let e : step_at ts w n a.i ≡ Tag l r x y = sym c.before.before.before.before.before.before.before.before.before.step-at.ensures ∙ g.1 in
     let b = c.before.before.before.side.given in
     let side = b.0.0 in
     let after = b.0.1.0 in
-    let read : code bits 1 a.p ≡ got side after = sym c.before.before.before.before.before.bit.ensures ∙ ap gotCode b.1 in
-    let rest = bit-got bits a.p side after read in
-    c.skip.ensures ∙ skip-tag ts w n a.i l r x y e side c.before.part_of.result a.p after bits c.before.part_of.ensures rest.1 rest.2
+    let read : code bits 1 a.p ≡ got side after = sym c.before.before.before.before.before.bit.ensures ∙ ap got_code b.1 in
+    let rest = bit_got bits a.p side after read in
+    c.skip.ensures ∙ skip_tag ts w n a.i l r x y e side c.before.part_of.result a.p after bits c.before.part_of.ensures rest.1 rest.2
 
 skip-returns-6 : (t : ℕ) → skip-lts.Need-returns-6 (skip-calls t) (skip_at t) skip.Post
 skip-returns-6 t c =
@@ -205,12 +205,12 @@ skip-returns-6 t c =
     let ts = a.types.now in
     let w = a.widths.now in
     let n = a.next.now in
-    let bits = streamOf a.s.now in
+    let bits = stream_of a.s.now in
     let g = c.before.before.before.before.before.before.way3.given in
     let l = g.0.0 in
     let r = g.0.1.0 in
     let v = g.0.1.1.0 in
-    let e : stepAt ts w n a.i ≡ Both l r v = sym c.before.before.before.before.before.before.before.before.step-at.ensures ∙ g.1 in
+    let e : step_at ts w n a.i ≡ Both l r v = sym c.before.before.before.before.before.before.before.before.step-at.ensures ∙ g.1 in
     c.skip3.ensures
     ∙ skip_both ts w n a.i l r v e a.p c.before.before.middle.given.0.0 bits
     (sym c.before.before.middle.given.1 ∙ c.before.before.before.before.skip2.ensures)

@@ -7,20 +7,20 @@ use lib.ListN.{get_or}
 use borrow.Author.Rules.{rules}
 use borrow.Fn.Kinds.{In}
 use borrow.Fn.PlainCycle.{Measures, is, falls, and}
-use Rattle.limits.specs.Limits.{cellCount}
+use Rattle.limits.specs.Limits.{cell_count}
 use Rattle.report.specs.Bits.{bits_of}
 use Rattle.scope.specs.Run.{cells_of}
-use Rattle.bititer.proofs.Bits.{bit-small}
+use Rattle.bititer.proofs.Bits.{bit_small}
 use Rattle.cells.proofs.put_bits.Reads as put-bits-reads
 use Rattle.cells.proofs.read_cell.Reads as read-cell-reads
 use Rattle.cells.proofs.write_cell.Reads as write-cell-reads
-use Rattle.value.specs.Shapes.{stepAt}
+use Rattle.value.specs.Shapes.{step_at}
 use Rattle.value.specs.declared.Step.TheVariants.{Nothing, Plain, Tag, Both}
 use Rattle.value.proofs.+unpad_part.{statement}
 use Rattle.value.proofs.+unpad_part.Lts-unpad_part as unpad-part-lts
 use Rattle.value.proofs.+unpad_part.Tie.{close}
-use Rattle.value.proofs.Steps.{plain-told, tag-told, both_told, part-wide}
-use Rattle.value.proofs.Ways.{unpad-fits, unpad-nothing, unpad-plain, unpad-tag, unpad-both}
+use Rattle.value.proofs.Steps.{plain_told, tag_told, both_told, part_wide}
+use Rattle.value.proofs.Ways.{unpad_fits, unpad_nothing, unpad_plain, unpad_tag, unpad_both}
 use Rattle.value.proofs.padding_of.Reads as padding-of-reads
 use Rattle.value.proofs.part_of.Reads as part-of-reads
 use Rattle.value.proofs.step_at.Reads as step-at-reads
@@ -76,8 +76,8 @@ unpad-part-add-result t c =
     let n = a.next.now in
     let g = c.before.before.before.before.before.way.given in
     let v = g.0.0 in
-    let e : stepAt ts w n a.i ≡ Plain v = sym c.before.before.before.before.before.before.before.step-at.ensures ∙ g.1 in
-    let told = plain-told ts w n a.i v e in
+    let e : step_at ts w n a.i ≡ Plain v = sym c.before.before.before.before.before.before.before.step-at.ensures ∙ g.1 in
+    let told = plain_told ts w n a.i v e in
     let room = c.before.before.before.before.before.before.before.before.before.before.before.before.before.requires.1 (omega arith) in
     let rq = room.1 in
     omega arith
@@ -108,10 +108,10 @@ unpad-part-add-place t c =
     let r = g.0.1.0 in
     let x = g.0.1.1.0 in
     let y = g.0.1.1.1.0 in
-    let e : stepAt ts w n a.i ≡ Tag l r x y =
+    let e : step_at ts w n a.i ≡ Tag l r x y =
     sym c.before.before.before.before.before.before.before.before.before.before.step-at.ensures ∙ g.1 in
-    let told = tag-told ts w n a.i l r x y e in
-    let room : (a.at + get_or w a.i 0 ≤ cellCount) × (a.q + get_or w a.i 0 ≤ cellCount) =
+    let told = tag_told ts w n a.i l r x y e in
+    let room : (a.at + get_or w a.i 0 ≤ cell_count) × (a.q + get_or w a.i 0 ≤ cell_count) =
     c.before.before.before.before.before.before.before.before.before.before.before.before.before.before.before.before.requires.1
     (omega arith) in
     let ra = room.0 in
@@ -129,16 +129,16 @@ unpad-part-add-place-2 t c =
     let r = g.0.1.0 in
     let x = g.0.1.1.0 in
     let y = g.0.1.1.1.0 in
-    let e : stepAt ts w n a.i ≡ Tag l r x y =
+    let e : step_at ts w n a.i ≡ Tag l r x y =
     sym c.before.before.before.before.before.before.before.before.before.before.step-at.ensures ∙ g.1 in
-    let told = tag-told ts w n a.i l r x y e in
-    let room : (a.at + get_or w a.i 0 ≤ cellCount) × (a.q + get_or w a.i 0 ≤ cellCount) =
+    let told = tag_told ts w n a.i l r x y e in
+    let room : (a.at + get_or w a.i 0 ≤ cell_count) × (a.q + get_or w a.i 0 ≤ cell_count) =
     c.before.before.before.before.before.before.before.before.before.before.before.before.before.before.before.before.requires.1
     (omega arith) in
     let ra = room.0 in
     let rq = room.1 in
     let side = c.before.before.before.before.before.before.read_cell.result in
-    let wide = part-wide ts w n a.i l r x y told side c.part_of.result c.before.padding-of.result c.part_of.ensures
+    let wide = part_wide ts w n a.i l r x y told side c.part_of.result c.before.padding-of.result c.part_of.ensures
     c.before.padding-of.ensures in
     omega arith
 
@@ -153,10 +153,10 @@ unpad-part-add-unpad-part t c =
     let r = g.0.1.0 in
     let x = g.0.1.1.0 in
     let y = g.0.1.1.1.0 in
-    let e : stepAt ts w n a.i ≡ Tag l r x y =
+    let e : step_at ts w n a.i ≡ Tag l r x y =
     sym c.before.before.before.before.before.before.before.before.before.before.before.step-at.ensures ∙ g.1 in
-    let told = tag-told ts w n a.i l r x y e in
-    let room : (a.at + get_or w a.i 0 ≤ cellCount) × (a.q + get_or w a.i 0 ≤ cellCount) =
+    let told = tag_told ts w n a.i l r x y e in
+    let room : (a.at + get_or w a.i 0 ≤ cell_count) × (a.q + get_or w a.i 0 ≤ cell_count) =
     c.before.before.before.before.before.before.before.before.before.before.before.before.before.before.before.before.before.requires.1
     (omega arith) in
     let ra = room.0 in
@@ -174,16 +174,16 @@ unpad-part-unpad-part-requires t c κs =
     let r = g.0.1.0 in
     let x = g.0.1.1.0 in
     let y = g.0.1.1.1.0 in
-    let e : stepAt ts w n a.i ≡ Tag l r x y =
+    let e : step_at ts w n a.i ≡ Tag l r x y =
     sym c.before.before.before.before.before.before.before.before.before.before.before.step-at.ensures ∙ g.1 in
-    let told = tag-told ts w n a.i l r x y e in
-    let room : (a.at + get_or w a.i 0 ≤ cellCount) × (a.q + get_or w a.i 0 ≤ cellCount) =
+    let told = tag_told ts w n a.i l r x y e in
+    let room : (a.at + get_or w a.i 0 ≤ cell_count) × (a.q + get_or w a.i 0 ≤ cell_count) =
     c.before.before.before.before.before.before.before.before.before.before.before.before.before.before.before.before.before.requires.1
     (omega arith) in
     let ra = room.0 in
     let rq = room.1 in
     let side = c.before.before.before.before.before.before.before.read_cell.result in
-    let wide = part-wide ts w n a.i l r x y told side c.before.part_of.result c.before.before.padding-of.result
+    let wide = part_wide ts w n a.i l r x y told side c.before.part_of.result c.before.before.padding-of.result
     c.before.part_of.ensures c.before.before.padding-of.ensures in
     (omega arith, λ some. (omega arith, omega arith))
 
@@ -200,9 +200,9 @@ unpad-part-unpad-part-requires-2 t c κs =
     let l = g.0.0 in
     let r = g.0.1.0 in
     let v = g.0.1.1.0 in
-    let e : stepAt ts w n a.i ≡ Both l r v = sym c.before.before.before.before.step-at.ensures ∙ g.1 in
+    let e : step_at ts w n a.i ≡ Both l r v = sym c.before.before.before.before.step-at.ensures ∙ g.1 in
     let told = both_told ts w n a.i l r v e in
-    let room : (a.at + get_or w a.i 0 ≤ cellCount) × (a.q + get_or w a.i 0 ≤ cellCount) =
+    let room : (a.at + get_or w a.i 0 ≤ cell_count) × (a.q + get_or w a.i 0 ≤ cell_count) =
     c.before.before.before.before.before.before.before.before.before.before.requires.1 (omega arith) in
     let ra = room.0 in
     let rq = room.1 in
@@ -218,9 +218,9 @@ unpad-part-add-place-3 t c =
     let l = g.0.0 in
     let r = g.0.1.0 in
     let v = g.0.1.1.0 in
-    let e : stepAt ts w n a.i ≡ Both l r v = sym c.before.before.before.before.before.before.before.step-at.ensures ∙ g.1 in
+    let e : step_at ts w n a.i ≡ Both l r v = sym c.before.before.before.before.before.before.before.step-at.ensures ∙ g.1 in
     let told = both_told ts w n a.i l r v e in
-    let room : (a.at + get_or w a.i 0 ≤ cellCount) × (a.q + get_or w a.i 0 ≤ cellCount) =
+    let room : (a.at + get_or w a.i 0 ≤ cell_count) × (a.q + get_or w a.i 0 ≤ cell_count) =
     c.before.before.before.before.before.before.before.before.before.before.before.before.before.requires.1 (omega arith) in
     let ra = room.0 in
     let rq = room.1 in
@@ -236,13 +236,13 @@ unpad-part-unpad-part-requires-3 t c κs =
     let l = g.0.0 in
     let r = g.0.1.0 in
     let v = g.0.1.1.0 in
-    let e : stepAt ts w n a.i ≡ Both l r v = sym c.before.before.before.before.before.before.before.before.step-at.ensures ∙ g.1 in
+    let e : step_at ts w n a.i ≡ Both l r v = sym c.before.before.before.before.before.before.before.before.step-at.ensures ∙ g.1 in
     let told = both_told ts w n a.i l r v e in
-    let room : (a.at + get_or w a.i 0 ≤ cellCount) × (a.q + get_or w a.i 0 ≤ cellCount) =
+    let room : (a.at + get_or w a.i 0 ≤ cell_count) × (a.q + get_or w a.i 0 ≤ cell_count) =
     c.before.before.before.before.before.before.before.before.before.before.before.before.before.before.requires.1 (omega arith) in
     let ra = room.0 in
     let rq = room.1 in
-    let most = unpad-fits ts w n l (cells_of a.cells.now) a.at in
+    let most = unpad_fits ts w n l (cells_of a.cells.now) a.at in
     let middle = c.before.before.before.unpad-part2.ensures.0 in
     (omega arith, λ some. (omega arith, omega arith))
 
@@ -252,8 +252,8 @@ unpad-part-returns t c =
     let ts = a.types.now in
     let w = a.widths.now in
     let n = a.next.now in
-    let e : stepAt ts w n a.i ≡ Nothing = sym c.before.before.step-at.ensures ∙ c.enum_told.given.1 in
-    unpad-nothing ts w n a.i (cells_of a.cells.now) a.at a.q (bits_of a.answer.now) e
+    let e : step_at ts w n a.i ≡ Nothing = sym c.before.before.step-at.ensures ∙ c.enum_told.given.1 in
+    unpad_nothing ts w n a.i (cells_of a.cells.now) a.at a.q (bits_of a.answer.now) e
 
 unpad-part-same-length : (t : ℕ) → unpad-part-lts.Need-same-length (unpad-part-calls t) (unpad-part-at t) unpad-part.Post
 unpad-part-same-length t c = search rules
@@ -266,8 +266,8 @@ unpad-part-returns-2 t c =
     let n = a.next.now in
     let g = c.before.before.before.before.before.way.given in
     let v = g.0.0 in
-    let e : stepAt ts w n a.i ≡ Plain v = sym c.before.before.before.before.before.before.before.step-at.ensures ∙ g.1 in
-    unpad-plain ts w n a.i v a.cells.now a.at a.q (bits_of a.answer.now) _ e c.before.before.put-bits.ensures
+    let e : step_at ts w n a.i ≡ Plain v = sym c.before.before.before.before.before.before.before.step-at.ensures ∙ g.1 in
+    unpad_plain ts w n a.i v a.cells.now a.at a.q (bits_of a.answer.now) _ e c.before.before.put-bits.ensures
 
 unpad-part-same-length-2 : (t : ℕ) → unpad-part-lts.Need-same-length-2 (unpad-part-calls t) (unpad-part-at t) unpad-part.Post
 unpad-part-same-length-2 t c = search rules
@@ -284,12 +284,12 @@ unpad-part-returns-3 t c =
     let r = g.0.1.0 in
     let x = g.0.1.1.0 in
     let y = g.0.1.1.1.0 in
-    let e : stepAt ts w n a.i ≡ Tag l r x y =
+    let e : step_at ts w n a.i ≡ Tag l r x y =
     sym c.before.before.before.before.before.before.before.before.before.before.before.before.before.before.step-at.ensures
     ∙ g.1 in
     let here = c.before.before.before.before.before.before.before.before.before.before.read_cell.ensures in
-    let small = bit-small a.cells.now a.at in
-    unpad-tag ts w n a.i l r x y e c.before.before.before.before.before.before.before.before.before.before.read_cell.result
+    let small = bit_small a.cells.now a.at in
+    unpad_tag ts w n a.i l r x y e c.before.before.before.before.before.before.before.before.before.before.read_cell.result
     c.before.before.before.before.part_of.result c.before.before.before.before.before.padding-of.result
     (cells_of a.cells.now) a.at a.q c.before.before.unpad-part.result (bits_of a.answer.now) _ _
     (omega arith) (sym here) c.before.before.before.before.part_of.ensures c.before.before.before.before.before.padding-of.ensures
@@ -309,9 +309,9 @@ unpad-part-returns-4 t c =
     let l = g.0.0 in
     let r = g.0.1.0 in
     let v = g.0.1.1.0 in
-    let e : stepAt ts w n a.i ≡ Both l r v =
+    let e : step_at ts w n a.i ≡ Both l r v =
     sym c.before.before.before.before.before.before.before.before.before.before.before.step-at.ensures ∙ g.1 in
-    unpad-both ts w n a.i l r v e (cells_of a.cells.now) a.at a.q
+    unpad_both ts w n a.i l r v e (cells_of a.cells.now) a.at a.q
     c.before.before.before.before.before.before.unpad-part2.result c.before.before.unpad-part3.result
     (bits_of a.answer.now) _ _
     c.before.before.before.before.before.before.unpad-part2.ensures.0

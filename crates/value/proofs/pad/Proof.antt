@@ -5,10 +5,10 @@ use lib.ListN.{get_or}
 use borrow.Author.Rules.{rules}
 use borrow.Author.Tests.{not-true, not-false}
 use Rattle.report.specs.Bits.{bits_of}
-use Rattle.scope.specs.Numbers.{streamOf}
+use Rattle.scope.specs.Numbers.{stream_of}
 use Rattle.value.specs.Bits.{room}
 use Rattle.value.specs.Shapes.{shape_at}
-use Rattle.value.proofs.Ways.{pad-too-short, pad-no-room, pad-done, room-told}
+use Rattle.value.proofs.Ways.{pad_too_short, pad_no_room, pad_done, room_told}
 use Rattle.value.proofs.pad.Statement.{statement}
 use Rattle.value.proofs.pad.Tie as tie
 
@@ -26,9 +26,9 @@ returns c =
     let a = c.before.before.before.before.before.before.before.before.args in
     let A = shape_at a.types.now a.widths.now a.next.now a.i in
     let v = get_or a.widths.now a.i 0 in
-    let bits = streamOf a.s.now in
+    let bits = stream_of a.s.now in
     let d = bits_of a.cells.now in
-    pad-too-short A v bits a.p d a.at (sym c.enum-told2.given.1 ∙ c.before.before.skip.ensures)
+    pad_too_short A v bits a.p d a.at (sym c.enum-told2.given.1 ∙ c.before.before.skip.ensures)
 
 width-at-requires : tie.Need-width-at-requires
 width-at-requires c κs = search rules
@@ -44,23 +44,23 @@ returns-2 c =
     let a = c.before.before.before.before.before.before.before.before.before.before.before.before.args in
     let A = shape_at a.types.now a.widths.now a.next.now a.i in
     let v = get_or a.widths.now a.i 0 in
-    let bits = streamOf a.s.now in
+    let bits = stream_of a.s.now in
     let d = bits_of a.cells.now in
     let there = sym c.before.before.before.before.enum_told.given.1 ∙ c.before.before.before.before.before.before.skip.ensures in
     let space : c.before.has_room.result ≡ room v a.at d =
     c.before.has_room.ensures ∙ ap (λ (k : ℕ). room k a.at d) c.before.before.width-at.ensures in
-    pad-no-room A v bits a.p d a.at _ there (sym (not-true c.before.has_room.result c.if1.true) ∙ space)
+    pad_no_room A v bits a.p d a.at _ there (sym (not-true c.before.has_room.result c.if1.true) ∙ space)
 
 pad-part-requires : tie.Need-pad-part-requires
 pad-part-requires c κs =
     let a = c.before.before.before.before.before.before.before.before.before.before.before.before.before.args in
     let A = shape_at a.types.now a.widths.now a.next.now a.i in
     let v = get_or a.widths.now a.i 0 in
-    let bits = streamOf a.s.now in
+    let bits = stream_of a.s.now in
     let d = bits_of a.cells.now in
     let space : c.before.before.has_room.result ≡ room v a.at d =
     c.before.before.has_room.ensures ∙ ap (λ (k : ℕ). room k a.at d) c.before.before.before.width-at.ensures in
-    λ some. (room-told v a.at d (sym space ∙ not-false c.before.before.has_room.result c.before.if1.false) some).1
+    λ some. (room_told v a.at d (sym space ∙ not-false c.before.before.has_room.result c.before.if1.false) some).1
 
 same-length-2 : tie.Need-same-length-2
 same-length-2 c = search rules
@@ -70,14 +70,14 @@ returns-3 c =
     let a = c.before.before.before.before.before.before.before.before.before.before.before.before.before.before.before.before.args in
     let A = shape_at a.types.now a.widths.now a.next.now a.i in
     let v = get_or a.widths.now a.i 0 in
-    let bits = streamOf a.s.now in
+    let bits = stream_of a.s.now in
     let d = bits_of a.cells.now in
     let there = sym c.before.before.before.before.before.before.before.before.enum_told.given.1
     ∙ c.before.before.before.before.before.before.before.before.before.before.skip.ensures in
     let space : c.before.before.before.before.before.has_room.result ≡ room v a.at d =
     c.before.before.before.before.before.has_room.ensures
     ∙ ap (λ (k : ℕ). room k a.at d) c.before.before.before.before.before.before.width-at.ensures in
-    pad-done A v bits a.p d a.at _ c.before.before.pad-part.result _ there
+    pad_done A v bits a.p d a.at _ c.before.before.pad-part.result _ there
     (sym (not-false c.before.before.before.before.before.has_room.result c.before.before.before.before.if1.false)
     ∙ space) c.before.before.pad-part.ensures.0 c.before.before.pad-part.ensures.1
 

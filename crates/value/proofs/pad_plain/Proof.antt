@@ -5,10 +5,10 @@ use native.Mathlib.Omega.{arith}
 use lib.ListN.{length, drop, length-drop}
 use lib.Seq.{sets}
 use borrow.Author.Rules.{rules}
-use Rattle.bititer.proofs.Streams.{length-stream}
+use Rattle.bititer.proofs.Streams.{length_stream}
 use Rattle.report.specs.Bits.{bits_of}
-use Rattle.scope.specs.Numbers.{streamOf}
-use Rattle.value.proofs.Plain.{pad-enough, plain-there, plain-cut, stream-plain}
+use Rattle.scope.specs.Numbers.{stream_of}
+use Rattle.value.proofs.Plain.{pad_enough, plain_there, plain_cut, stream_plain}
 use Rattle.value.proofs.pad_plain.Statement.{statement}
 use Rattle.value.proofs.pad_plain.Tie as tie
 
@@ -25,16 +25,16 @@ returns : tie.Need-returns
 returns c =
     let a = c.before.before.before.before.before.args in
     let said = sym c.enum_told.given.1 ∙ c.before.before.skip-plain.ensures in
-    (said, plain-cut a.width a.p (drop a.p (streamOf a.s.now)) (bits_of a.cells.now) a.at said)
+    (said, plain_cut a.width a.p (drop a.p (stream_of a.s.now)) (bits_of a.cells.now) a.at said)
 
 cast-put-bits : tie.Need-overflow-cast-put-bits
 cast-put-bits c =
     let a = c.before.before.before.before.before.before.args in
     let said = sym c.before.end.given.1 ∙ c.before.before.before.skip-plain.ensures in
-    let some : a.width ≤ length (drop a.p (streamOf a.s.now)) =
-    plain-there a.width a.p (drop a.p (streamOf a.s.now)) c.before.end.given.0.0 said in
-    let m = length-stream a.s.now in
-    omega (arith, length-drop a.p (streamOf a.s.now))
+    let some : a.width ≤ length (drop a.p (stream_of a.s.now)) =
+    plain_there a.width a.p (drop a.p (stream_of a.s.now)) c.before.end.given.0.0 said in
+    let m = length_stream a.s.now in
+    omega (arith, length-drop a.p (stream_of a.s.now))
 
 put-bits-requires : tie.Need-put-bits-requires
 put-bits-requires c κs = search rules
@@ -45,13 +45,13 @@ same_length c = search rules
 returns-2 : tie.Need-returns-2
 returns-2 c =
     let a = c.before.before.before.before.before.before.before.before.before.before.args in
-    let bs = drop a.p (streamOf a.s.now) in
+    let bs = drop a.p (stream_of a.s.now) in
     let said = sym c.before.before.before.before.before.end.given.1
     ∙ c.before.before.before.before.before.before.before.skip-plain.ensures in
-    let some : a.width ≤ length bs = plain-there a.width a.p bs c.before.before.before.before.before.end.given.0.0 said in (
+    let some : a.width ≤ length bs = plain_there a.width a.p bs c.before.before.before.before.before.end.given.0.0 said in (
       said,
-      c.before.before.put-bits.ensures ∙ ap (sets (bits_of a.cells.now) a.at) (stream-plain a.s.now a.p a.width (omega arith) some)
-          ∙ sym (pad-enough a.width bs (bits_of a.cells.now) a.at some),
+      c.before.before.put-bits.ensures ∙ ap (sets (bits_of a.cells.now) a.at) (stream_plain a.s.now a.p a.width (omega arith) some)
+          ∙ sym (pad_enough a.width bs (bits_of a.cells.now) a.at some),
     )
 
 pub pad-plain-spec : {M : Type 1} → statement M

@@ -5,12 +5,12 @@ use native.Mathlib.Omega.{arith}
 use lib.ListN.{get_or}
 use borrow.Author.Rules.{rules}
 use borrow.Author.Tests.{not-true, not-false}
-use Rattle.scope.specs.Types.{typeRecords, type_at}
-use Rattle.types.specs.Table.{recordOf}
+use Rattle.scope.specs.Types.{type_records, type_at}
+use Rattle.types.specs.Table.{record_of}
 use Rattle.types.specs.declared.TypeRecord.{TypeRecord}
-use Rattle.value.specs.Shapes.{recordFor, falls, stepBy}
+use Rattle.value.specs.Shapes.{record_for, falls, step_by}
 use Rattle.value.specs.declared.Step.TheVariants.{Plain}
-use Rattle.value.proofs.Steps.{step-narrow, step_past, step-marked, step-unfit, step_fits, step_other, falls_of, tag_of, both_of}
+use Rattle.value.proofs.Steps.{step_narrow, step_past, step_marked, step_unfit, step_fits, step_other, falls_of, tag_of, both_of}
 use Rattle.value.proofs.step_at.Statement.{statement}
 use Rattle.value.proofs.step_at.Tie as tie
 
@@ -23,7 +23,7 @@ returns c =
     let t = a.types.now in
     let w = a.widths.now in
     let n = a.next.now in
-    step-narrow t w n a.i (sym c.before.width-at.ensures ∙ c.if1.true)
+    step_narrow t w n a.i (sym c.before.width-at.ensures ∙ c.if1.true)
 
 returns-2 : tie.Need-returns-2
 returns-2 c =
@@ -44,7 +44,7 @@ returns-3 c =
     let n = a.next.now in
     let own : c.before.before.before.before.width-at.result ≡ get_or w a.i 0 = c.before.before.before.before.width-at.ensures in
     ap Plain own
-    ∙ step-marked t w n a.i (omega arith)
+    ∙ step_marked t w n a.i (omega arith)
     (λ z. c.before.before.before.if1.false (own ∙ z)) (sym c.before.next-at.ensures ∙ c.if3.true)
 
 index-requires : tie.Need-index-requires
@@ -68,15 +68,15 @@ returns-4 c =
     let t = a.types.now in
     let w = a.widths.now in
     let n = a.next.now in
-    let R = recordFor t w n a.i in
+    let R = record_for t w n a.i in
     let j : c.before.before.before.before.before.index.result ≡ get_or n a.i 0 =
     c.before.before.before.before.before.index.ensures.0
     ∙ c.before.before.before.before.before.before.before.next-at.ensures in
-    let own = c.before.before.before.before.record-at.ensures ∙ ap (λ (k : ℕ). recordOf (type_at (typeRecords t) k)) j in
+    let own = c.before.before.before.before.record-at.ensures ∙ ap (λ (k : ℕ). record_of (type_at (type_records t) k)) j in
     let x : c.before.before.before.index2.result ≡ R.left = c.before.before.before.index2.ensures.0 ∙ ap (λ (r : TypeRecord). r.left) own in
     let y : c.before.before.index3.result ≡ R.right = c.before.before.index3.ensures.0 ∙ ap (λ (r : TypeRecord). r.right) own in
     let k : c.before.parts-fall.result ≡ falls a.i (get_or n a.i 0) R.left R.right = c.before.parts-fall.ensures ∙ falls_of a.i j x y in
-    step-unfit t w n a.i (omega arith)
+    step_unfit t w n a.i (omega arith)
     (λ z. c.before.before.before.before.before.before.if3.false
     (c.before.before.before.before.before.before.before.next-at.ensures ∙ z))
     (sym (not-true c.before.parts-fall.result c.if4.true) ∙ k)
@@ -96,12 +96,12 @@ returns-5 c =
     let t = a.types.now in
     let w = a.widths.now in
     let n = a.next.now in
-    let R = recordFor t w n a.i in
+    let R = record_for t w n a.i in
     let j : c.before.before.before.before.before.before.before.before.before.before.index.result ≡ get_or n a.i 0 =
     c.before.before.before.before.before.before.before.before.before.before.index.ensures.0
     ∙ c.before.before.before.before.before.before.before.before.before.before.before.before.next-at.ensures in
     let own = c.before.before.before.before.before.before.before.before.before.record-at.ensures
-    ∙ ap (λ (k : ℕ). recordOf (type_at (typeRecords t) k)) j in
+    ∙ ap (λ (k : ℕ). record_of (type_at (type_records t) k)) j in
     let x : c.before.before.before.before.before.before.before.before.index2.result ≡ R.left =
     c.before.before.before.before.before.before.before.before.index2.ensures.0 ∙ ap (λ (r : TypeRecord). r.left) own in
     let y : c.before.before.before.before.before.before.before.index3.result ≡ R.right =
@@ -123,7 +123,7 @@ returns-5 c =
     c.tag-step.ensures
     ∙ tag_of
     c.before.before.before.before.before.before.before.before.before.before.before.before.before.before.before.width-at.ensures x y p q
-    ∙ ap (λ (m : ℕ). stepBy m (get_or w a.i 0) R.left R.right (get_or w R.left 0) (get_or w R.right 0)) kind
+    ∙ ap (λ (m : ℕ). step_by m (get_or w a.i 0) R.left R.right (get_or w R.left 0) (get_or w R.right 0)) kind
     ∙ there
 
 both-step-requires : tie.Need-both-step-requires
@@ -135,12 +135,12 @@ returns-6 c =
     let t = a.types.now in
     let w = a.widths.now in
     let n = a.next.now in
-    let R = recordFor t w n a.i in
+    let R = record_for t w n a.i in
     let j : c.before.before.before.before.before.before.before.before.before.before.before.before.index.result ≡ get_or n
     a.i 0 = c.before.before.before.before.before.before.before.before.before.before.before.before.index.ensures.0
     ∙ c.before.before.before.before.before.before.before.before.before.before.before.before.before.before.next-at.ensures in
     let own = c.before.before.before.before.before.before.before.before.before.before.before.record-at.ensures
-    ∙ ap (λ (k : ℕ). recordOf (type_at (typeRecords t) k)) j in
+    ∙ ap (λ (k : ℕ). record_of (type_at (type_records t) k)) j in
     let x : c.before.before.before.before.before.before.before.before.before.before.index2.result ≡ R.left =
     c.before.before.before.before.before.before.before.before.before.before.index2.ensures.0
     ∙ ap (λ (r : TypeRecord). r.left) own in
@@ -164,7 +164,7 @@ returns-6 c =
     let kind : 2 ≡ R.tag = sym c.before.if6.true ∙ tagged in
     c.both-step.ensures
     ∙ both_of c.before.before.before.before.before.before.before.before.before.before.before.before.before.before.before.before.before.width-at.ensures x y p q
-    ∙ ap (λ (m : ℕ). stepBy m (get_or w a.i 0) R.left R.right (get_or w R.left 0) (get_or w R.right 0)) kind
+    ∙ ap (λ (m : ℕ). step_by m (get_or w a.i 0) R.left R.right (get_or w R.left 0) (get_or w R.right 0)) kind
     ∙ there
 
 returns-7 : tie.Need-returns-7
@@ -173,12 +173,12 @@ returns-7 c =
     let t = a.types.now in
     let w = a.widths.now in
     let n = a.next.now in
-    let R = recordFor t w n a.i in
+    let R = record_for t w n a.i in
     let j : c.before.before.before.before.before.before.before.before.before.before.before.index.result ≡ get_or n a.i 0 =
     c.before.before.before.before.before.before.before.before.before.before.before.index.ensures.0
     ∙ c.before.before.before.before.before.before.before.before.before.before.before.before.before.next-at.ensures in
     let own = c.before.before.before.before.before.before.before.before.before.before.record-at.ensures
-    ∙ ap (λ (k : ℕ). recordOf (type_at (typeRecords t) k)) j in
+    ∙ ap (λ (k : ℕ). record_of (type_at (type_records t) k)) j in
     let x : c.before.before.before.before.before.before.before.before.before.index2.result ≡ R.left =
     c.before.before.before.before.before.before.before.before.before.index2.ensures.0 ∙ ap (λ (r : TypeRecord). r.left) own in
     let y : c.before.before.before.before.before.before.before.before.index3.result ≡ R.right =

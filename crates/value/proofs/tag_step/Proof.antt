@@ -1,7 +1,7 @@
 -- `value::tag_step` meets its contract: the step is there just where the widths fit, and no difference wraps.
 use native.Mathlib.Omega.{arith}
 use borrow.Author.Rules.{rules}
-use Rattle.value.proofs.Steps.{tag_fits, tag-unfit}
+use Rattle.value.proofs.Steps.{tag_fits, tag_unfit}
 use Rattle.value.proofs.tag_step.Statement.{statement}
 use Rattle.value.proofs.tag_step.Tie as tie
 
@@ -32,7 +32,7 @@ returns-2 : tie.Need-returns-2
 returns-2 c =
     let a = c.before.before.before.before.args in
     let e = c.before.before.before.larger.ensures in
-    tag-unfit a.own_val a.left a.right a.a a.b (λ z. c.if1.false (omega arith))
+    tag_unfit a.own_val a.left a.right a.a a.b (λ z. c.if1.false (omega arith))
 
 pub tag-step-spec : {M : Type 1} → statement M
 tag-step-spec =

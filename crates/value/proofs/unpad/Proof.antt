@@ -8,7 +8,7 @@ use Rattle.report.specs.Bits.{bits_of}
 use Rattle.scope.specs.Run.{cells_of}
 use Rattle.value.specs.Bits.{room}
 use Rattle.value.specs.Shapes.{shape_at}
-use Rattle.value.proofs.Ways.{unpad-no-cells, unpad-no-room, unpad-done, room-told}
+use Rattle.value.proofs.Ways.{unpad_no_cells, unpad_no_room, unpad_done, room_told}
 use Rattle.value.proofs.unpad.Statement.{statement}
 use Rattle.value.proofs.unpad.Tie as tie
 
@@ -27,7 +27,7 @@ returns c =
     let d = bits_of a.answer.now in
     let first : c.before.has_room.result ≡ room v a.at b =
     c.before.has_room.ensures ∙ ap (λ (k : ℕ). room k a.at b) c.before.before.width-at.ensures in
-    unpad-no-cells A v b (cells_of a.cells.now) a.at d a.q (sym (not-true c.before.has_room.result c.if1.true) ∙ first)
+    unpad_no_cells A v b (cells_of a.cells.now) a.at d a.q (sym (not-true c.before.has_room.result c.if1.true) ∙ first)
 
 has-room-requires-2 : tie.Need-has-room-requires-2
 has-room-requires-2 c κs = search rules
@@ -46,7 +46,7 @@ returns-2 c =
     ∙ ap (λ (k : ℕ). room k a.at b) c.before.before.before.before.before.width-at.ensures in
     let second : c.before.has-room2.result ≡ room v a.q d =
     c.before.has-room2.ensures ∙ ap (λ (k : ℕ). room k a.q d) c.before.before.before.before.before.width-at.ensures in
-    unpad-no-room A v b (cells_of a.cells.now) a.at d a.q
+    unpad_no_room A v b (cells_of a.cells.now) a.at d a.q
     (sym (not-false c.before.before.before.before.has_room.result c.before.before.before.if1.false) ∙ first)
     (sym (not-true c.before.has-room2.result c.if2.true) ∙ second)
 
@@ -63,10 +63,10 @@ unpad-part-requires c κs =
     let second : c.before.before.has-room2.result ≡ room v a.q d = c.before.before.has-room2.ensures
     ∙ ap (λ (k : ℕ). room k a.q d) c.before.before.before.before.before.before.width-at.ensures in
     λ some. (
-      (room-told v a.at b
+      (room_told v a.at b
           (sym first
           ∙ not-false c.before.before.before.before.before.has_room.result c.before.before.before.before.if1.false) some).1,
-      (room-told v a.q d (sym second ∙ not-false c.before.before.has-room2.result c.before.if2.false) some).1,
+      (room_told v a.q d (sym second ∙ not-false c.before.before.has-room2.result c.before.if2.false) some).1,
     )
 
 sub-t17 : tie.Need-overflow-sub-t17
@@ -88,7 +88,7 @@ returns-3 c =
     let second : c.before.before.before.before.before.has-room2.result ≡ room v a.q d =
     c.before.before.before.before.before.has-room2.ensures
     ∙ ap (λ (k : ℕ). room k a.q d) c.before.before.before.before.before.before.before.before.before.width-at.ensures in
-    unpad-done A v b (cells_of a.cells.now) a.at d a.q c.before.before.unpad-part.result _
+    unpad_done A v b (cells_of a.cells.now) a.at d a.q c.before.before.unpad-part.result _
     (sym (not-false c.before.before.before.before.before.before.before.before.has_room.result
     c.before.before.before.before.before.before.before.if1.false) ∙ first)
     (sym (not-false c.before.before.before.before.before.has-room2.result c.before.before.before.before.if2.false)

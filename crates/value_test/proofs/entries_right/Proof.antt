@@ -1,15 +1,15 @@
 -- The loop over the entries stays within the count of types, so that no place wraps.
 use Prim.Native.Nat.{◌≤◌, ◌-◌}
 use borrow.Author.Rules.{rules}
-use Rattle.limits.specs.Limits.{typeCount}
+use Rattle.limits.specs.Limits.{type_count}
 use Rattle.value_test.proofs.entries_right.Statement.{statement}
 use Rattle.value_test.proofs.entries_right.Tie as tie
 
 abbrev invariant-loop : tie.invariant-loop
-invariant-loop «record» widths next entries k₀ k = k ≤ typeCount
+invariant-loop «record» widths next entries k₀ k = k ≤ type_count
 
 abbrev decreases-loop : tie.decreases-loop
-decreases-loop «record» widths next entries k₀ k = typeCount - k
+decreases-loop «record» widths next entries k₀ k = type_count - k
 
 pub entries-right-spec : {M : Type 1} → statement M
 entries-right-spec =

@@ -21,16 +21,16 @@ use native.Mathlib.Omega.{arith}
 use mathlib.Core.Path.{◌≡◌, refl, sym, ap, ◌∙◌, subst}
 use mathlib.Core.List.{List, []}
 use Rattle.report.specs.Bits.{bits_of}
-use Rattle.scope.specs.Nodes.{nodeRecords, nodesOf}
-use Rattle.scope.specs.Hashes.{branchHash}
-use Rattle.scope.specs.Program.{termAt}
+use Rattle.scope.specs.Nodes.{node_records, nodes_of}
+use Rattle.scope.specs.Hashes.{branch_hash}
+use Rattle.scope.specs.Program.{term_at}
 use Rattle.layout.specs.Mach.{Mach}
-use Rattle.layout.specs.Exec.{runTerm}
-use Rattle.layout.specs.Safe.{back-over}
-use Rattle.table.specs.Answers.{recordOf}
+use Rattle.layout.specs.Exec.{run_term}
+use Rattle.layout.specs.Safe.{back_over}
+use Rattle.table.specs.Answers.{record_of}
 use Rattle.bit_machine.proofs.ByKind
-use Rattle.bit_machine.proofs.Needs.{within-fed, within-kept, second-any, third-any}
-use Rattle.bit_machine.proofs.Cycle.{ran-done, planned-as, safe-as, one-ran, one-stops, one-ends, left-ends, right-ends, both_end}
+use Rattle.bit_machine.proofs.Needs.{within_fed, within_kept, second_any, third_any}
+use Rattle.bit_machine.proofs.Cycle.{ran_done, planned_as, safe_as, one_ran, one_stops, one_ends, left_ends, right_ends, both_end}
 
 abbrev μ-both : Measures 3 both-kinds.ps ℕ
 μ-both κs a = 2 * a.1.1.1.1.1.1.1.1.1.1.1.1.0
@@ -79,8 +79,8 @@ both-first-requires : (t : ℕ) → both-lts.Need-first-requires (both-calls t) 
 both-first-requires t c κs =
     let start = c.before.before.before.before.before.before.before.before.before.before.before.before.before.before.before.before in
     let around-at-call = c.before.before.before.around-at in (
-      within-fed start.requires.1.1.0,
-      (ByKind.two_is start.requires.1.0 start.args.i (recordOf c.before.before.record-at.result) c.before.before.record-at.ensures _
+      within_fed start.requires.1.1.0,
+      (ByKind.two_is start.requires.1.0 start.args.i (record_of c.before.before.record-at.result) c.before.before.record-at.ensures _
           start.requires.1.1.1.1 start.requires.1.1.1.0 around-at-call.result around-at-call.ensures).ok.first,
     )
 
@@ -91,14 +91,14 @@ both-node-requires t c κs =
     let record-at-call = c.before.before.before.before.before.before.before.before.before.record-at in
     let first-call = c.before.before.before.before.before.before.first in
     let two =
-    (ByKind.two_is start.pre.1.0 start.args.i (recordOf record-at-call.result) record-at-call.ensures _
+    (ByKind.two_is start.pre.1.0 start.args.i (record_of record-at-call.result) record-at-call.ensures _
     start.pre.1.1.1.1 start.pre.1.1.1.0 around-at-call.result around-at-call.ensures) in (
-      omega (arith, start.pre.0, two.leftBelow),
+      omega (arith, start.pre.0, two.left_below),
       (
         start.pre.1.0,
         (
-          within-kept start.pre.1.1.0 first-call.auto.1.1.1.1.1.0 first-call.auto.1.1.1.1.1.1.0,
-          safe-as _ first-call.ensures two.ok.left,
+          within_kept start.pre.1.1.0 first-call.auto.1.1.1.1.1.0 first-call.auto.1.1.1.1.1.1.0,
+          safe_as _ first-call.ensures two.ok.left,
         ),
       ),
     )
@@ -127,7 +127,7 @@ both-returns t c =
     c.before.before.before.before.before.before.before.before.before.before.before.before.before.before.before.before.before.around-at in
     let record-at-call =
     c.before.before.before.before.before.before.before.before.before.before.before.before.before.before.before.before.record-at in
-    left-ends (ByKind.two_is start.pre.1.0 start.args.i (recordOf record-at-call.result) record-at-call.ensures _
+    left_ends (ByKind.two_is start.pre.1.0 start.args.i (record_of record-at-call.result) record-at-call.ensures _
     start.pre.1.1.1.1 start.pre.1.1.1.0 around-at-call.result around-at-call.ensures) _ _ _
     c.before.before.before.before.before.before.node.ensures first-call.ensures _ _ c.enum_told.given.1
 
@@ -140,13 +140,13 @@ both-second-requires t c κs =
     let first-call = c.before.before.before.before.before.before.before.before.before.before.before.before.before.before.before.before.first in
     let Node-call = c.before.before.before.before.before.before.before.before.before.node in
     let two =
-    (ByKind.two_is start.pre.1.0 start.args.i (recordOf record-at-call.result) record-at-call.ensures _
+    (ByKind.two_is start.pre.1.0 start.args.i (record_of record-at-call.result) record-at-call.ensures _
     start.pre.1.1.1.1 start.pre.1.1.1.0 around-at-call.result around-at-call.ensures) in
-    let d2 = (ran-done _ _ _ _ Node-call.ensures first-call.ensures _ c.before.before.before.left.given.1) in (
-      within-fed
-          (within-kept start.pre.1.1.0 (Node-call.auto.1.1.1.1.1.1.1.1.1.1.0 ∙ first-call.auto.1.1.1.1.1.0)
+    let d2 = (ran_done _ _ _ _ Node-call.ensures first-call.ensures _ c.before.before.before.left.given.1) in (
+      within_fed
+          (within_kept start.pre.1.1.0 (Node-call.auto.1.1.1.1.1.1.1.1.1.1.0 ∙ first-call.auto.1.1.1.1.1.0)
           (Node-call.auto.1.1.1.1.1.1.1.1.1.1.1.0 ∙ first-call.auto.1.1.1.1.1.1.0)),
-      second-any around-at-call.result (bits_of (branchHash (nodesOf [] start.args.hashes.now (nodeRecords start.args.nodes.now))
+      second_any around-at-call.result (bits_of (branch_hash (nodes_of [] start.args.hashes.now (node_records start.args.nodes.now))
           start.args.given.now record-at-call.result.second)) [] _ (two.ok.then _ d2).second,
     )
 
@@ -160,17 +160,17 @@ both-node-requires-2 t c κs =
     let Node-call = c.before.before.before.before.before.before.before.before.before.before.before.before.before.before.before.before.node in
     let second_call = c.before.before.before.before.before.before.second in
     let two =
-    (ByKind.two_is start.pre.1.0 start.args.i (recordOf record-at-call.result) record-at-call.ensures _
+    (ByKind.two_is start.pre.1.0 start.args.i (record_of record-at-call.result) record-at-call.ensures _
     start.pre.1.1.1.1 start.pre.1.1.1.0 around-at-call.result around-at-call.ensures) in
-    let d2 = (ran-done _ _ _ _ Node-call.ensures first-call.ensures _ left-found.given.1) in (
-      omega (arith, start.pre.0, two.rightBelow),
+    let d2 = (ran_done _ _ _ _ Node-call.ensures first-call.ensures _ left-found.given.1) in (
+      omega (arith, start.pre.0, two.right_below),
       (
         start.pre.1.0,
         (
-          within-kept start.pre.1.1.0
+          within_kept start.pre.1.1.0
               (second_call.auto.1.0 ∙ Node-call.auto.1.1.1.1.1.1.1.1.1.1.0 ∙ first-call.kept.1.1.1.1.1.0)
               (second_call.auto.1.1.0 ∙ Node-call.auto.1.1.1.1.1.1.1.1.1.1.1.0 ∙ first-call.kept.1.1.1.1.1.1.0),
-          safe-as _ (second_call.ensures (bits_of (branchHash (nodesOf [] start.args.hashes.now (nodeRecords start.args.nodes.now))
+          safe_as _ (second_call.ensures (bits_of (branch_hash (nodes_of [] start.args.hashes.now (node_records start.args.nodes.now))
               start.args.given.now record-at-call.result.second))) (two.ok.then _ d2).right,
         ),
       ),
@@ -215,11 +215,11 @@ both-returns-2 t c =
     let record-at-call =
     c.before.before.before.before.before.before.before.before.before.before.before.before.before.before.before.before.before.before.before.before.before.before.before.before.before.before.before.before.before.before.before.before.before.record-at in
     let two =
-    (ByKind.two_is start.pre.1.0 start.args.i (recordOf record-at-call.result) record-at-call.ensures _
+    (ByKind.two_is start.pre.1.0 start.args.i (record_of record-at-call.result) record-at-call.ensures _
     start.pre.1.1.1.1 start.pre.1.1.1.0 around-at-call.result around-at-call.ensures) in
-    right-ends two _ (ran-done _ _ _ _ Node-call.ensures first-call.ensures _ left-found.given.1) _ _ _
+    right_ends two _ (ran_done _ _ _ _ Node-call.ensures first-call.ensures _ left-found.given.1) _ _ _
     c.before.before.before.before.before.before.node2.ensures
-    (second_call.ensures (bits_of (branchHash (nodesOf [] start.args.hashes.now (nodeRecords start.args.nodes.now))
+    (second_call.ensures (bits_of (branch_hash (nodes_of [] start.args.hashes.now (node_records start.args.nodes.now))
     start.args.given.now record-at-call.result.second))) _ _ c.enum-told2.given.1
 
 both-third-requires : (t : ℕ) → both-lts.Need-third-requires (both-calls t) (both_at t) both.Post
@@ -235,13 +235,13 @@ both-third-requires t c κs =
     let around-at-call = c.before.before.before.before.before.before.before.before.before.before.before.before.before.before.before.before.before.before.before.before.before.before.before.before.before.before.before.before.before.before.before.before.before.before.before.before.around-at in
     let record-at-call = c.before.before.before.before.before.before.before.before.before.before.before.before.before.before.before.before.before.before.before.before.before.before.before.before.before.before.before.before.before.before.before.before.before.before.before.record-at in
     let two =
-    (ByKind.two_is start.pre.1.0 start.args.i (recordOf record-at-call.result) record-at-call.ensures _
+    (ByKind.two_is start.pre.1.0 start.args.i (record_of record-at-call.result) record-at-call.ensures _
     start.pre.1.1.1.1 start.pre.1.1.1.0 around-at-call.result around-at-call.ensures) in
-    let d2 = (ran-done _ _ _ _ Node-call.ensures first-call.ensures _ left-found.given.1) in
-    third-any around-at-call.result (bits_of (branchHash (nodesOf [] start.args.hashes.now (nodeRecords start.args.nodes.now))
+    let d2 = (ran_done _ _ _ _ Node-call.ensures first-call.ensures _ left-found.given.1) in
+    third_any around-at-call.result (bits_of (branch_hash (nodes_of [] start.args.hashes.now (node_records start.args.nodes.now))
     start.args.given.now record-at-call.result.second)) [] _ _ _
-    ((two.ok.then _ d2).third _ (ran-done _ _ _ _ node2-call.ensures (second_call.ensures (bits_of (branchHash (nodesOf []
-    start.args.hashes.now (nodeRecords start.args.nodes.now)) start.args.given.now record-at-call.result.second))) _
+    ((two.ok.then _ d2).third _ (ran_done _ _ _ _ node2-call.ensures (second_call.ensures (bits_of (branch_hash (nodes_of []
+    start.args.hashes.now (node_records start.args.nodes.now)) start.args.given.now record-at-call.result.second))) _
     c.before.before.right.given.1))
 
 both-same-length-5 : (t : ℕ) → both-lts.Need-same-length-5 (both-calls t) (both_at t) both.Post
@@ -279,13 +279,13 @@ both-returns-3 t c =
     let around-at-call = c.before.before.before.before.before.before.before.before.before.before.before.before.before.before.before.before.before.before.before.before.before.before.before.before.before.before.before.before.before.before.before.before.before.before.before.before.before.before.before.around-at in
     let record-at-call = c.before.before.before.before.before.before.before.before.before.before.before.before.before.before.before.before.before.before.before.before.before.before.before.before.before.before.before.before.before.before.before.before.before.before.before.before.before.before.record-at in
     let two =
-    (ByKind.two_is start.pre.1.0 start.args.i (recordOf record-at-call.result) record-at-call.ensures _
+    (ByKind.two_is start.pre.1.0 start.args.i (record_of record-at-call.result) record-at-call.ensures _
     start.pre.1.1.1.1 start.pre.1.1.1.0 around-at-call.result around-at-call.ensures) in
-    both_end two _ (ran-done _ _ _ _ Node-call.ensures first-call.ensures _ left-found.given.1) _
-    (ran-done _ _ _ _ node2-call.ensures
-    (second_call.ensures (bits_of (branchHash (nodesOf [] start.args.hashes.now (nodeRecords start.args.nodes.now))
+    both_end two _ (ran_done _ _ _ _ Node-call.ensures first-call.ensures _ left-found.given.1) _
+    (ran_done _ _ _ _ node2-call.ensures
+    (second_call.ensures (bits_of (branch_hash (nodes_of [] start.args.hashes.now (node_records start.args.nodes.now))
     start.args.given.now record-at-call.result.second))) _ c.before.before.before.before.before.right.given.1) _
-    (c.before.before.third.ensures (bits_of (branchHash (nodesOf [] start.args.hashes.now (nodeRecords start.args.nodes.now))
+    (c.before.before.third.ensures (bits_of (branch_hash (nodes_of [] start.args.hashes.now (node_records start.args.nodes.now))
     start.args.given.now record-at-call.result.second)) _)
 
 node-prepare-requires : (t : ℕ) → node-lts.Need-prepare-requires (node-calls t) (node_at t) node.Post
@@ -306,14 +306,14 @@ node-both-requires : (t : ℕ) → node-lts.Need-both-requires (node-calls t) (n
 node-both-requires t c κs =
     let start = c.before.before.before.before.before.before.before.before.before.before.before.before.before.before.before.before.before.before.before.before.before.before.before in
     let prepare-call = c.before.before.before.before.before.before.before.before.prepare in
-    let two = (planned-as _ _ _ _ _ c.before.before.enum-told2.given.1 prepare-call.ensures) in (
+    let two = (planned_as _ _ _ _ _ c.before.before.enum-told2.given.1 prepare-call.ensures) in (
       omega (arith, start.pre.0),
       (
         start.pre.1.0,
         (
-          (within-kept start.pre.1.1.0 prepare-call.auto.1.1.1.1.1.1.1.1.1.1.0
+          (within_kept start.pre.1.1.0 prepare-call.auto.1.1.1.1.1.1.1.1.1.1.0
               prepare-call.auto.1.1.1.1.1.1.1.1.1.1.1.0),
-          (two.1, safe-as _ two.0 start.pre.1.1.1),
+          (two.1, safe_as _ two.0 start.pre.1.1.1),
         ),
       ),
     )
@@ -325,12 +325,12 @@ node-node-requires : (t : ℕ) → node-lts.Need-node-requires (node-calls t) (n
 node-node-requires t c κs =
     let start = c.before.before.before.before.before.before.before.before.before.before.before.before.before.before.before.before.before.before.before.before.before.before.before.before in
     let prepare-call = c.before.before.before.before.before.before.before.before.before.prepare in
-    let one = (planned-as _ _ _ _ _ c.before.before.before.plan2.given.1 prepare-call.ensures) in (
+    let one = (planned_as _ _ _ _ _ c.before.before.before.plan2.given.1 prepare-call.ensures) in (
       omega (arith, start.pre.0, one.below),
       (
         start.pre.1.0,
         (
-          (within-kept start.pre.1.1.0 prepare-call.auto.1.1.1.1.1.1.1.1.1.1.0
+          (within_kept start.pre.1.1.0 prepare-call.auto.1.1.1.1.1.1.1.1.1.1.0
               prepare-call.auto.1.1.1.1.1.1.1.1.1.1.1.0),
           one.child.body,
         ),
@@ -359,7 +359,7 @@ node-returns t c =
     let prepare-call =
     c.before.before.before.before.before.before.before.before.before.before.before.before.before.before.before.before.prepare in
     let plan2-found = c.before.before.before.before.before.before.before.before.before.before.plan2 in
-    one-stops (planned-as _ _ _ _ _ plan2-found.given.1 prepare-call.ensures) _ _ _
+    one_stops (planned_as _ _ _ _ _ plan2-found.given.1 prepare-call.ensures) _ _ _
     c.before.before.before.before.before.before.node.ensures _ _ c.enum-told3.given.1
 
 node-back-requires : (t : ℕ) → node-lts.Need-back-requires (node-calls t) (node_at t) node.Post
@@ -368,8 +368,8 @@ node-back-requires t c κs =
     let plan2-found = c.before.before.before.before.before.before.before.before.before.before.before.before.plan2 in
     let Node-call = c.before.before.before.before.before.before.before.before.node in
     λ pos.
-    let one = (planned-as _ _ _ _ _ plan2-found.given.1 prepare-call.ensures) in
-    back-over [] (one.child.home _ (one-ran one _ _ _ Node-call.ensures _ c.before.before.ran.given.1) pos)
+    let one = (planned_as _ _ _ _ _ plan2-found.given.1 prepare-call.ensures) in
+    back_over [] (one.child.home _ (one_ran one _ _ _ Node-call.ensures _ c.before.before.ran.given.1) pos)
 
 node-same-length-3 : (t : ℕ) → node-lts.Need-same-length-3 (node-calls t) (node_at t) node.Post
 node-same-length-3 t c = c.before.before.before.before.before.before.prepare.auto.1.1.1.1.1.1.1.1.1.1.0
@@ -378,7 +378,7 @@ node-same-length-4 : (t : ℕ) → node-lts.Need-same-length-4 (node-calls t) (n
 node-same-length-4 t c = c.before.before.before.before.before.before.prepare.auto.1.1.1.1.1.1.1.1.1.1.1.0
 
 node-returns-2 : (t : ℕ) → node-lts.Need-returns-2 (node-calls t) (node_at t) node.Post
-node-returns-2 t c = sym (planned-as _ _ _ _ _ c.enum_told.given.1 c.before.before.before.before.before.before.prepare.ensures)
+node-returns-2 t c = sym (planned_as _ _ _ _ _ c.enum_told.given.1 c.before.before.before.before.before.before.prepare.ensures)
 
 node-same-length-5 : (t : ℕ) → node-lts.Need-same-length-5 (node-calls t) (node_at t) node.Post
 node-same-length-5 t c = c.before.before.before.before.before.before.before.prepare.auto.1.1.1.1.1.1.1.1.1.1.0
@@ -387,7 +387,7 @@ node-same-length-6 : (t : ℕ) → node-lts.Need-same-length-6 (node-calls t) (n
 node-same-length-6 t c = c.before.before.before.before.before.before.before.prepare.auto.1.1.1.1.1.1.1.1.1.1.1.0
 
 node-returns-3 : (t : ℕ) → node-lts.Need-returns-3 (node-calls t) (node_at t) node.Post
-node-returns-3 t c = sym (planned-as _ _ _ _ _ c.before.plan.given.1 c.before.before.before.before.before.before.before.prepare.ensures)
+node-returns-3 t c = sym (planned_as _ _ _ _ _ c.before.plan.given.1 c.before.before.before.before.before.before.before.prepare.ensures)
 
 node-same-length-7 : (t : ℕ) → node-lts.Need-same-length-7 (node-calls t) (node_at t) node.Post
 node-same-length-7 t c =
@@ -403,8 +403,8 @@ node-returns-4 : (t : ℕ) → node-lts.Need-returns-4 (node-calls t) (node_at t
 node-returns-4 t c =
     let prepare-call = c.before.before.before.before.before.before.before.before.before.before.before.before.before.prepare in
     c.before.before.before.before.both.ensures
-    ∙ ap (runTerm _)
-    (planned-as _ _ _ _ _ c.before.before.before.before.before.before.before.enum-told2.given.1 prepare-call.ensures).0
+    ∙ ap (run_term _)
+    (planned_as _ _ _ _ _ c.before.before.before.before.before.before.before.enum-told2.given.1 prepare-call.ensures).0
 
 node-same-length-9 : (t : ℕ) → node-lts.Need-same-length-9 (node-calls t) (node_at t) node.Post
 node-same-length-9 t c =
@@ -423,7 +423,7 @@ node-returns-5 t c =
     let prepare-call = c.before.before.before.before.before.before.before.before.before.before.before.before.before.before.before.before.before.before.before.before.before.prepare in
     let plan2-found = c.before.before.before.before.before.before.before.before.before.before.before.before.before.before.before.plan2 in
     let Node-call = c.before.before.before.before.before.before.before.before.before.before.before.node in
-    one-ends (planned-as _ _ _ _ _ plan2-found.given.1 prepare-call.ensures) _ _ _ Node-call.ensures _
+    one_ends (planned_as _ _ _ _ _ plan2-found.given.1 prepare-call.ensures) _ _ _ Node-call.ensures _
     c.before.before.before.before.before.ran.given.1 _ (c.before.before.back.ensures _)
 
 pub +both-node-spec : {M : Type 1} → statement M

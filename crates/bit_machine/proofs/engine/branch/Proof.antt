@@ -14,10 +14,10 @@ use native.Mathlib.Omega.{arith}
 use mathlib.Core.Path.{◌≡◌, refl, sym, ap, ◌∙◌, subst}
 use mathlib.Core.List.{List, []}
 use Rattle.bit_machine.proofs.ByKind
-use Rattle.table.specs.Answers.{recordOf}
+use Rattle.table.specs.Answers.{record_of}
 use Rattle.scope.specs.Nodes.{NodeRecord}
-use Rattle.layout.specs.Safe.{read-over, fed-bits}
-use Rattle.bit_machine.proofs.Needs.{within-fed}
+use Rattle.layout.specs.Safe.{read_over, fed_bits}
+use Rattle.bit_machine.proofs.Needs.{within_fed}
 use Rattle.lookup.specs.declared.Padding.{Padding}
 
 record-at-requires : tie.Need-record-at-requires
@@ -37,7 +37,7 @@ peek-requires c κs =
     let start =
     c.before.before.before.before.before.before.before.before.before.before.before.before.before.before.before.before.before.before in
     let record-at-call = c.before.before.before.before.before.record-at in
-    ByKind.case-look start.pre.0 start.args.i (recordOf record-at-call.result) record-at-call.ensures _ start.pre.1.1.0
+    ByKind.case_look start.pre.0 start.args.i (record_of record-at-call.result) record-at-call.ensures _ start.pre.1.1.0
     ((ap (λ (r : NodeRecord). r.kind) record-at-call.ensures) ∙ start.pre.1.1.1)
 
 hidden-at-requires : tie.Need-hidden-at-requires
@@ -53,7 +53,7 @@ returns : tie.Need-returns
 returns c =
     let start = c.before.before.before.before.before.before.before.before.before.before.before.before.before.before.before.before.before.before.before.before.before.before in
     let record-at-call = c.before.before.before.before.before.before.before.before.before.record-at in
-    ByKind.left-pruned start.pre.0 start.args.i (recordOf record-at-call.result) record-at-call.ensures _
+    ByKind.left_pruned start.pre.0 start.args.i (record_of record-at-call.result) record-at-call.ensures _
     start.pre.1.1.0 ((ap (λ (r : NodeRecord). r.kind) record-at-call.ensures) ∙ start.pre.1.1.1)
     (sym c.before.before.before.peek.ensures ∙ c.before.before.if1.true) _ c.before.hidden_at.ensures c.if2.true
 
@@ -63,12 +63,12 @@ add-n c =
     let left-of-call = c.before.before.before.before.before.before.before.before.left-of in
     let start = c.before.before.before.before.before.before.before.before.before.before.before.before.before.before.before.before.before.before.before.before.before.before.before in
     let record-at-call = c.before.before.before.before.before.before.before.before.before.before.record-at in
-    let h = (ByKind.left-need start.pre.0 start.args.i (recordOf record-at-call.result) record-at-call.ensures _
+    let h = (ByKind.left_need start.pre.0 start.args.i (record_of record-at-call.result) record-at-call.ensures _
     start.pre.1.1.0 ((ap (λ (r : NodeRecord). r.kind) record-at-call.ensures) ∙ start.pre.1.1.1)
     (sym c.before.before.before.before.peek.ensures ∙ c.before.before.before.if1.true) _
     c.before.before.hidden_at.ensures c.before.if2.false _ (rw (left-of-call.ensures, source-at-call.ensures) at (ap
     (λ (p : Padding). p.left) c.before.before.before.before.before.before.before.padding-at.ensures)) (omega arith)).fits in
-    omega (arith, fed-bits (within-fed start.pre.1.0))
+    omega (arith, fed_bits (within_fed start.pre.1.0))
 
 forward-requires : tie.Need-forward-requires
 forward-requires c κs =
@@ -77,8 +77,8 @@ forward-requires c κs =
     let padding-at-call = c.before.before.before.before.before.before.before.before.padding-at in
     let start = c.before.before.before.before.before.before.before.before.before.before.before.before.before.before.before.before.before.before.before.before.before.before.before.before in
     let record-at-call = c.before.before.before.before.before.before.before.before.before.before.before.record-at in
-    λ pos. read-over [] (fed-bits (within-fed start.pre.1.0))
-    (ByKind.left-need start.pre.0 start.args.i (recordOf record-at-call.result) record-at-call.ensures _
+    λ pos. read_over [] (fed_bits (within_fed start.pre.1.0))
+    (ByKind.left_need start.pre.0 start.args.i (record_of record-at-call.result) record-at-call.ensures _
     start.pre.1.1.0 ((ap (λ (r : NodeRecord). r.kind) record-at-call.ensures) ∙ start.pre.1.1.1)
     (sym c.before.before.before.before.before.peek.ensures ∙ c.before.before.before.before.if1.true) _
     c.before.before.before.hidden_at.ensures c.before.before.if2.false _
@@ -98,7 +98,7 @@ returns-2 c =
     let peek-call = c.before.before.before.before.before.before.before.before.peek in
     let start = c.before.before.before.before.before.before.before.before.before.before.before.before.before.before.before.before.before.before.before.before.before.before.before.before.before.before.before in
     let record-at-call = c.before.before.before.before.before.before.before.before.before.before.before.before.before.before.record-at in
-    ByKind.left_one start.pre.0 start.args.i (recordOf record-at-call.result) record-at-call.ensures _ start.pre.1.1.0
+    ByKind.left_one start.pre.0 start.args.i (record_of record-at-call.result) record-at-call.ensures _ start.pre.1.1.0
     ((ap (λ (r : NodeRecord). r.kind) record-at-call.ensures) ∙ start.pre.1.1.1)
     (sym peek-call.ensures ∙ c.before.before.before.before.before.before.before.if1.true) _
     c.before.before.before.before.before.before.hidden_at.ensures c.before.before.before.before.before.if2.false _
@@ -118,7 +118,7 @@ returns-3 : tie.Need-returns-3
 returns-3 c =
     let start = c.before.before.before.before.before.before.before.before.before.before.before.before.before.before.before.before.before.before.before.before.before.before in
     let record-at-call = c.before.before.before.before.before.before.before.before.before.record-at in
-    ByKind.right-pruned start.pre.0 start.args.i (recordOf record-at-call.result) record-at-call.ensures _
+    ByKind.right_pruned start.pre.0 start.args.i (record_of record-at-call.result) record-at-call.ensures _
     start.pre.1.1.0 ((ap (λ (r : NodeRecord). r.kind) record-at-call.ensures) ∙ start.pre.1.1.1)
     (λ z. c.before.before.if1.false (c.before.before.before.peek.ensures ∙ z)) _ c.before.hidden-at2.ensures c.if3.true
 
@@ -128,12 +128,12 @@ add-n-2 c =
     let left-of-call = c.before.before.before.before.before.before.before.before.left-of in
     let start = c.before.before.before.before.before.before.before.before.before.before.before.before.before.before.before.before.before.before.before.before.before.before.before in
     let record-at-call = c.before.before.before.before.before.before.before.before.before.before.record-at in
-    let h = (ByKind.right-need start.pre.0 start.args.i (recordOf record-at-call.result) record-at-call.ensures _
+    let h = (ByKind.right_need start.pre.0 start.args.i (record_of record-at-call.result) record-at-call.ensures _
     start.pre.1.1.0 ((ap (λ (r : NodeRecord). r.kind) record-at-call.ensures) ∙ start.pre.1.1.1)
     (λ z. c.before.before.before.if1.false (c.before.before.before.before.peek.ensures ∙ z)) _
     c.before.before.hidden-at2.ensures c.before.if3.false _ (rw (left-of-call.ensures, source-at-call.ensures) at (ap
     (λ (p : Padding). p.right) c.before.before.before.before.before.before.before.padding-at.ensures)) (omega arith)).fits in
-    omega (arith, fed-bits (within-fed start.pre.1.0))
+    omega (arith, fed_bits (within_fed start.pre.1.0))
 
 forward-requires-2 : tie.Need-forward-requires-2
 forward-requires-2 c κs =
@@ -142,8 +142,8 @@ forward-requires-2 c κs =
     let padding-at-call = c.before.before.before.before.before.before.before.before.padding-at in
     let start = c.before.before.before.before.before.before.before.before.before.before.before.before.before.before.before.before.before.before.before.before.before.before.before.before in
     let record-at-call = c.before.before.before.before.before.before.before.before.before.before.before.record-at in
-    λ pos. read-over [] (fed-bits (within-fed start.pre.1.0))
-    (ByKind.right-need start.pre.0 start.args.i (recordOf record-at-call.result) record-at-call.ensures _
+    λ pos. read_over [] (fed_bits (within_fed start.pre.1.0))
+    (ByKind.right_need start.pre.0 start.args.i (record_of record-at-call.result) record-at-call.ensures _
     start.pre.1.1.0 ((ap (λ (r : NodeRecord). r.kind) record-at-call.ensures) ∙ start.pre.1.1.1)
     (λ z. c.before.before.before.before.if1.false (c.before.before.before.before.before.peek.ensures ∙ z)) _
     c.before.before.before.hidden-at2.ensures c.before.before.if3.false _
@@ -163,7 +163,7 @@ returns-4 c =
     let peek-call = c.before.before.before.before.before.before.before.before.peek in
     let start = c.before.before.before.before.before.before.before.before.before.before.before.before.before.before.before.before.before.before.before.before.before.before.before.before.before.before.before in
     let record-at-call = c.before.before.before.before.before.before.before.before.before.before.before.before.before.before.record-at in
-    ByKind.right-one start.pre.0 start.args.i (recordOf record-at-call.result) record-at-call.ensures _ start.pre.1.1.0
+    ByKind.right_one start.pre.0 start.args.i (record_of record-at-call.result) record-at-call.ensures _ start.pre.1.1.0
     ((ap (λ (r : NodeRecord). r.kind) record-at-call.ensures) ∙ start.pre.1.1.1)
     (λ z. c.before.before.before.before.before.before.before.if1.false (peek-call.ensures ∙ z)) _
     c.before.before.before.before.before.before.hidden-at2.ensures c.before.before.before.before.before.if3.false _

@@ -8,8 +8,8 @@ use Rattle.bit_machine.proofs.rules.new_write_frame.Reads as new-write-frame-rea
 use native.Mathlib.Omega.{arith}
 use mathlib.Core.Path.{◌≡◌, refl, sym, ap, ◌∙◌, subst}
 use mathlib.Core.List.{List, []}
-use Rattle.layout.specs.Safe.{push-over, fed-bits}
-use Rattle.bit_machine.proofs.Needs.{first-needs, first-pair, first-comp, first-disconnect}
+use Rattle.layout.specs.Safe.{push_over, fed_bits}
+use Rattle.bit_machine.proofs.Needs.{first_needs, first_pair, first_comp, first_disconnect}
 
 enum_told : tie.Need-enum-told
 enum_told c = search rules
@@ -20,7 +20,7 @@ enum-known-around c = search rules
 new-write-frame-requires : tie.Need-new-write-frame-requires
 new-write-frame-requires c κs =
     let start = c.before.before.before.before.before.before.before.before.before in
-    push-over [] (fed-bits start.requires.0) (first-needs _ _ c.before.before.around.given.1 start.requires.1)
+    push_over [] (fed_bits start.requires.0) (first_needs _ _ c.before.before.around.given.1 start.requires.1)
 
 enum-known-around-2 : tie.Need-enum-known-around-2
 enum-known-around-2 c = search rules
@@ -28,22 +28,22 @@ enum-known-around-2 c = search rules
 add-target : tie.Need-overflow-add-target
 add-target c =
     let start = c.before.before.before.before.before.before.before.before in
-    let h = (first-needs _ _ c.before.around2.given.1 start.requires.1).last.fits in
-    omega (arith, fed-bits start.requires.0)
+    let h = (first_needs _ _ c.before.around2.given.1 start.requires.1).last.fits in
+    omega (arith, fed_bits start.requires.0)
 
 hand-requires : tie.Need-hand-requires
 hand-requires c κs =
     let start = c.before.before.before.before.before.before.before.before.before.before in
-    (start.requires.0, (first-needs _ _ c.before.before.before.around2.given.1 start.requires.1))
+    (start.requires.0, (first_needs _ _ c.before.before.before.around2.given.1 start.requires.1))
 
 returns : tie.Need-returns
-returns c = sym (first-pair _ _ c.enum_told.given.1)
+returns c = sym (first_pair _ _ c.enum_told.given.1)
 
 same_length : tie.Need-same-length
 same_length c = search rules
 
 returns-2 : tie.Need-returns-2
-returns-2 c = c.before.before.new-write-frame.ensures _ ∙ sym (first-comp _ _ c.before.before.before.before.before.around.given.1)
+returns-2 c = c.before.before.new-write-frame.ensures _ ∙ sym (first_comp _ _ c.before.before.before.before.before.around.given.1)
 
 same-length-2 : tie.Need-same-length-2
 same-length-2 c = search rules
@@ -54,7 +54,7 @@ same-length-3 c = search rules
 returns-3 : tie.Need-returns-3
 returns-3 c =
     c.before.before.before.before.hand.ensures
-    ∙ sym (first-disconnect _ _ c.before.before.before.before.before.before.before.before.around2.given.1)
+    ∙ sym (first_disconnect _ _ c.before.before.before.before.before.before.before.before.around2.given.1)
 
 pub first_spec : {M : Type 1} → statement M
 first_spec =

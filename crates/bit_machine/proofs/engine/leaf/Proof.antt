@@ -15,9 +15,9 @@ use native.Mathlib.Omega.{arith}
 use mathlib.Core.Path.{◌≡◌, refl, sym, ap, ◌∙◌, subst}
 use mathlib.Core.List.{List, []}
 use Rattle.bit_machine.proofs.ByKind
-use Rattle.table.specs.Answers.{recordOf}
+use Rattle.table.specs.Answers.{record_of}
 use Rattle.scope.specs.Nodes.{NodeRecord}
-use Rattle.bit_machine.proofs.Needs.{within-fed}
+use Rattle.bit_machine.proofs.Needs.{within_fed}
 
 record-at-requires : tie.Need-record-at-requires
 record-at-requires c κs = search rules
@@ -25,7 +25,7 @@ record-at-requires c κs = search rules
 returns : tie.Need-returns
 returns c =
     let start = c.before.before.before.before.before.before.before.before.before.before.before.before.before.before.before in
-    ByKind.unit-run start.requires.0 start.args.i (recordOf c.before.before.record-at.result)
+    ByKind.unit_run_lem start.requires.0 start.args.i (record_of c.before.before.record-at.result)
     c.before.before.record-at.ensures _ start.requires.1.1.0 c.if1.true
 
 source-width-requires : tie.Need-source-width-requires
@@ -35,8 +35,8 @@ copy-requires : tie.Need-copy-requires
 copy-requires c κs =
     let start = c.before.before.before.before.before.before.before.before.before.before.before.before.before.before.before.before.before.before.before.before in
     let record-at-call = c.before.before.before.before.before.before.before.record-at in (
-      within-fed start.pre.1.0,
-      ByKind.iden-need start.pre.0 start.args.i (recordOf record-at-call.result) record-at-call.ensures _
+      within_fed start.pre.1.0,
+      ByKind.iden_need start.pre.0 start.args.i (record_of record-at-call.result) record-at-call.ensures _
           start.pre.1.1.0 c.before.before.before.if2.true _ c.source-width.ensures,
     )
 
@@ -51,7 +51,7 @@ returns-2 c =
     let if2-found = c.before.before.before.before.before.before.before.before.if2 in
     let start = c.before.before.before.before.before.before.before.before.before.before.before.before.before.before.before.before.before.before.before.before.before.before.before.before.before in
     let record-at-call = c.before.before.before.before.before.before.before.before.before.before.before.before.record-at in
-    ByKind.iden-run start.pre.0 start.args.i (recordOf record-at-call.result) record-at-call.ensures _ start.pre.1.1.0
+    ByKind.iden_run start.pre.0 start.args.i (record_of record-at-call.result) record-at-call.ensures _ start.pre.1.1.0
     if2-found.true _ c.before.before.before.before.before.source-width.ensures _
     c.before.before.before.before.copy.ensures
 
@@ -71,9 +71,9 @@ write-value-requires c κs =
       (
         start.pre.1.0,
         (
-          ByKind.witness-reads start.pre.0 start.args.i (recordOf record-at-call.result) record-at-call.ensures _
+          ByKind.witness_reads start.pre.0 start.args.i (record_of record-at-call.result) record-at-call.ensures _
               start.pre.1.1.0 if3-there.true _ target-at-call.ensures _ c.before.before.position_at.ensures,
-          ByKind.witness-need start.pre.0 start.args.i (recordOf record-at-call.result) record-at-call.ensures _
+          ByKind.witness_need start.pre.0 start.args.i (record_of record-at-call.result) record-at-call.ensures _
               start.pre.1.1.0 if3-there.true _ target-at-call.ensures _ c.before.before.position_at.ensures,
         ),
       ),
@@ -91,7 +91,7 @@ returns-3 c =
     let target-at-call = c.before.before.before.before.before.before.before.before.target_at in
     let start = c.before.before.before.before.before.before.before.before.before.before.before.before.before.before.before.before.before.before.before.before.before.before.before.before.before.before.before.before in
     let record-at-call = c.before.before.before.before.before.before.before.before.before.before.before.before.before.before.before.record-at in
-    ByKind.witness-run start.pre.0 start.args.i (recordOf record-at-call.result) record-at-call.ensures _ start.pre.1.1.0
+    ByKind.witness_run start.pre.0 start.args.i (record_of record-at-call.result) record-at-call.ensures _ start.pre.1.1.0
     if3-found.true _ target-at-call.ensures _ c.before.before.before.before.before.before.before.position_at.ensures _
     c.before.before.before.before.write-value.ensures
 
@@ -103,12 +103,12 @@ write-bits-requires c κs =
     let start = c.before.before.before.before.before.before.before.before.before.before.before.before.before.before.before.before.before.before.before.before.before.before.before.before in
     let record-at-call = c.before.before.before.before.before.before.before.before.before.before.before.record-at in
     let if4-there = c.before.before.before.if4 in
-    let inside = ByKind.word-inside start.pre.0 start.args.i (recordOf record-at-call.result) record-at-call.ensures _
+    let inside = ByKind.word_inside start.pre.0 start.args.i (record_of record-at-call.result) record-at-call.ensures _
     start.pre.1.1.0 if4-there.true _ c.before.before.target-width.ensures in (
-      within-fed start.pre.1.0,
+      within_fed start.pre.1.0,
       (
         inside,
-        ByKind.word-need start.pre.0 start.args.i (recordOf record-at-call.result) record-at-call.ensures _
+        ByKind.word_need start.pre.0 start.args.i (record_of record-at-call.result) record-at-call.ensures _
             start.pre.1.1.0 if4-there.true _ c.before.before.target-width.ensures,
       ),
     )
@@ -125,7 +125,7 @@ returns-4 c =
     let start = c.before.before.before.before.before.before.before.before.before.before.before.before.before.before.before.before.before.before.before.before.before.before.before.before.before.before.before.before.before in
     let record-at-call =
     c.before.before.before.before.before.before.before.before.before.before.before.before.before.before.before.before.record-at in
-    ByKind.word-run start.pre.0 start.args.i (recordOf record-at-call.result) record-at-call.ensures _ start.pre.1.1.0
+    ByKind.word_run start.pre.0 start.args.i (record_of record-at-call.result) record-at-call.ensures _ start.pre.1.1.0
     if4-found.true _ c.before.before.before.before.before.before.before.target-width.ensures _
     c.before.before.before.before.write-bits.ensures
 
@@ -133,7 +133,7 @@ returns-5 : tie.Need-returns-5
 returns-5 c =
     let start = c.before.before.before.before.before.before.before.before.before.before.before.before.before.before.before.before.before.before.before.before.before in
     let record-at-call = c.before.before.before.before.before.before.before.before.record-at in
-    ByKind.fail-run start.pre.0 start.args.i (recordOf record-at-call.result) record-at-call.ensures _ start.pre.1.1.0 (
+    ByKind.fail_run start.pre.0 start.args.i (record_of record-at-call.result) record-at-call.ensures _ start.pre.1.1.0 (
       (omega (arith, (ap (λ (r : NodeRecord). r.kind) record-at-call.ensures), start.pre.1.1.1)),
       c.before.before.before.before.before.before.if1.false,
       c.before.before.before.before.if2.false,

@@ -15,10 +15,10 @@ use native.Mathlib.Omega.{arith}
 use mathlib.Core.Path.{◌≡◌, refl, sym, ap, ◌∙◌, subst}
 use mathlib.Core.List.{List, []}
 use Rattle.bit_machine.proofs.ByKind
-use Rattle.table.specs.Answers.{recordOf}
+use Rattle.table.specs.Answers.{record_of}
 use Rattle.scope.specs.Nodes.{NodeRecord}
-use Rattle.layout.specs.Safe.{read-over, write-over, fed-bits}
-use Rattle.bit_machine.proofs.Needs.{within-fed}
+use Rattle.layout.specs.Safe.{read_over, write_over, fed_bits}
+use Rattle.bit_machine.proofs.Needs.{within_fed}
 use Rattle.lookup.specs.declared.Padding.{Padding}
 
 record-at-requires : tie.Need-record-at-requires
@@ -27,7 +27,7 @@ record-at-requires c κs = search rules
 returns : tie.Need-returns
 returns c =
     let start = c.before.before.before.before.before.before.before.before.before.before.before.before.before.before.before in
-    ByKind.take-one start.requires.0 start.args.i (recordOf c.before.before.record-at.result)
+    ByKind.take_one start.requires.0 start.args.i (record_of c.before.before.record-at.result)
     c.before.before.record-at.ensures _ start.requires.1.1.0 c.if1.true
 
 source-at-requires : tie.Need-source-at-requires
@@ -40,8 +40,8 @@ forward-requires : tie.Need-forward-requires
 forward-requires c κs =
     let start = c.before.before.before.before.before.before.before.before.before.before.before.before.before.before.before.before.before.before.before.before in
     let record-at-call = c.before.before.before.before.before.before.before.record-at in
-    λ pos. read-over [] (fed-bits (within-fed start.pre.1.0))
-    (ByKind.drop-need start.pre.0 start.args.i (recordOf record-at-call.result) record-at-call.ensures _ start.pre.1.1.0
+    λ pos. read_over [] (fed_bits (within_fed start.pre.1.0))
+    (ByKind.drop_need start.pre.0 start.args.i (record_of record-at-call.result) record-at-call.ensures _ start.pre.1.1.0
     c.before.before.before.if2.true _ (rw c.before.before.source-at.ensures at c.before.left-width.ensures) pos)
 
 same_length : tie.Need-same-length
@@ -51,7 +51,7 @@ returns-2 : tie.Need-returns-2
 returns-2 c =
     let start = c.before.before.before.before.before.before.before.before.before.before.before.before.before.before.before.before.before.before.before.before.before.before.before in
     let record-at-call = c.before.before.before.before.before.before.before.before.before.before.record-at in
-    ByKind.drop-one start.pre.0 start.args.i (recordOf record-at-call.result) record-at-call.ensures _ start.pre.1.1.0
+    ByKind.drop_one start.pre.0 start.args.i (record_of record-at-call.result) record-at-call.ensures _ start.pre.1.1.0
     c.before.before.before.before.before.before.if2.true _
     (rw c.before.before.before.before.before.source-at.ensures at c.before.before.before.before.left-width.ensures) _
     (c.before.before.forward.ensures _)
@@ -66,10 +66,10 @@ write-bit-requires : tie.Need-write-bit-requires
 write-bit-requires c κs =
     let start = c.before.before.before.before.before.before.before.before.before.before.before.before.before.before.before.before.before.before.before.before.before.before.before in
     let record-at-call = c.before.before.before.before.before.before.before.before.before.before.record-at in (
-      within-fed start.pre.1.0,
+      within_fed start.pre.1.0,
       (
         omega arith,
-        ByKind.injl-need start.pre.0 start.args.i (recordOf record-at-call.result) record-at-call.ensures _
+        ByKind.injl_need start.pre.0 start.args.i (record_of record-at-call.result) record-at-call.ensures _
             start.pre.1.1.0 c.before.before.if3.true,
       ),
     )
@@ -83,8 +83,8 @@ skip-requires c κs =
     let record-at-call =
     c.before.before.before.before.before.before.before.before.before.before.before.before.before.before.before.before.record-at in
     λ pos.
-    write-over [] (fed-bits (within-fed start.pre.1.0))
-    (ByKind.injl-skip start.pre.0 start.args.i (recordOf record-at-call.result) record-at-call.ensures _ start.pre.1.1.0
+    write_over [] (fed_bits (within_fed start.pre.1.0))
+    (ByKind.injl_skip start.pre.0 start.args.i (record_of record-at-call.result) record-at-call.ensures _ start.pre.1.1.0
     if3-found.true _ (rw target-at-call.ensures at (ap (λ (p : Padding). p.left) padding-at-call.ensures)) _
     c.before.before.before.before.before.write-bit.ensures pos)
 
@@ -103,7 +103,7 @@ returns-3 c =
     let start =
     c.before.before.before.before.before.before.before.before.before.before.before.before.before.before.before.before.before.before.before.before.before.before.before.before.before.before.before.before.before.before.before.before in
     let record-at-call = c.before.before.before.before.before.before.before.before.before.before.before.before.before.before.before.before.before.before.before.record-at in
-    ByKind.injl-one start.pre.0 start.args.i (recordOf record-at-call.result) record-at-call.ensures _ start.pre.1.1.0
+    ByKind.injl_one start.pre.0 start.args.i (record_of record-at-call.result) record-at-call.ensures _ start.pre.1.1.0
     if3-found.true _ (rw target-at-call.ensures at (ap (λ (p : Padding). p.left) padding-at-call.ensures)) _
     write-bit-call.ensures _ (c.before.before.skip.ensures _)
 
@@ -112,10 +112,10 @@ write-bit-requires-2 c κs =
     let if1-found = c.before.before.before.before.before.before.before.before.if1 in
     let start = c.before.before.before.before.before.before.before.before.before.before.before.before.before.before.before.before.before.before.before.before.before.before.before in
     let record-at-call = c.before.before.before.before.before.before.before.before.before.before.record-at in (
-      within-fed start.pre.1.0,
+      within_fed start.pre.1.0,
       (
         omega arith,
-        ByKind.injr-need start.pre.0 start.args.i (recordOf record-at-call.result) record-at-call.ensures _
+        ByKind.injr_need start.pre.0 start.args.i (record_of record-at-call.result) record-at-call.ensures _
             start.pre.1.1.0 (omega (
               arith,
               (ap (λ (r : NodeRecord). r.kind) record-at-call.ensures),
@@ -139,8 +139,8 @@ skip-requires-2 c κs =
     let record-at-call =
     c.before.before.before.before.before.before.before.before.before.before.before.before.before.before.before.before.record-at in
     λ pos.
-    write-over [] (fed-bits (within-fed start.pre.1.0))
-    (ByKind.injr-skip start.pre.0 start.args.i (recordOf record-at-call.result) record-at-call.ensures _ start.pre.1.1.0 (omega (
+    write_over [] (fed_bits (within_fed start.pre.1.0))
+    (ByKind.injr_skip start.pre.0 start.args.i (record_of record-at-call.result) record-at-call.ensures _ start.pre.1.1.0 (omega (
       arith,
       (ap (λ (r : NodeRecord). r.kind) record-at-call.ensures),
       start.pre.1.1.1.0,
@@ -169,7 +169,7 @@ returns-4 c =
     let start =
     c.before.before.before.before.before.before.before.before.before.before.before.before.before.before.before.before.before.before.before.before.before.before.before.before.before.before.before.before.before.before.before.before in
     let record-at-call = c.before.before.before.before.before.before.before.before.before.before.before.before.before.before.before.before.before.before.before.record-at in
-    ByKind.injr-one start.pre.0 start.args.i (recordOf record-at-call.result) record-at-call.ensures _ start.pre.1.1.0 (omega (
+    ByKind.injr_one start.pre.0 start.args.i (record_of record-at-call.result) record-at-call.ensures _ start.pre.1.1.0 (omega (
       arith,
       (ap (λ (r : NodeRecord). r.kind) record-at-call.ensures),
       start.pre.1.1.1.0,

@@ -3,13 +3,13 @@ use borrow.Author.Rules.{rules}
 use native.Mathlib.Omega.{arith}
 use mathlib.Core.Path.{◌≡◌, refl, sym, ap, ◌∙◌}
 use Rattle.scope.specs.Machine.{backward}
-use Rattle.layout.specs.Rules.{backed-zero, backed-some}
+use Rattle.layout.specs.Rules.{backed_zero, backed_some}
 use Rattle.bit_machine.proofs.Frames.{stored}
 use Rattle.bit_machine.proofs.rules.back.Statement.{statement}
 use Rattle.bit_machine.proofs.rules.back.Tie as tie
 
 returns : tie.Need-returns
-returns c = λ b. sym (backed-zero _ _ c.if1.true)
+returns c = λ b. sym (backed_zero _ _ c.if1.true)
 
 records-requires : tie.Need-records-requires
 records-requires c κs = search rules
@@ -38,7 +38,7 @@ returns-2 c =
     λ b. rw (
       stored _ _ _ c.before.before.put_record.ensures moved,
       records,
-      backed-some _ _ c.before.before.before.before.before.before.before.before.before.before.if1.false,
+      backed_some _ _ c.before.before.before.before.before.before.before.before.before.before.if1.false,
     )
 
 pub back-spec : {M : Type 1} → statement M

@@ -2,13 +2,13 @@
 use borrow.Author.Rules.{rules}
 use native.Mathlib.Omega.{arith}
 use mathlib.Core.Path.{◌≡◌, refl, sym, ap, ◌∙◌}
-use Rattle.layout.specs.Safe.{fed-bits}
-use Rattle.layout.specs.Rules.{copied-zero, copied_some}
+use Rattle.layout.specs.Safe.{fed_bits}
+use Rattle.layout.specs.Rules.{copied_zero, copied_some}
 use Rattle.bit_machine.proofs.rules.copy.Statement.{statement}
 use Rattle.bit_machine.proofs.rules.copy.Tie as tie
 
 returns : tie.Need-returns
-returns c = sym (copied-zero _ _ c.if1.true)
+returns c = sym (copied_zero _ _ c.if1.true)
 
 sub-k : tie.Need-overflow-sub-k
 sub-k c =
@@ -37,7 +37,7 @@ advance-requires c κs =
     let start = c.before.before.before.before.before.before.before.before.before.before.before.before.before.before.before in
     let h = (start.requires.1 (omega arith)).to in
     let cursor = ap (λ f. f.cursor) c.before.before.before.before.before.record-at.ensures in
-    (c.before.before.before.before.before.record-at.ensures, omega (arith, fed-bits start.requires.0))
+    (c.before.before.before.before.before.record-at.ensures, omega (arith, fed_bits start.requires.0))
 
 same_length : tie.Need-same-length
 same_length c = search rules

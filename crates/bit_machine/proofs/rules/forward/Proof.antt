@@ -2,12 +2,12 @@
 use borrow.Author.Rules.{rules}
 use native.Mathlib.Omega.{arith}
 use mathlib.Core.Path.{◌≡◌, refl, sym, ap, ◌∙◌}
-use Rattle.layout.specs.Rules.{forwarded-zero, forwarded-some}
+use Rattle.layout.specs.Rules.{forwarded_zero, forwarded_some}
 use Rattle.bit_machine.proofs.rules.forward.Statement.{statement}
 use Rattle.bit_machine.proofs.rules.forward.Tie as tie
 
 returns : tie.Need-returns
-returns c = λ b. sym (forwarded-zero _ _ c.if1.true)
+returns c = λ b. sym (forwarded_zero _ _ c.if1.true)
 
 records-requires : tie.Need-records-requires
 records-requires c κs = search rules
@@ -32,7 +32,7 @@ same_length c = search rules
 returns-2 : tie.Need-returns-2
 returns-2 c =
     let some = c.before.before.before.before.before.before.before.before.before.if1.false in
-    λ b. rw (c.before.before.advance.ensures, c.before.before.before.before.before.before.before.records.ensures, forwarded-some _ _ some)
+    λ b. rw (c.before.before.advance.ensures, c.before.before.before.before.before.before.before.records.ensures, forwarded_some _ _ some)
 
 pub forward-spec : {M : Type 1} → statement M
 forward-spec =

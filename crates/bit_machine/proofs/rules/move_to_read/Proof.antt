@@ -4,7 +4,7 @@ use native.Mathlib.Omega.{arith}
 use mathlib.Core.Path.{◌≡◌, refl, sym, ap, ◌∙◌}
 use Rattle.scope.specs.Machine.{reset}
 use Rattle.layout.specs.Rules.{moved}
-use Rattle.layout.specs.Mach.{length-recordsOf}
+use Rattle.layout.specs.Mach.{length-records_of}
 use Rattle.bit_machine.proofs.Frames.{stored}
 use Rattle.bit_machine.proofs.rules.move_to_read.Statement.{statement}
 use Rattle.bit_machine.proofs.rules.move_to_read.Tie as tie
@@ -13,7 +13,7 @@ sub-writes : tie.Need-overflow-sub-writes
 sub-writes c = search rules
 
 add_reads : tie.Need-overflow-add-reads
-add_reads c = omega (arith, length-recordsOf c.before.before.before.args.frames.now)
+add_reads c = omega (arith, length-records_of c.before.before.before.args.frames.now)
 
 records-requires : tie.Need-records-requires
 records-requires c κs = search rules

@@ -1,5 +1,5 @@
 use Rattle.layout.specs.Rules.{pushed}
-use Rattle.layout.specs.Mach.{length-recordsOf}
+use Rattle.layout.specs.Mach.{length-records_of}
 use Rattle.bit_machine.proofs.Frames.{stored}
 use mathlib.Core.Path.{◌≡◌, refl, sym, ap, ◌∙◌}
 use native.Mathlib.Omega.{arith}
@@ -18,7 +18,7 @@ put-record-requires : tie.Need-put-record-requires
 put-record-requires c κs = search rules
 
 add-t10 : tie.Need-overflow-add-t10
-add-t10 c = omega (arith, length-recordsOf c.before.before.before.before.before.before.args.frames.now)
+add-t10 c = omega (arith, length-records_of c.before.before.before.before.before.before.args.frames.now)
 
 add-t11 : tie.Need-overflow-add-t11
 add-t11 c = search rules

@@ -2,12 +2,12 @@
 use borrow.Author.Rules.{rules}
 use native.Mathlib.Omega.{arith}
 use mathlib.Core.Path.{◌≡◌, refl, sym, ap, ◌∙◌}
-use Rattle.layout.specs.Rules.{skipped-zero, skipped-some}
+use Rattle.layout.specs.Rules.{skipped_zero, skipped_some}
 use Rattle.bit_machine.proofs.rules.skip.Statement.{statement}
 use Rattle.bit_machine.proofs.rules.skip.Tie as tie
 
 returns : tie.Need-returns
-returns c = λ b. sym (skipped-zero _ _ c.if1.true)
+returns c = λ b. sym (skipped_zero _ _ c.if1.true)
 
 sub-k : tie.Need-overflow-sub-k
 sub-k c =
@@ -27,7 +27,7 @@ same_length : tie.Need-same-length
 same_length c = search rules
 
 returns-2 : tie.Need-returns-2
-returns-2 c = λ b. rw (c.before.before.advance.ensures, skipped-some _ _ c.before.before.before.before.before.before.before.if1.false)
+returns-2 c = λ b. rw (c.before.before.advance.ensures, skipped_some _ _ c.before.before.before.before.before.before.before.if1.false)
 
 pub skip-spec : {M : Type 1} → statement M
 skip-spec =

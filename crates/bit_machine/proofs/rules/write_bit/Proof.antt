@@ -3,8 +3,8 @@ use borrow.Author.Rules.{rules}
 use native.Mathlib.Omega.{arith}
 use mathlib.Core.Path.{◌≡◌, refl, sym, ap, ◌∙◌}
 use Prim.Native.Nat.{◌%◌}
-use Rattle.layout.specs.Safe.{fed-bits}
-use Rattle.layout.specs.Rules.{bitWritten}
+use Rattle.layout.specs.Safe.{fed_bits}
+use Rattle.layout.specs.Rules.{bit_written}
 use Rattle.bit_machine.proofs.rules.write_bit.Statement.{statement}
 use Rattle.bit_machine.proofs.rules.write_bit.Tie as tie
 
@@ -21,7 +21,7 @@ advance-requires : tie.Need-advance-requires
 advance-requires c κs =
     let start = c.before.before.before.before.before.before.before.before.before.before in
     let cursor = ap (λ f. f.cursor) c.before.before.before.before.before.record-at.ensures in
-    (c.before.before.before.before.before.record-at.ensures, omega (arith, fed-bits start.requires.0, start.requires.1.1.fits))
+    (c.before.before.before.before.before.record-at.ensures, omega (arith, fed_bits start.requires.0, start.requires.1.1.fits))
 
 same_length : tie.Need-same-length
 same_length c = search rules
@@ -30,7 +30,7 @@ same-length-2 : tie.Need-same-length-2
 same-length-2 c = search rules
 
 returns : tie.Need-returns
-unfolding bitWritten
+unfolding bit_written
 returns c =
     let start = c.before.before.before.before.before.before.before.before.before.before.before.before.before in
     let e : start.args.bit % 2 ≡ start.args.bit = omega (arith, start.requires.1.0) in

@@ -3,8 +3,8 @@ use borrow.Author.Rules.{rules}
 use native.Mathlib.Omega.{arith}
 use mathlib.Core.Path.{◌≡◌, refl, sym, ap, ◌∙◌}
 use Rattle.report.specs.Bits.{bits_of}
-use Rattle.layout.specs.Safe.{fed-bits}
-use Rattle.bit_machine.proofs.Bits.{none_written, some_written, put-within}
+use Rattle.layout.specs.Safe.{fed_bits}
+use Rattle.bit_machine.proofs.Bits.{none_written, some_written, put_within}
 use Rattle.bit_machine.proofs.rules.write_bits.Statement.{statement}
 use Rattle.bit_machine.proofs.rules.write_bits.Tie as tie
 
@@ -29,7 +29,7 @@ advance-requires c κs =
     let start = c.before.before.before.before.before.before.before.before.before.before.before.before in
     let h = start.requires.1.1 (omega arith) in
     let cursor = ap (λ f. f.cursor) c.before.before.before.before.before.record-at.ensures in
-    (c.before.before.before.before.before.record-at.ensures, omega (arith, fed-bits start.requires.0))
+    (c.before.before.before.before.before.record-at.ensures, omega (arith, fed_bits start.requires.0))
 
 same_length : tie.Need-same-length
 same_length c = search rules
@@ -40,7 +40,7 @@ same-length-2 c = search rules
 returns-2 : tie.Need-returns-2
 returns-2 c =
     let fits = c.before.before.before.before.before.before.before.before.before.before.before.before.before.before.before.requires.1.0 in
-    let put = c.before.before.before.before.before.before.put-bits.ensures ∙ put-within _ _ _ _ _ fits in
+    let put = c.before.before.before.before.before.before.put-bits.ensures ∙ put_within _ _ _ _ _ fits in
     let cursor = ap (λ f. f.cursor) c.before.before.before.before.before.before.before.before.record-at.ensures in
     rw (c.before.before.advance.ensures, put, cursor)
     (sym (some_written _ _ _ _ fits c.before.before.before.before.before.before.before.before.before.before.before.if1.false))

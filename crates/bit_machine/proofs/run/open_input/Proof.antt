@@ -1,7 +1,7 @@
-use Rattle.bit_machine.proofs.Whole.{no-input, open-push, open-write, open-move, opened-is}
-use Rattle.bit_machine.proofs.Needs.{within-fed, within-kept}
-use Rattle.layout.specs.Safe.{push-over, move-over, fed-bits}
-use Rattle.bit_machine.proofs.Written.{value-long}
+use Rattle.bit_machine.proofs.Whole.{no_input, open_push, open_write, open_move, opened_is}
+use Rattle.bit_machine.proofs.Needs.{within_fed, within_kept}
+use Rattle.layout.specs.Safe.{push_over, move_over, fed_bits}
+use Rattle.bit_machine.proofs.Written.{value_long}
 use native.Mathlib.Omega.{arith}
 use mathlib.Core.List.{List, []}
 use mathlib.Core.Path.{◌≡◌, refl, sym, ap, ◌∙◌, subst}
@@ -19,12 +19,12 @@ width-at-requires : tie.Need-width-at-requires
 width-at-requires c κs = search rules
 
 returns : tie.Need-returns
-returns c = no-input _ _ _ (sym c.before.width-at.ensures ∙ c.if1.true)
+returns c = no_input _ _ _ (sym c.before.width-at.ensures ∙ c.if1.true)
 
 new-write-frame-requires : tie.Need-new-write-frame-requires
 new-write-frame-requires c κs =
     let start = c.before.before.before.before.before.before.before.before.before in
-    push-over [] (fed-bits (within-fed start.requires.1.0)) (open-push _ _ c.before.before.width-at.ensures c.before.if1.false start.requires.1.1.1)
+    push_over [] (fed_bits (within_fed start.requires.1.0)) (open_push _ _ c.before.before.width-at.ensures c.before.if1.false start.requires.1.1.1)
 
 write-value-requires : tie.Need-write-value-requires
 write-value-requires c κs =
@@ -32,12 +32,12 @@ write-value-requires c κs =
     let new-write-frame-call = c.before.before.before.before.new-write-frame in (
       start.requires.0,
       (
-        within-kept start.requires.1.0 refl new-write-frame-call.auto.0,
+        within_kept start.requires.1.0 refl new-write-frame-call.auto.0,
         (
           start.requires.1.1.0,
-          open-write _ _ c.before.before.before.before.before.before.before.width-at.ensures
+          open_write _ _ c.before.before.before.before.before.before.before.width-at.ensures
               c.before.before.before.before.before.before.if1.false start.requires.1.1.1
-              (value-long start.requires.0 start.args.k _ 0 start.requires.1.1.0 _ refl) _ (new-write-frame-call.ensures _),
+              (value_long start.requires.0 start.args.k _ 0 start.requires.1.1.0 _ refl) _ (new-write-frame-call.ensures _),
         ),
       ),
     )
@@ -48,8 +48,8 @@ move-to-read-requires c κs =
     let width-at-call = c.before.before.before.before.before.before.before.before.before.before.before.before.before.width-at in
     let if1-found = c.before.before.before.before.before.before.before.before.before.before.before.before.if1 in
     let new-write-frame-call = c.before.before.before.before.before.before.before.before.before.before.new-write-frame in
-    move-over []
-    (open-move _ _ width-at-call.ensures if1-found.false start.pre.1.1.1 _ _ (new-write-frame-call.ensures _)
+    move_over []
+    (open_move _ _ width-at-call.ensures if1-found.false start.pre.1.1.1 _ _ (new-write-frame-call.ensures _)
     c.before.before.before.before.before.write-value.ensures)
 
 same_length : tie.Need-same-length
@@ -65,7 +65,7 @@ returns-2 c =
     let if1-found = c.before.before.before.before.before.before.before.before.before.before.before.before.before.before.before.if1 in
     let new-write-frame-call = c.before.before.before.before.before.before.before.before.before.before.before.before.before.new-write-frame in
     let write-value-call = c.before.before.before.before.before.before.before.before.write-value in
-    opened-is _ _ width-at-call.ensures if1-found.false _ _ _ (new-write-frame-call.ensures _) write-value-call.ensures
+    opened_is _ _ width-at-call.ensures if1-found.false _ _ _ (new-write-frame-call.ensures _) write-value-call.ensures
     (c.before.before.move-to-read.ensures _)
 
 pub open-input-spec : {M : Type 1} → statement M

@@ -1,4 +1,4 @@
-use Rattle.bit_machine.proofs.Whole.{no_output, some-output}
+use Rattle.bit_machine.proofs.Whole.{no_output, some_output}
 use native.Mathlib.Omega.{arith}
 use mathlib.Core.Path.{◌≡◌, refl, sym, ap, ◌∙◌}
 use borrow.Author.Rules.{rules}
@@ -18,7 +18,7 @@ same_length : tie.Need-same-length
 same_length c = search rules
 
 returns-2 : tie.Need-returns-2
-returns-2 c = λ b. c.before.before.new-write-frame.ensures b ∙ some-output _ _ c.before.before.before.before.if1.false
+returns-2 c = λ b. c.before.before.new-write-frame.ensures b ∙ some_output _ _ c.before.before.before.before.if1.false
 
 pub open-output-spec : {M : Type 1} → statement M
 open-output-spec = tie.close (tie.spec returns new-write-frame-requires same_length returns-2)

@@ -1,11 +1,11 @@
 use Rattle.bit_machine.proofs.Whole as Whole
-use Rattle.bit_machine.proofs.Cycle.{safe-as}
-use Rattle.bit_machine.proofs.Needs.{within-fed, within-kept, push-need}
-use Rattle.layout.specs.Safe.{PushOk, InputOk, fed-bits}
-use Rattle.layout.specs.Exec.{withInput, withOutput}
+use Rattle.bit_machine.proofs.Cycle.{safe_as}
+use Rattle.bit_machine.proofs.Needs.{within_fed, within_kept, push_need}
+use Rattle.layout.specs.Safe.{PushOk, InputOk, fed_bits}
+use Rattle.layout.specs.Exec.{with_input, with_output}
 use Rattle.layout.specs.Mach.{Mach}
 use Rattle.scope.specs.Numbers.{zeros}
-use Rattle.common.specs.Stores.{all-cleared}
+use Rattle.common.specs.Stores.{all_cleared}
 use native.Mathlib.Omega.{arith}
 use lib.ListN.{length}
 use Prim.Native.Nat.{ℕ, ◌^◌, ◌<◌}
@@ -35,12 +35,12 @@ open-input-requires c κs =
     let clear-call = c.before.before.before.before.before.clear-numbers in (
       start.pre.0.typed,
       (
-        within-kept start.pre.1.0 refl clear-call.auto.0,
+        within_kept start.pre.1.0 refl clear-call.auto.0,
         (
-          Whole.input-reads start.pre.0 start.args.i _ _ _ c.before.before.source-at.ensures start.pre.1.1,
-          λ some. Whole.input-as
-              (Whole.none_open _ _ (length start.args.frames.now) (clear-call.ensures ∙ all-cleared start.args.frames.now))
-              (Whole.input-need start.pre.0 start.args.i _ _ _ c.before.before.source-at.ensures start.pre.1.1 some),
+          Whole.input_reads start.pre.0 start.args.i _ _ _ c.before.before.source-at.ensures start.pre.1.1,
+          λ some. Whole.input_as
+              (Whole.none_open _ _ (length start.args.frames.now) (clear-call.ensures ∙ all_cleared start.args.frames.now))
+              (Whole.input_need start.pre.0 start.args.i _ _ _ c.before.before.source-at.ensures start.pre.1.1 some),
         ),
       ),
     )
@@ -53,12 +53,12 @@ open-output-requires c κs =
     let clear-numbers-call = c.before.before.before.before.before.before.before.before.before.before.before.before.clear-numbers in
     let source-at-call = c.before.before.before.before.before.before.before.before.before.source-at in
     let start = c.before.before.before.before.before.before.before.before.before.before.before.before.before.before.before.before.before.before.before.before.before.before.before.before.before.before.before in
-    λ some. push-need
-    (Whole.input-is start.pre.0 start.args.i _ _ _ source-at-call.ensures _
-    (c.before.before.before.before.before.before.open-input.ensures ∙ ap (withInput _ _)
-    (Whole.none_open _ _ (length start.args.frames.now) (clear-numbers-call.ensures ∙ all-cleared start.args.frames.now))))
-    (fed-bits (within-fed start.pre.1.0))
-    (Whole.output-need start.pre.0 start.args.i _ _ _ c.before.target-width.ensures start.pre.1.1 some)
+    λ some. push_need
+    (Whole.input_is start.pre.0 start.args.i _ _ _ source-at-call.ensures _
+    (c.before.before.before.before.before.before.open-input.ensures ∙ ap (with_input _ _)
+    (Whole.none_open _ _ (length start.args.frames.now) (clear-numbers-call.ensures ∙ all_cleared start.args.frames.now))))
+    (fed_bits (within_fed start.pre.1.0))
+    (Whole.output_need start.pre.0 start.args.i _ _ _ c.before.target-width.ensures start.pre.1.1 some)
 
 node-requires : tie.Need-node-requires
 node-requires c κs =
@@ -70,13 +70,13 @@ node-requires c κs =
     let open-output-call = c.before.before.before.before.open-output in (
       start.pre.0,
       (
-        within-kept start.pre.1.0 open-input-call.auto.1.1.1.1.1.0
+        within_kept start.pre.1.0 open-input-call.auto.1.1.1.1.1.0
             (open-output-call.auto.0 ∙ open-input-call.auto.1.1.1.1.1.1.0 ∙ clear-call.kept.0),
-        safe-as _
-            (Whole.output-is start.pre.0 start.args.i _ _ _ c.before.before.before.before.before.before.target-width.ensures _
-            (open-output-call.ensures _ ∙ ap (withOutput _)
-            (Whole.input-is start.pre.0 start.args.i _ _ _ source-at-call.ensures _ (open-input-call.ensures ∙ ap (withInput _ _)
-            (Whole.none_open _ _ (length start.args.frames.now) (clear-call.ensures ∙ all-cleared start.args.frames.now))))))
+        safe_as _
+            (Whole.output_is start.pre.0 start.args.i _ _ _ c.before.before.before.before.before.before.target-width.ensures _
+            (open-output-call.ensures _ ∙ ap (with_output _)
+            (Whole.input_is start.pre.0 start.args.i _ _ _ source-at-call.ensures _ (open-input-call.ensures ∙ ap (with_input _ _)
+            (Whole.none_open _ _ (length start.args.frames.now) (clear-call.ensures ∙ all_cleared start.args.frames.now))))))
             start.pre.1.1.safe.term,
       ),
     )
@@ -109,13 +109,13 @@ returns c =
     let open-input-call = c.before.before.before.before.before.before.before.before.before.before.before.before.before.before.before.before.before.before.before.before.open-input in
     let open-output-call = c.before.before.before.before.before.before.before.before.before.before.before.before.before.open-output in
     let Node-call = c.before.before.before.before.before.before.before.before.node in (
-      Whole.whole-end start.pre.0 start.args.i _ _ Node-call.result _ _ _
-          (Whole.output-is start.pre.0 start.args.i _ _ _ target-width-call.ensures _ (open-output-call.ensures _ ∙ ap (withOutput _)
-          (Whole.input-is start.pre.0 start.args.i _ _ _ source-at-call.ensures _ (open-input-call.ensures ∙ ap (withInput _ _)
-          (Whole.none_open _ _ (length start.args.frames.now) (clear-call.ensures ∙ all-cleared start.args.frames.now))))))
+      Whole.whole_end start.pre.0 start.args.i _ _ Node-call.result _ _ _
+          (Whole.output_is start.pre.0 start.args.i _ _ _ target-width-call.ensures _ (open-output-call.ensures _ ∙ ap (with_output _)
+          (Whole.input_is start.pre.0 start.args.i _ _ _ source-at-call.ensures _ (open-input-call.ensures ∙ ap (with_input _ _)
+          (Whole.none_open _ _ (length start.args.frames.now) (clear-call.ensures ∙ all_cleared start.args.frames.now))))))
           Node-call.ensures,
       c.before.before.clear-numbers2.ensures
-          ∙ all-cleared Node-call.new.1.1.1.1.1.1.1.1.1.1.1.0
+          ∙ all_cleared Node-call.new.1.1.1.1.1.1.1.1.1.1.1.0
           ∙ ap zeros
           (Node-call.auto.1.1.1.1.1.1.1.1.1.1.1.0 ∙ open-output-call.auto.0 ∙ open-input-call.kept.1.1.1.1.1.1.0
           ∙ clear-call.kept.0),

@@ -1,9 +1,9 @@
-use Rattle.bit_machine.proofs.Ends.{nodes-many, last-is, source-size, target_is, target-size, cells-inside, frames-inside, part-within, output-fits, node_ok, ends-done, ends-stopped}
+use Rattle.bit_machine.proofs.Ends.{nodes_many, last_is, source_size, target_is, target_size, cells_inside, frames_inside, part_within, output_fits, node_ok, ends_done, ends_stopped}
 use lib.Seq.{length-take-le, length_front}
 use native.Mathlib.Omega.{arith}
 use Prim.Native.Nat.{ℕ, ◌*◌}
 use mathlib.Core.Path.{◌≡◌, refl, sym, ap, ◌∙◌, subst}
-use Rattle.limits.specs.Limits.{frameNumbers}
+use Rattle.limits.specs.Limits.{frame_numbers}
 use borrow.Author.Rules.{rules}
 use Rattle.bit_machine.proofs.run.run_ready.Statement.{statement}
 use Rattle.bit_machine.proofs.run.run_ready.Tie as tie
@@ -18,8 +18,8 @@ use Rattle.lookup.proofs.source_width.Reads as source-width-reads
 use Rattle.lookup.proofs.target_at.Reads as target-at-reads
 
 -- as many records, as many numbers
-records-sized : {a b : ℕ} → a ≡ b → frameNumbers * a ≡ frameNumbers * b
-records-sized e = ap (λ (n : ℕ). frameNumbers * n) e
+records-sized : {a b : ℕ} → a ≡ b → frame_numbers * a ≡ frame_numbers * b
+records-sized e = ap (λ (n : ℕ). frame_numbers * n) e
 
 sub-last : tie.Need-overflow-sub-last
 sub-last c =
@@ -27,7 +27,7 @@ sub-last c =
     omega (
       arith,
       start.requires.1.some,
-      nodes-many start.args.types.now start.args.nodes.now start.args.arrows.now start.args.program.now
+      nodes_many start.args.types.now start.args.nodes.now start.args.arrows.now start.args.program.now
           start.args.hashes.now start.args.given.now start.args.witness.now start.args.positions.now,
     )
 
@@ -37,7 +37,7 @@ cast-last c =
     omega (
       arith,
       start.requires.1.few,
-      nodes-many start.args.types.now start.args.nodes.now start.args.arrows.now start.args.program.now
+      nodes_many start.args.types.now start.args.nodes.now start.args.arrows.now start.args.program.now
           start.args.hashes.now start.args.given.now start.args.witness.now start.args.positions.now,
     )
 
@@ -56,7 +56,7 @@ slice-relend-prefix-run-node c = search rules
 slice-aggregate-run-node : tie.Need-slice-aggregate-run-node
 slice-aggregate-run-node c =
     let start = c.before.before.before.before.before.before.before.before.before.before.before.before.before.before.before.before.before in
-    sym (length-take-le _ _ (cells-inside start.requires.1 _ c.before.before.bytes-for.ensures.0 _ (records-sized c.before.place.ensures.0)))
+    sym (length-take-le _ _ (cells_inside start.requires.1 _ c.before.before.bytes-for.ensures.0 _ (records-sized c.before.place.ensures.0)))
 
 slice-relend-prefix-run-node-2 : tie.Need-slice-relend-prefix-run-node-2
 slice-relend-prefix-run-node-2 c = search rules
@@ -65,7 +65,7 @@ slice-aggregate-run-node-2 : tie.Need-slice-aggregate-run-node-2
 slice-aggregate-run-node-2 c =
     let start =
     c.before.before.before.before.before.before.before.before.before.before.before.before.before.before.before.before.before.before in
-    sym (length-take-le _ _ (frames-inside start.pre.1 _ c.before.before.before.bytes-for.ensures.0 _
+    sym (length-take-le _ _ (frames_inside start.pre.1 _ c.before.before.before.bytes-for.ensures.0 _
     (records-sized c.before.before.place.ensures.0)))
 
 run-node-requires : tie.Need-run-node-requires
@@ -75,9 +75,9 @@ run-node-requires c κs =
     let bytes-for-there = c.before.before.before.bytes-for in (
       start.pre.0,
       (
-        part-within start.pre.1 _ bytes-for-there.ensures.0 _ (records-sized c.before.before.place.ensures.0),
+        part_within start.pre.1 _ bytes-for-there.ensures.0 _ (records-sized c.before.before.place.ensures.0),
         node_ok start.pre.1 _ bytes-for-there.ensures.0 _ (records-sized c.before.before.place.ensures.0) _
-            (last-is start.args.types.now start.args.nodes.now start.args.arrows.now start.args.program.now
+            (last_is start.args.types.now start.args.nodes.now start.args.arrows.now start.args.program.now
             start.args.hashes.now start.args.given.now start.args.witness.now start.args.positions.now),
       ),
     )
@@ -97,11 +97,11 @@ write-output-requires c κs =
     let start = c.before.before.before.before.before.before.before.before.before.before.before.before.before.before.before.before.before.before.before.before.before.before.before.before.before.before.before.before.before in
     let bytes-for-there = c.before.before.before.before.before.before.before.before.before.before.before.before.before.before.bytes-for in
     let run-node-call = c.before.before.before.before.before.before.before.before.before.before.run-node in
-    let f = output-fits start.pre.1 _ bytes-for-there.ensures.0 _ (records-sized place-call.ensures.0) _ _
-    (source-size start.pre.0 _
-    (last-is start.args.types.now start.args.nodes.now start.args.arrows.now start.args.program.now
+    let f = output_fits start.pre.1 _ bytes-for-there.ensures.0 _ (records-sized place-call.ensures.0) _ _
+    (source_size start.pre.0 _
+    (last_is start.args.types.now start.args.nodes.now start.args.arrows.now start.args.program.now
     start.args.hashes.now start.args.given.now start.args.witness.now start.args.positions.now) _
-    c.before.before.source-width.ensures) (target-size start.pre.0 _ (last-is start.args.types.now
+    c.before.before.source-width.ensures) (target_size start.pre.0 _ (last_is start.args.types.now
     start.args.nodes.now start.args.arrows.now start.args.program.now start.args.hashes.now start.args.given.now
     start.args.witness.now start.args.positions.now) _ c.before.before.before.target_at.ensures) _
     (length_front start.args.cells.now run-node-call.new.1.1.1.1.1.1.1.1.1.1.1.0 bytes-for-there.result
@@ -132,16 +132,16 @@ returns c =
     let start =
     c.before.before.before.before.before.before.before.before.before.before.before.before.before.before.before.before.before.before.before.before.before.before.before.before.before.before.before.before.before.before.before.before in
     let run-node-call = c.before.before.before.before.before.before.before.before.before.before.before.before.before.run-node in
-    ends-done start.pre.1 _ bytes-for-call.ensures.0 _ (records-sized place-call.ensures.0) _
-    (last-is start.args.types.now start.args.nodes.now start.args.arrows.now start.args.program.now
+    ends_done start.pre.1 _ bytes-for-call.ensures.0 _ (records-sized place-call.ensures.0) _
+    (last_is start.args.types.now start.args.nodes.now start.args.arrows.now start.args.program.now
     start.args.hashes.now start.args.given.now start.args.witness.now start.args.positions.now) _ _ refl
     (λ j. omega (arith, slice-known4-found.given j)) _ run-node-call.ensures.1 run-node-call.result _
     c.before.before.before.before.before.before.before.enum_told.given.1 run-node-call.ensures.0
-    _ _ (target_is start.pre.0 _ (last-is start.args.types.now start.args.nodes.now start.args.arrows.now
+    _ _ (target_is start.pre.0 _ (last_is start.args.types.now start.args.nodes.now start.args.arrows.now
     start.args.program.now start.args.hashes.now start.args.given.now start.args.witness.now
     start.args.positions.now) _ c.before.before.before.before.before.before.target_at.ensures)
-    (source-size start.pre.0 _
-    (last-is start.args.types.now start.args.nodes.now start.args.arrows.now start.args.program.now
+    (source_size start.pre.0 _
+    (last_is start.args.types.now start.args.nodes.now start.args.arrows.now start.args.program.now
     start.args.hashes.now start.args.given.now start.args.witness.now start.args.positions.now) _
     c.before.before.before.before.before.source-width.ensures) _ _ c.before.before.write-output.ensures.0
     c.before.before.write-output.ensures.1
@@ -158,8 +158,8 @@ returns-2 c =
     let place-call = c.before.before.before.before.before.before.before.before.before.before.before.place in
     let start = c.before.before.before.before.before.before.before.before.before.before.before.before.before.before.before.before.before.before.before.before.before.before.before.before.before.before.before in
     let run-node-call = c.before.before.before.before.before.before.before.before.run-node in
-    ends-stopped start.pre.1 _ bytes-for-call.ensures.0 _ (records-sized place-call.ensures.0) _
-    (last-is start.args.types.now start.args.nodes.now start.args.arrows.now start.args.program.now
+    ends_stopped start.pre.1 _ bytes-for-call.ensures.0 _ (records-sized place-call.ensures.0) _
+    (last_is start.args.types.now start.args.nodes.now start.args.arrows.now start.args.program.now
     start.args.hashes.now start.args.given.now start.args.witness.now start.args.positions.now) _ _ refl
     (λ j. omega (arith, c.before.before.before.before.before.before.slice-known4.given j)) _ run-node-call.ensures.1
     run-node-call.result _ _ c.before.before.ran.given.1 run-node-call.ensures.0 _ c.refusal-of.ensures

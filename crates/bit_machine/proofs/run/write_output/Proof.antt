@@ -1,5 +1,5 @@
-use Rattle.bit_machine.proofs.Output.{output-short, output-not-short, output-count, output-written}
-use Rattle.scope.specs.Numbers.{bytesFor}
+use Rattle.bit_machine.proofs.Output.{output_short, output_not_short, output_count, output-written}
+use Rattle.scope.specs.Numbers.{bytes_for}
 use native.Mathlib.Omega.{arith}
 use Prim.Native.Nat.{ℕ, ◌*◌, ◌-◌}
 use mathlib.Core.Path.{◌≡◌, refl, sym, ap, ◌∙◌, subst}
@@ -28,7 +28,7 @@ returns : tie.Need-returns
 returns c =
     let start = c.before.before.before.before.before.before.before.before.before.before.before in
     let unpad-call = c.before.before.before.before.unpad in
-    output-not-short start.requires.0 start.args.k start.args.cells.now start.args.at start.args.answer.now
+    output_not_short start.requires.0 start.args.k start.args.cells.now start.args.at start.args.answer.now
     start.requires.1.0.0 start.requires.1.0.1 start.requires.1.1 unpad-call.result _ unpad-call.ensures c.enum_told.given.1
 
 bytes-for-requires : tie.Need-bytes-for-requires
@@ -41,10 +41,10 @@ mul-filled : tie.Need-overflow-mul-filled
 mul-filled c =
     let start = c.before.before.before.before.before.before.before.before.before.before.before.before.before in
     let unpad-call = c.before.before.before.before.before.before.unpad in
-    let n = output-count start.requires.0 start.args.k start.args.cells.now start.args.at start.args.answer.now
+    let n = output_count start.requires.0 start.args.k start.args.cells.now start.args.at start.args.answer.now
     start.requires.1.0.0 start.requires.1.0.1 start.requires.1.1 unpad-call.result _ unpad-call.ensures _
     c.before.before.n.given.1 in
-    let few = output-short start.requires.0 start.args.k start.args.cells.now start.args.at start.args.answer.now
+    let few = output_short start.requires.0 start.args.k start.args.cells.now start.args.at start.args.answer.now
     start.requires.1.0.0 start.requires.1.0.1 start.requires.1.1 in
     omega (arith, c.bytes-for.ensures, start.requires.1.0.1)
 
@@ -63,7 +63,7 @@ returns-2 c =
     let start = c.before.before.before.before.before.before.before.before.before.before.before.before.before.before.before.before.before in
     let unpad-call = c.before.before.before.before.before.before.before.before.before.before.unpad in
     let n-there = c.before.before.before.before.before.before.n in (
-      output-count start.requires.0 start.args.k start.args.cells.now start.args.at start.args.answer.now
+      output_count start.requires.0 start.args.k start.args.cells.now start.args.at start.args.answer.now
           start.requires.1.0.0 start.requires.1.0.1 start.requires.1.1 unpad-call.result _ unpad-call.ensures _ n-there.given.1,
       output-written start.requires.0 start.args.k start.args.cells.now start.args.at start.args.answer.now
           start.requires.1.0.0 start.requires.1.0.1 start.requires.1.1 unpad-call.result _ unpad-call.ensures _

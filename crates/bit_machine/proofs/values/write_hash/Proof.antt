@@ -5,17 +5,17 @@ use Rattle.bit_machine.proofs.values.write_hash.Reads as reads
 use Rattle.bit_machine.proofs.values.write_hash.Lts as lts
 use Rattle.bit_machine.proofs.rules.write_bits.Reads as write-bits-reads
 use Rattle.common.proofs.place.Reads as place-reads
-use Rattle.hashes.proofs.Branch.{branch-holds}
+use Rattle.hashes.proofs.Branch.{branch_holds}
 use Rattle.hashes.proofs.branch_hash.Reads as branch-hash-reads
 use native.Mathlib.Omega.{arith}
 use mathlib.Core.Path.{◌≡◌, refl, sym, ap, ◌∙◌, subst}
 use mathlib.Core.List.{List, []}
 use Prim.Native.Nat.{ℕ}
 use lib.ListN.{length}
-use Rattle.common.specs.Bits.{length-bits}
-use Rattle.layout.specs.Rules.{bitsWritten}
-use Rattle.scope.specs.Hashes.{branchHash}
-use Rattle.bit_machine.proofs.Written.{hash-short, hash-count, hash-bits, written_as}
+use Rattle.common.specs.Bits.{length_bits}
+use Rattle.layout.specs.Rules.{bits_written}
+use Rattle.scope.specs.Hashes.{branch_hash}
+use Rattle.bit_machine.proofs.Written.{hash_short, hash_count, hash_bits, written_as}
 
 place-requires : tie.Need-place-requires
 place-requires c κs = search rules
@@ -25,24 +25,24 @@ branch-hash-requires c κs = search rules
 
 cast-n : tie.Need-overflow-cast-n
 cast-n c =
-    let short = hash-short c.branch-hash.result.now _ _ _
-    (branch-holds _ _ _ _ _ c.branch-hash.ensures ∙ ap (branchHash _ _) c.before.place.ensures.0) in
+    let short = hash_short c.branch-hash.result.now _ _ _
+    (branch_holds _ _ _ _ _ c.branch-hash.ensures ∙ ap (branch_hash _ _) c.before.place.ensures.0) in
     omega arith
 
 mul-n : tie.Need-overflow-mul-n
 mul-n c =
-    let short = hash-short c.branch-hash.result.now _ _ _
-    (branch-holds _ _ _ _ _ c.branch-hash.ensures ∙ ap (branchHash _ _) c.before.place.ensures.0) in
+    let short = hash_short c.branch-hash.result.now _ _ _
+    (branch_holds _ _ _ _ _ c.branch-hash.ensures ∙ ap (branch_hash _ _) c.before.place.ensures.0) in
     omega arith
 
 write-bits-requires : tie.Need-write-bits-requires
 write-bits-requires c κs =
     let start = c.before.before.before.before.before.before.before.before.before in
     let place-there = c.before.before.before.place in
-    let e = hash-count (branch-holds _ _ _ _ _ c.before.before.branch-hash.ensures ∙ ap (branchHash _ _) place-there.ensures.0) in (
+    let e = hash_count (branch_holds _ _ _ _ _ c.before.before.branch-hash.ensures ∙ ap (branch_hash _ _) place-there.ensures.0) in (
       start.requires.0,
       (
-        omega (arith, length-bits c.before.before.branch-hash.result.now),
+        omega (arith, length_bits c.before.before.branch-hash.result.now),
         λ pos. rw e (start.requires.1 (rw e at pos)),
       ),
     )
@@ -58,7 +58,7 @@ returns c =
     let found = c.before.before.before.before.before.before.before.branch-hash in
     let there = c.before.before.before.before.before.before.before.before.place in
     c.before.before.before.before.write-bits.ensures
-    ∙ written_as _ (hash-bits (branch-holds _ _ _ _ _ found.ensures ∙ ap (branchHash _ _) there.ensures.0))
+    ∙ written_as _ (hash_bits (branch_holds _ _ _ _ _ found.ensures ∙ ap (branch_hash _ _) there.ensures.0))
 
 pub write-hash-spec : {M : Type 1} → statement M
 write-hash-spec =

@@ -11,10 +11,10 @@ use Rattle.value.proofs.pad.Reads as pad-reads
 use native.Mathlib.Omega.{arith}
 use mathlib.Core.Path.{◌≡◌, refl, sym, ap, ◌∙◌, subst}
 use mathlib.Core.List.{List, []}
-use Rattle.common.specs.Bits.{length-bits}
-use Rattle.layout.specs.Safe.{write-over, fed-bits}
-use Rattle.scope.specs.Numbers.{streamOf}
-use Rattle.bit_machine.proofs.Needs.{within-fed}
+use Rattle.common.specs.Bits.{length_bits}
+use Rattle.layout.specs.Safe.{write_over, fed_bits}
+use Rattle.scope.specs.Numbers.{stream_of}
+use Rattle.bit_machine.proofs.Needs.{within_fed}
 use Rattle.bit_machine.proofs.Written.{value_none, value_written}
 
 width-at-requires : tie.Need-width-at-requires
@@ -23,7 +23,7 @@ width-at-requires c κs = search rules
 returns : tie.Need-returns
 returns c =
     let start = c.before.before.before.before.before.before.before.before in
-    value_none start.requires.0 start.args.k (streamOf start.args.source.now) start.args.p start.requires.1.1.0
+    value_none start.requires.0 start.args.k (stream_of start.args.source.now) start.args.p start.requires.1.1.0
     c.before.width-at.result c.before.width-at.ensures c.if1.true _
 
 write-cursor-requires : tie.Need-write-cursor-requires
@@ -43,7 +43,7 @@ skip-requires c κs =
     let start = c.before.before.before.before.before.before.before.before.before.before.before.before.before.before.before.before in
     λ pos.
     let e = c.before.before.before.before.before.before.before.before.before.width-at.ensures in
-    rw e (write-over [] (fed-bits (within-fed start.requires.1.0)) (start.requires.1.1.1 (rw e at pos)))
+    rw e (write_over [] (fed_bits (within_fed start.requires.1.0)) (start.requires.1.1.1 (rw e at pos)))
 
 same_length : tie.Need-same-length
 same_length c = search rules
@@ -61,10 +61,10 @@ returns-2 c =
     let pad-call = c.before.before.before.before.before.before.pad in
     let e = width-at-call.ensures in
     c.before.before.skip.ensures _
-    ∙ value_written start.pre.0 start.args.k (streamOf start.args.source.now) start.args.p start.pre.1.1.0
+    ∙ value_written start.pre.0 start.args.k (stream_of start.args.source.now) start.args.p start.pre.1.1.0
     width-at-call.result width-at-call.ensures _ _ _ _ _ if1-there.false
     (rw e (start.pre.1.1.1 (omega (arith, if1-there.false))))
-    (let z = start.pre.1.0.cells in omega (arith, length-bits start.args.cells.now))
+    (let z = start.pre.1.0.cells in omega (arith, length_bits start.args.cells.now))
     write-cursor-call.result write-cursor-call.ensures pad-call.result _
     (rw (sym place-call.ensures.0) pad-call.ensures)
 
