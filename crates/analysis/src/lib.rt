@@ -1,5 +1,7 @@
 // The bounds of a run (14), after analysis.rs: extra cells, extra frames and cost of every node by the requirements' table, in one pass upwards.
 // A number over its limit is held at the limit plus one: such a program is refused, so no answer shows the number itself.
+#![tactic(auto)]
+
 ghost use Rattle.std.specs.Prelude.{◌≡◌, List, ℕ, ◌+◌, ◌-◌, ◌^◌, ◌<◌, ◌≤◌, min, max, length};
 ghost use Rattle.limits.specs.Limits.{node_count, cost_limit, node_cost};
 ghost use Rattle.report.specs.Types.{width, word_ty};

@@ -1,6 +1,8 @@
 // Arrows, after types/arrow.rs, but checked and not inferred: a disconnect with one child is refused (11), then a count of arrows other than
 // that of the nodes, then the first node that an earlier one is equal to (9) or whose arrow is not the report's (12). Types are compared by
 // their indices in a checked table.
+#![tactic(auto)]
+
 ghost use Rattle.std.specs.Prelude.{◌≡◌, List, [], ◌∷◌, ℕ, ◌+◌, ◌-◌, ◌<◌, ◌≤◌, eqb, length, get_or};
 ghost use Rattle.limits.specs.Limits.{node_count};
 ghost use Rattle.refusal.specs.declared.Refusal.TheVariants.{OneChildDisconnect, Arrow as BadArrow};

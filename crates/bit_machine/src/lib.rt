@@ -1,6 +1,8 @@
 // The Bit Machine over lent stores: cells packed in bytes, frames in records of numbers.
 // `rules` moves bits and frames, `values` writes values and hashes, `engine` runs a node with all below it,
 // and `run` a whole program. `run_stage` makes every check of a run first: a refusal leaves the stores as they were.
+#![tactic(auto)]
+
 mod engine;
 mod rules;
 mod run;

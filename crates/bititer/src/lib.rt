@@ -2,6 +2,8 @@
 // reader takes the position by value and answers with the next one; a natural's answers with the bits that it took. The bits of a slice are
 // `stream_of` of the requirements: from the top bit of each byte on, and none at all above the dossier's limit, so that no position wraps.
 // Most naturals are read from a window, the 25 bits that any four bytes hold from a position on.
+#![tactic(auto)]
+
 ghost use Rattle.std.specs.Prelude.{◌≡◌, List, ℕ, ◌+◌, ◌*◌, ◌<◌, ◌≤◌, leb, length, take, drop};
 ghost use Rattle.limits.specs.Limits.{natural_length, hash_bytes, fail_bytes};
 ghost use Rattle.report.specs.Bits.{Bit, bits_of, number_from};

@@ -1,6 +1,8 @@
 // Replays reads that the original made, and prints for each kind of read how many were made and how many came out otherwise.
 // A read whose answer does not rest on the end of its stream is made at all eight bit offsets, the stream moved along.
 // data/README.md says what stands in a record of the file `reads`, and how the file was made.
+#![tactic(auto)]
+
 ghost use Rattle.std.specs.Prelude.{◌≡◌, ◌<◌, ◌≤◌, length};
 
 use bititer::{BytesFault, BytesRead, NaturalFault, NaturalRead};

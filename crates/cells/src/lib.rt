@@ -2,6 +2,8 @@
 // elsewhere, eight cells at once where they fill a byte, and all bytes at once where source and target stand at the same place in a byte.
 // Past the end a cell reads as 0 and a write does nothing. A position and a count are u32, so that a usize holds their sum. Each promise
 // is over the list of bits; bytes are told by their bits (bititer's law bits-tell).
+#![tactic(auto)]
+
 ghost use Rattle.std.specs.Prelude.{◌≡◌, ◌+◌, ◌-◌, ◌*◌, ◌%◌, ◌^◌, ◌<◌, ◌≤◌, length, get_or, set};
 ghost use Rattle.std.proofs.lemmas.List.Edits.{sets};
 ghost use Rattle.report.specs.Bits.{byte_bits, bits_of, number_from};

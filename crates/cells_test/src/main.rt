@@ -1,5 +1,7 @@
 // Makes steps on packed cells, and prints for each file how many there were and how many left something else than it says.
 // data/README.md says what stands in a record, and how the files were made.
+#![tactic(auto)]
+
 ghost use Rattle.std.specs.Prelude.{◌≡◌, length};
 
 use packed::Tally;

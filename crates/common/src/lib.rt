@@ -1,6 +1,8 @@
 // What several crates ask of numbers, bytes and stores: a number in a wider type, a number in bytes with the high byte first,
 // a part of a slice, whether two slices hold the same bytes, zeros from an index on; and the answer of a check.
 // Each call answers on every input: past the end of a slice stand zeros, and a part ends where its slice does.
+#![tactic(auto)]
+
 ghost use Rattle.std.specs.Prelude.{◌≡◌, ◌^◌, ◌<◌, get_or};
 ghost use Rattle.promise.specs.Parts.{part_of, cut};
 ghost use Rattle.limits.specs.Limits.{word_most};

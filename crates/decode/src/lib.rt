@@ -2,6 +2,8 @@
 // All nodes are read first (3, 4, 5, 21, and 17 at 3 and 4), then comes the walk (6 to 9), then the closing (10).
 // A node's bits are read by value, and only then do its bytes and its record go into the stores.
 // A refusal leaves both stores zero; else they hold the table, and zeros after it.
+#![tactic(auto)]
+
 ghost use Rattle.std.specs.Prelude.{◌≡◌, [], ◌+◌, ◌*◌, ◌-◌, ◌/◌, ◌<◌, ◌≤◌, length};
 ghost use Rattle.limits.specs.Limits.{dossier_bytes, node_count, node_numbers, word_most};
 ghost use Rattle.refusal.specs.declared.Refusal.TheVariants.{Closing};

@@ -1,6 +1,8 @@
 // The whole job: a dossier and five lent stores in, an answer out, and each store left as the requirements say.
 // The header and the types are checked (1, 2), the program is decoded (3 to 10, 21), and the run stage does the rest on the decoded table (11 to 19).
 // Where `refusal::keeps_table` says no, the node and hash stores are zero: no table is left.
+#![tactic(auto)]
+
 ghost use Rattle.std.specs.Prelude.{◌≡◌};
 ghost use Rattle.scope.specs.Header.{check_header};
 ghost use Rattle.scope.specs.Run.{left_with, ended_with, run};

@@ -1,6 +1,8 @@
 // Reads a dossier from standard input and prints one line: `value COUNT BITS` (no BITS and no last space for a count of 0), or `refused NO PLACE`.
 // One byte more than a dossier may have is read, so that a longer input is refused as such. Where a read fails there is no line, and
 // standard error says so. The stores have the largest size that any dossier needs.
+#![tactic(auto)]
+
 ghost use Rattle.std.specs.Prelude.{◌≡◌, ◌≤◌, length};
 
 use libc::{STDERR_FILENO, STDIN_FILENO, STDOUT_FILENO};

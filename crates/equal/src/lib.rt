@@ -1,6 +1,8 @@
 // The first node of lent tables that an earlier one is equal to (9): the same kind, children, word or fail bits, and the same arrow.
 // Each node falls into a bucket by its numbers, its bits and its arrow, and is held against the earlier nodes of its bucket alone. Two arrays
 // lead through the buckets: to the latest node of each, and from each node to the one before it; entries are one more than a node, 0 is none.
+#![tactic(auto)]
+
 ghost use Rattle.std.specs.Prelude.{◌≡◌, not, List, [], ◌∷◌, ℕ, ◌+◌, ◌*◌, ◌-◌, ◌%◌, ◌^◌, ◌<◌, ◌≤◌, min, length, get_or};
 ghost use Rattle.limits.specs.Limits.{node_count};
 ghost use Rattle.report.specs.Bits.{bits_of, number_from};

@@ -1,6 +1,8 @@
 // The calls that controllers in C and Rust make: the whole job, decoding, and the stages one by one, over lent slices.
 // Each answers 0, or the number of its refusal. Beside it, through `place`, stands a refusal's place, or the count that an output or a table has.
 // A slice is passed as a pointer and then a length in elements. Each call promises what the call that it wraps promises.
+#![tactic(auto)]
+
 ghost use Rattle.std.specs.Prelude.{◌≡◌, length, ◌/◌};
 ghost use Rattle.limits.specs.Limits.{node_numbers};
 ghost use Rattle.scope.specs.Numbers.{stream_of};

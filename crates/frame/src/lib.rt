@@ -1,6 +1,8 @@
 // A frame of the machine: its cursor, its first cell and its length; cursor and start are absolute places.
 // A cursor moves by value, or in place where the frame is lent, and a frame is read from and written to its record in a lent store.
 // Every move is defined: a cursor that would pass the largest number is held there, and one that would pass 0 is held at 0.
+#![tactic(auto)]
+
 ghost use Rattle.std.specs.Prelude.{◌≡◌, ◌+◌, ◌-◌, min, get_or, set};
 ghost use Rattle.scope.specs.Machine.{frame_from, forward, backward, reset};
 ghost use Rattle.layout.specs.Mach.{no_frame, records_of};

@@ -1,6 +1,8 @@
 // The hashes of branches: the supplied ones judged (13), and the hash of a branch, handed back as 32 bytes of the slice that holds it.
 // A hidden node's stands in the hash store, at the place that its record names. That of a disconnect's right child is among the supplied
 // ones, which follow the disconnects with two children in node order. Any other node has none; where there is no hash the part is empty.
+#![tactic(auto)]
+
 ghost use Rattle.std.specs.Prelude.{◌≡◌, not, [], ◌++◌, ◌+◌, ◌*◌, ◌^◌, ◌<◌, ◌≤◌, length, take, drop};
 ghost use Rattle.promise.specs.Parts.{part_of};
 ghost use Rattle.limits.specs.Limits.{node_count, hash_bytes};

@@ -1,6 +1,8 @@
 // The dossier's header: its check (refusal 1), the count of a section, and a section as a part of the dossier.
 // A section's bytes are reckoned in 64 bits, so that no count makes a size or an end wrap.
 // Places go by the sections: each has to start where the one before it ends, which the check carries along.
+#![tactic(auto)]
+
 ghost use Rattle.std.specs.Prelude.{◌≡◌, ◌+◌, ◌*◌, ◌^◌, ◌≤◌, ◌<◌, length};
 ghost use Rattle.limits.specs.Limits.{dossier_bytes};
 ghost use Rattle.scope.specs.Check.{first_failing};

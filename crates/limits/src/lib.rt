@@ -1,5 +1,7 @@
 // The limits of the requirements and the sizes of records, each named once.
 // Code names these constants, definitions and proofs the names of specs/Limits; `limits` shows that the two lists are the same.
+#![tactic(auto)]
+
 ghost use Rattle.std.specs.Prelude.{◌≡◌};
 ghost use Rattle.limits.specs.Limits.{every_limit};
 

@@ -1,6 +1,8 @@
 // What the machine asks of a node, from the lent tables: its types and their widths, paddings, where its value stands among the witness bits,
 // and what is done around its two children. Each answers on every input: past the end of a table stands an arrow of record 0 to record 0,
 // a type of width 0, a node of no kind.
+#![tactic(auto)]
+
 ghost use Rattle.std.specs.Prelude.{◌≡◌, get_or};
 ghost use Rattle.scope.specs.Types.{type_records};
 ghost use Rattle.scope.specs.Arrows.{arrow_records, source, target};

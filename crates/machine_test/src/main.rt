@@ -1,5 +1,7 @@
 // Runs the programs of the file `runs` on tables and stores that are lent to the run stage, and prints for each what it says and what the stores
 // hold afterwards. The file `stdout` has what the requirements say. data/README.md says what stands in a record, and how both files were made.
+#![tactic(auto)]
+
 ghost use Rattle.std.specs.Prelude.{◌≤◌};
 
 use libc::STDOUT_FILENO;

@@ -1,5 +1,7 @@
 // Packed records of test data: numbers, the parts of a record, packed lists of numbers, and the tally that is printed of a file.
 // Every read has an answer past the end: numbers are 0 there, and a part or a record that is cut off is empty.
+#![tactic(auto)]
+
 ghost use Rattle.std.specs.Prelude.{◌≡◌, ◌+◌, ◌*◌, ◌<◌, take, drop};
 ghost use Rattle.packed.specs.Records.{number, whole, part, first_record, after_first, tells};
 ghost use Rattle.packed.specs.Lists.{unpacked, head_or, after_number, holds_numbers, laid};

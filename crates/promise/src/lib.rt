@@ -1,1 +1,2 @@
 // What promises are stated with stands in specs/; this crate has no code.
+#![tactic(auto)]

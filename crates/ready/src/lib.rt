@@ -1,6 +1,8 @@
 // What a run needs beyond its tables: the bits of the witness values (15) and of the input (16), and stores that are long enough (17).
 // Values are not kept: a witness node's value is found again by its position in the witness bits. Everything is lent by `&`, so a refusal
 // leaves all stores as they were.
+#![tactic(auto)]
+
 ghost use Rattle.std.specs.Prelude.{◌≡◌, true, false, List, ℕ, ◌-◌, ◌≤◌, ◌<◌, length, take, drop};
 ghost use Rattle.limits.specs.Limits.{dossier_bytes, node_count};
 ghost use Rattle.report.specs.Values.{read_value};

@@ -1,6 +1,8 @@
 // Every way in which a run says no: one case for each number of the requirements' table, with its place. `number` and `place` give what the
 // table says, `keeps_table` which ends keep the decoded table, and `Answer` is what a whole run says. Another refusal is one line more in
 // each of the lists here and in specs/Numbers; besides it touches what gives it, and theory's lists of what a check may give.
+#![tactic(auto)]
+
 ghost use Rattle.std.specs.Prelude.{◌≡◌};
 ghost use Rattle.refusal.specs.Numbers.{number_of, place_of, keeps_table};
 

@@ -2,6 +2,8 @@
 // many runs there were and how many came out otherwise: in the answer, the output, a store as it is left, or the bounds. Each of the latter
 // is named. The runs whose stores are all told are made a second time with two numbers more, which are no record, in the node store and the
 // frame store, where that is not the largest already. vectors/cases/README.md says what stands in a record.
+#![tactic(auto)]
+
 ghost use Rattle.std.specs.Prelude.{◌≤◌};
 
 use analysis::BoundsAnswer;

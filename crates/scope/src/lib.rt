@@ -1,1 +1,2 @@
 // The requirements as definitions stand in specs/; this crate has no code.
+#![tactic(auto)]

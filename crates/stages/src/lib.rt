@@ -1,6 +1,8 @@
 // The stages over lent tables, each after the ones before it: all that is tested again (4, 26, 1, 2, 6 to 9), then the arrows (11, 12, and 9
 // for equal nodes), then the supplied hashes (13). The check of the types makes arrays of widths and of next records. A stage hands them
 // back with its verdict, so that who goes on after it checks no table twice and is told nothing by a caller.
+#![tactic(auto)]
+
 ghost use Rattle.std.specs.Prelude.{◌≡◌};
 ghost use Rattle.scope.specs.Stages.{arrow_stage, hash_stage};
 ghost use Rattle.types.specs.Table.{type_table};

@@ -1,6 +1,8 @@
 // Lends the tables of the file `lent` to the walk's stage, decodes the programs of the file `programs`, and prints how many there were
 // and how many came out otherwise than the files say, stores included.
 // data/README.md says what stands in a record, and how the files were made.
+#![tactic(auto)]
+
 use common::Checked;
 use decode::Decoded;
 use packed::Tally;

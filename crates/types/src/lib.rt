@@ -3,6 +3,8 @@
 // and no type is ever walked to its leaves. A type without padding has a mark, and its values are read as bits, all at once.
 // Of the others a product with a part of width 0 says nothing that its other part does not say:
 // the next record that matters is that part's, and readers of values step over such products by it.
+#![tactic(auto)]
+
 ghost use Rattle.std.specs.Prelude.{◌≡◌, [], ◌<◌, length, get_or};
 ghost use Rattle.limits.specs.Limits.{type_count};
 ghost use Rattle.scope.specs.Numbers.{any_below};

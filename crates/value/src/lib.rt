@@ -4,6 +4,8 @@
 // A part of width 0 is passed over at once, and products with such a part are stepped over by the table of next records,
 // so that the steps are in proportion to the width. The tables are lent and may hold anything: a record that does not fit
 // its widths, or whose parts do not lie below it, stands for nothing. A table that the check of types passed has no such record.
+#![tactic(auto)]
+
 ghost use Rattle.std.specs.Prelude.{◌≡◌, ◌∷◌, ◌+◌, ◌*◌, ◌-◌, ◌%◌, ◌≤◌, ◌<◌, max, length, get_or, drop};
 ghost use Rattle.std.proofs.lemmas.List.Edits.{sets};
 ghost use Rattle.limits.specs.Limits.{cell_count};

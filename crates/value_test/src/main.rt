@@ -1,6 +1,8 @@
 // Checks the type tables of the file `tables`, and skips, pads and unpads the values of the file `values` along their types.
 // Prints how many there were, and how many came out otherwise than the files say.
 // data/README.md says what stands in a record, and how the files were made.
+#![tactic(auto)]
+
 ghost use Rattle.std.specs.Prelude.{◌<◌};
 
 use packed::Tally;
