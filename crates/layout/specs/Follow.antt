@@ -62,17 +62,17 @@ pub record Follows (lent size most : ℕ) (s : State) (o : Step) (m : Mach) (Ok 
 
 -- a test that was passed
 module _ {X : Type 0} (b : Bool) (o : Out State X) where
-  need-true : Goes (need b o) → b ≡ true
+  need_true : Goes (need b o) → b ≡ true
   unfolding need
-  need-true = elim b [ true ↦ λ g. refl | false ↦ λ g. absurd g ]
+  need_true = elim b as (λ x. Goes (need x o) → x ≡ true) [ true ↦ λ g. refl | false ↦ λ g. absurd g ]
 
   need_is : Goes (need b o) → need b o ≡ o
   unfolding need
-  need_is = elim b [ true ↦ λ g. refl | false ↦ λ g. absurd g ]
+  need_is = elim b as (λ x. Goes (need x o) → need x o ≡ o) [ true ↦ λ g. refl | false ↦ λ g. absurd g ]
 
   need_goes : Goes (need b o) → Goes o
   unfolding need
-  need_goes = elim b [ true ↦ λ g. g | false ↦ λ g. absurd g ]
+  need_goes = elim b as (λ x. Goes (need x o) → Goes o) [ true ↦ λ g. g | false ↦ λ g. absurd g ]
 
 -- writing and copying keep the cells from their end on
 put_kept : (c : Cells) (to : ℕ) (bs : List Bit) (size : ℕ) → to + length bs ≤ size → KeptFrom size c (put_bits c to bs)
@@ -119,9 +119,9 @@ module _ (lent size most : ℕ) (le : size ≤ lent) where
       let ws : List Frame = s.writes in
       let z : ℕ = most - (length rs + suc (length ws)) in
       let to : State = state_of s.cells rs (frame_from nx n ∷ ws) (nx + n) in
-      let cells : nx + n ≤ size = leb-true _ _ (need-true (leb (nx + n) size) (need (ltb (length rs + length ws) most) (done to)) g) in
+      let cells : nx + n ≤ size = leb-true _ _ (need_true (leb (nx + n) size) (need (ltb (length rs + length ws) most) (done to)) g) in
       let g' = need_goes (leb (nx + n) size) (need (ltb (length rs + length ws) most) (done to)) g in
-      let room : length rs + length ws < most = ltb-true _ _ (need-true (ltb (length rs + length ws) most) (done to) g') in
+      let room : length rs + length ws < most = ltb-true _ _ (need_true (ltb (length rs + length ws) most) (done to) g') in
       let e : most - (length rs + length ws) ≡ suc z = omega arith in
       record {
         to = to;
@@ -187,7 +187,7 @@ module _ (lent size most : ℕ) (le : size ≤ lent) where
       let z : ℕ = most - (length rs + suc (length ws)) in
       let n : ℕ = suc (length bs) in
       let to : State = state_of (put_bits c f.cursor (b ∷ bs)) rs (forward n f ∷ ws) nx in
-      let fits : f.cursor + n ≤ f.start + f.len = leb-true _ _ (need-true (leb (f.cursor + n) (f.start + f.len)) (done to) g) in
+      let fits : f.cursor + n ≤ f.start + f.len = leb-true _ _ (need_true (leb (f.cursor + n) (f.start + f.len)) (done to) g) in
       let inside = h.writes in
       record {
         to = to;
@@ -221,7 +221,7 @@ module _ (lent size most : ℕ) (le : size ≤ lent) where
   skip_from (suc n) c rs (f ∷ ws) nx h g =
       let z : ℕ = most - (length rs + suc (length ws)) in
       let to : State = state_of c rs (forward (suc n) f ∷ ws) nx in
-      let fits : f.cursor + suc n ≤ f.start + f.len = leb-true _ _ (need-true (leb (f.cursor + suc n) (f.start + f.len)) (done to) g) in
+      let fits : f.cursor + suc n ≤ f.start + f.len = leb-true _ _ (need_true (leb (f.cursor + suc n) (f.start + f.len)) (done to) g) in
       let inside = h.writes in
       record {
         to = to;
@@ -248,7 +248,7 @@ module _ (lent size most : ℕ) (le : size ≤ lent) where
   forward_from (suc n) c (f ∷ rs) ws nx h g =
       let z : ℕ = most - (suc (length rs) + length ws) in
       let to : State = state_of c (forward (suc n) f ∷ rs) ws nx in
-      let fits : f.cursor + suc n ≤ f.start + f.len = leb-true _ _ (need-true (leb (f.cursor + suc n) (f.start + f.len)) (done to) g) in
+      let fits : f.cursor + suc n ≤ f.start + f.len = leb-true _ _ (need_true (leb (f.cursor + suc n) (f.start + f.len)) (done to) g) in
       let inside = h.reads in
       record {
         to = to;
@@ -274,7 +274,7 @@ module _ (lent size most : ℕ) (le : size ≤ lent) where
   back_from (suc n) c (f ∷ rs) ws nx h g =
       let z : ℕ = most - (suc (length rs) + length ws) in
       let to : State = state_of c (backward (suc n) f ∷ rs) ws nx in
-      let fits : f.start + suc n ≤ f.cursor = leb-true _ _ (need-true (leb (f.start + suc n) f.cursor) (done to) g) in
+      let fits : f.start + suc n ≤ f.cursor = leb-true _ _ (need_true (leb (f.start + suc n) f.cursor) (done to) g) in
       record {
         to = to;
         does = need_is (leb (f.start + suc n) f.cursor) (done to) g;
@@ -304,8 +304,8 @@ module _ (lent size most : ℕ) (le : size ≤ lent) where
       let from : Bool = leb (f.cursor + suc n) (f.start + f.len) in
       let into : Bool = leb (e.cursor + suc n) (e.start + e.len) in
       let g' = need_goes from (need into (done to)) g in
-      let reads : f.cursor + suc n ≤ f.start + f.len = leb-true _ _ (need-true from (need into (done to)) g) in
-      let writes : e.cursor + suc n ≤ e.start + e.len = leb-true _ _ (need-true into (done to) g') in
+      let reads : f.cursor + suc n ≤ f.start + f.len = leb-true _ _ (need_true from (need into (done to)) g) in
+      let writes : e.cursor + suc n ≤ e.start + e.len = leb-true _ _ (need_true into (done to) g') in
       let inside = h.reads in
       let within = h.writes in
       let low : f.cursor + suc n ≤ lent = omega (arith, inside.0) in
@@ -341,7 +341,7 @@ module _ (lent size most : ℕ) (le : size ≤ lent) where
   peek_from c [] ws nx h g = absurd g
   peek_from c (f ∷ rs) ws nx h g =
       let z : ℕ = most - (suc (length rs) + length ws) in
-      let fits : f.cursor + 1 ≤ f.start + f.len = leb-true _ _ (need-true (leb (f.cursor + 1) (f.start + f.len)) (done (c f.cursor)) g) in
+      let fits : f.cursor + 1 ≤ f.start + f.len = leb-true _ _ (need_true (leb (f.cursor + 1) (f.start + f.len)) (done (c f.cursor)) g) in
       let inside = h.reads in
       record {
         does = need_is (leb (f.cursor + 1) (f.start + f.len)) (done (c f.cursor)) g

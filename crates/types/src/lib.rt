@@ -37,7 +37,7 @@ pub struct TypeTable {
 }
 
 // A record: tag 0 is unit, 1 a sum, 2 a product; the parts are indices of earlier records.
-#[derive(Drop)]
+#[derive(Clone, Copy)]
 pub struct TypeRecord {
     pub tag: u8,
     pub left: u16,

@@ -1,0 +1,36 @@
+-- The closing, by what is left of the stream: nothing, a whole byte, or the rest of the last byte.
+use mathlib.Core.Path.{sym}
+use Prim.Native.Nat.{◌/◌}
+use native.Mathlib.Omega.{arith}
+use Rattle.scope.specs.Numbers.{stream_of}
+use Rattle.bititer.proofs.Streams.{stream_inside}
+use Rattle.bititer.proofs.Closing.{closes_past, closes_long, closes_end, closes_rest}
+use borrow.Author.Rules.{rules}
+use Rattle.bititer.proofs.closes.Goals as goal
+
+pub returns-then-all-p : goal.returns-then-all-p
+returns-then-all-p c =
+    let a = c.args in
+    sym (closes_past (stream_of a.s.now) a.p (omega (arith, c.stream_length-all.ensures)))
+
+pub returns-then-all-p-ge8 : goal.returns-then-all-p-ge8
+returns-then-all-p-ge8 c =
+    let a = c.args in
+    sym (closes_long (stream_of a.s.now) a.p (omega (arith, c.stream_length-all.ensures))
+    (omega (arith, c.stream_length-all.ensures)))
+
+pub returns-then-all-p-2 : goal.returns-then-all-p-2
+returns-then-all-p-2 c =
+    let a = c.args in
+    sym (closes_end (stream_of a.s.now) a.p (omega (arith, c.stream_length-all.ensures)))
+
+pub bounds-s-i : goal.bounds-s-i
+bounds-s-i c =
+    let a = c.args in
+    stream_inside a.s.now a.p (omega (arith, c.stream_length-all.ensures))
+
+pub returns : goal.returns
+returns c =
+    let a = c.args in
+    sym (closes_rest a.s.now a.p (omega (arith, c.stream_length-all.ensures))
+    (omega (arith, c.stream_length-all.ensures)) (omega (arith, c.shared_slice_known-2-1.given (a.p / 8))))

@@ -1,0 +1,31 @@
+-- Bits of a source put into the cells. The invariant: putting the bits that the whole bytes left is putting those left into the list as it is now.
+-- Those bits are the measure.
+use Rattle.cells.proofs.Parts.{put_turn, put_done}
+use Rattle.common.specs.Cells.{bits_from}
+use lib.Seq.{sets}
+use Rattle.report.specs.Bits.{bits_of}
+use lib.ListN.{length}
+use Prim.Native.Nat.{◌+◌, ◌-◌, ◌≤◌}
+use mathlib.Core.Path.{◌≡◌, refl, sym, ◌∙◌}
+use borrow.Author.Rules.{rules}
+use Rattle.cells.proofs.put_bits.Goals as goal
+
+pub loop-put-init : goal.loop-put-init
+loop-put-init c = (refl, c.put_front-put.ensures.0, refl)
+
+pub loop-put-preserved : goal.loop-put-preserved
+loop-put-preserved c =
+    let a = c.args in
+    let l = c.loop-put in
+    let r = c.put_step-put in (
+      l.invariant.0 ∙ put_turn (bits_of l.cells) _ (bits_of a.source.now) a.p a.at a.n l.put r.result r.ensures.2,
+      search rules,
+      search rules,
+    )
+
+pub returns : goal.returns
+returns c =
+    let l = c.loop-put in
+    let a = c.args in
+    sym (c.put_front-put.ensures.1 ∙ l.invariant.0
+    ∙ put_done (bits_of l.cells) (bits_of a.source.now) (a.p + l.put) (a.at + l.put) a.n l.put c.loop-put-test.false)
