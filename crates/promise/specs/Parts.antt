@@ -1,7 +1,7 @@
 -- A part of a lent slice of bytes as it is handed back, not a copy: where it stands, and what it holds.
 -- A place is a block of memory and a number of bytes from its start; each reference has one, also to an empty part.
 -- And what code that cuts a part from a to e has cut, where the part is past the end, reaches past it, or lies within.
-use Rattle.std.specs.Prelude.{◌≡◌, refl, List, [], ℕ, ◌+◌, ◌-◌, ◌≤◌, ◌<◌, min, length, take, drop}
+use Rattle.std.specs.Prelude.{◌≡◌, List, ℕ, ◌+◌, ◌-◌, ◌≤◌, ◌<◌, min, length, take, drop}
 use Rattle.std.proofs.Common.{sym, ap, ◌∙◌, arith, length-drop, drop_of_length-le, take_all}
 use Rattle.std.proofs.Math.Nat.{min-eq_left, min-eq_right}
 use Rattle.std.proofs.Math.Seq.{take-nil}

@@ -1,6 +1,6 @@
 -- Bits and bytes. A bit is the number 0 or 1, everywhere: in codes, in values, in the machine's cells and in stores.
 -- Bits fill bytes from the top bit.
-use Rattle.std.specs.Prelude.{List, [], ◌∷◌, ◌++◌, ℕ, zero, suc, ◌+◌, ◌*◌, ◌/◌, ◌%◌, length, take, drop}
+use Rattle.std.specs.Prelude.{List, [], ◌∷◌, ◌++◌, ℕ, zero, suc, ◌+◌, ◌*◌, ◌/◌, ◌%◌, take, drop}
 
 abbrev pub Bit : Type 0
 Bit = ℕ

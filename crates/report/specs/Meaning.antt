@@ -1,7 +1,6 @@
 -- The report's meaning of a term: a function from values to values that may fail, its left child first, with the place where it fails.
 -- And how many terms are evaluated on the way, a failing one included.
-use Rattle.std.specs.Prelude.{List, ℕ, zero, suc, ◌+◌}
-use Rattle.report.specs.Types.{Ty}
+use Rattle.std.specs.Prelude.{ℕ, ◌+◌}
 use Rattle.report.specs.Values.{Val, ⟨⟩, inl, inr, ◌&◌}
 use Rattle.report.specs.Terms.{Term, iden, comp, unit, injl, injr, case, pair, take, drop, assertl, assertr, fail, witness, word, disconnect, bad}
 

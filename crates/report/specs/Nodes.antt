@@ -1,6 +1,6 @@
 -- A program as the report codes it: a table of nodes, each with the indices of its children, told by distances.
 -- `disconnect1` is the disconnect that has one child; jets are left out.
-use Rattle.std.specs.Prelude.{List, [], ◌∷◌, ◌++◌, ℕ, zero, suc, ◌-◌, length}
+use Rattle.std.specs.Prelude.{List, [], ◌∷◌, ◌++◌, ℕ, suc, ◌-◌, length}
 use Rattle.report.specs.Bits.{Bit, bits_of}
 use Rattle.report.specs.Naturals.{code_natural}
 

@@ -8,7 +8,7 @@ use Rattle.limits.specs.Limits.{arrow_bytes}
 use Rattle.refusal.specs.declared.Refusal.{Refusal}
 use Rattle.refusal.specs.declared.Refusal.TheVariants.{NodeRepeated, OneChildDisconnect, Arrow as BadArrow}
 use Rattle.report.specs.Nodes.{Node, comp, case, pair, disconnect, injl, injr, take, drop, disconnect1, iden, unit, witness, fail, hidden, word}
-use Rattle.scope.specs.Check.{Check, passed, refused, ◌>>=◌, require, each}
+use Rattle.scope.specs.Check.{Check, ◌>>=◌, require, each}
 use Rattle.scope.specs.Numbers.{be16, tabulate, every, any_below}
 use Rattle.scope.specs.Types.{TypeRecord, is_unit, is_sum, is_product, left_at, right_at, a_sum, sum_with_left, sum_with_right, a_product, product_with_left, product_with_right, is_word}
 use Rattle.scope.specs.Nodes.{node_at, on_one_child}

@@ -1,11 +1,11 @@
 -- The bounds of a run: extra cells, extra frames and cost of each node by the requirements' table, and the limits on the whole program (14).
 -- Each row of the table is one definition, of the bounds of the children.
-use Rattle.std.specs.Prelude.{Bool, true, false, List, [], ◌∷◌, ℕ, ◌+◌, ◌*◌, max, leb}
+use Rattle.std.specs.Prelude.{ℕ, ◌+◌, ◌*◌, max, leb}
 use Rattle.limits.specs.Limits.{cell_count, frame_count, cost_limit, node_cost}
 use Rattle.refusal.specs.declared.Refusal.TheVariants.{OverLimit}
-use Rattle.report.specs.Types.{Ty, width, word_ty}
+use Rattle.report.specs.Types.{width, word_ty}
 use Rattle.report.specs.Terms.{Term, iden, comp, unit, injl, injr, case, pair, take, drop, assertl, assertr, fail, witness, word, disconnect, bad}
-use Rattle.scope.specs.Check.{Check, passed, refused, ◌>>=◌, require}
+use Rattle.scope.specs.Check.{Check, ◌>>=◌, require}
 use Rattle.scope.specs.Program.{Program, whole, whole_source, whole_target}
 
 -- what a run needs beyond its input and its output, and what it costs

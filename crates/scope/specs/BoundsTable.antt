@@ -4,14 +4,14 @@ use Rattle.std.specs.Prelude.{◌≡◌, refl, Bool, true, false, List, [], ◌�
 use Rattle.limits.specs.Limits.{cell_count, frame_count, cost_limit}
 use Rattle.refusal.specs.declared.Refusal.TheVariants.{OverLimit}
 use Rattle.report.specs.Lines.{◌is◌, Hold}
-use Rattle.report.specs.Types.{Ty, one, sum, prod, width, word_ty}
-use Rattle.report.specs.Values.{Val, ⟨⟩}
+use Rattle.report.specs.Types.{Ty, one, width, word_ty}
+use Rattle.report.specs.Values.{⟨⟩}
 use Rattle.report.specs.Nodes as Node
 use Rattle.report.specs.Terms.{Term, iden, comp, unit, injl, injr, case, pair, take, drop, assertl, assertr, fail, witness, word, disconnect, bad}
-use Rattle.scope.specs.Check.{Check, passed, refused}
+use Rattle.scope.specs.Check.{passed, refused}
 use Rattle.scope.specs.Numbers.{tabulate}
 use Rattle.scope.specs.Program.{Program}
-use Rattle.scope.specs.Bounds.{Bound, bounds, check_limits, check_bounds}
+use Rattle.scope.specs.Bounds.{bounds, check_limits, check_bounds}
 use Rattle.scope.specs.Shorthand.{ty, to}
 
 -- a cell of the table, at a term

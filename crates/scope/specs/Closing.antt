@@ -1,6 +1,6 @@
 -- Closing: no whole byte is left after a position, and the padding up to the end is zero (10, and the ends of 15 and 16).
 -- And decoding as a whole: all nodes are read, then the walk, then the closing.
-use Rattle.std.specs.Prelude.{Bool, true, false, List, [], ◌∷◌, ℕ, ◌+◌, ◌-◌, eqb, leb, ltb, length, drop}
+use Rattle.std.specs.Prelude.{Bool, List, [], ◌∷◌, ℕ, ◌-◌, eqb, leb, ltb, length, drop}
 use Rattle.limits.specs.Limits.{dossier_bytes}
 use Rattle.refusal.specs.declared.Refusal.TheVariants.{Header, Closing}
 use Rattle.report.specs.Bits.{Bit}

@@ -1,12 +1,12 @@
 -- The supplied hashes: as many as disconnects with two children, in node order, each for the right child (13 at the count given);
 -- one child may not get two different hashes (13 at the first entry unlike an earlier one of its child). And the hash of a branch.
-use Rattle.std.specs.Prelude.{Bool, ℕ, zero, suc, ◌*◌, ◌/◌, min, eqb, length, get_or, take, drop}
+use Rattle.std.specs.Prelude.{Bool, ℕ, suc, ◌*◌, ◌/◌, min, eqb, length, get_or, take, drop}
 use Rattle.std.proofs.Math.Bool.{true, false, not}
 use mathlib.Core.List.{List, [], ◌∷◌}
 use Rattle.limits.specs.Limits.{hash_bytes}
 use Rattle.refusal.specs.declared.Refusal.TheVariants.{Hash}
 use Rattle.report.specs.Nodes.{Node}
-use Rattle.scope.specs.Check.{Check, passed, refused, ◌>>=◌, require, each}
+use Rattle.scope.specs.Check.{Check, ◌>>=◌, require, each}
 use Rattle.scope.specs.Numbers.{same, every, any_below}
 use Rattle.scope.specs.Nodes.{node_at, on_hidden, on_disconnect}
 

@@ -1,6 +1,6 @@
 -- The dossier: a header of 14 big-endian numbers of 32 bits, then six sections without gaps (refusal 1).
 -- The numbers are the version; a count and an offset for types, program, arrows, witness, input and hashes; the total length.
-use Rattle.std.specs.Prelude.{Bool, true, ltb, length, drop}
+use Rattle.std.specs.Prelude.{Bool, length, drop}
 use Rattle.std.proofs.Math.Bool.{false}
 use mathlib.Core.List.{List, [], ◌∷◌}
 use Prim.Native.Nat.{ℕ, zero, suc, ◌+◌, ◌*◌}

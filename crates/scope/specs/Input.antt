@@ -3,7 +3,7 @@
 use Rattle.std.specs.Prelude.{List, ℕ, take}
 use Rattle.refusal.specs.declared.Refusal.TheVariants.{Input}
 use Rattle.report.specs.Types.{Ty}
-use Rattle.report.specs.Values.{Val, Read, value, short, read_value}
+use Rattle.report.specs.Values.{Val, value, short, read_value}
 use Rattle.scope.specs.Check.{Check, passed, refused, ◌>>=◌, require}
 use Rattle.scope.specs.Numbers.{held_bits, stream_of, every}
 use Rattle.scope.specs.Closing.{closes, used_up}

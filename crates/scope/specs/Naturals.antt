@@ -1,6 +1,6 @@
 -- Reading a natural: the ones up to a zero tell how many lengths follow, and each length read tells how many bits the next number has.
 -- A length above 31 is refused when it is read, before its bits are asked for.
-use Rattle.std.specs.Prelude.{Bool, true, false, List, [], ◌∷◌, ℕ, zero, suc, ◌+◌, ◌*◌, leb}
+use Rattle.std.specs.Prelude.{true, false, List, [], ◌∷◌, ℕ, zero, suc, ◌+◌, ◌*◌, leb}
 use Rattle.limits.specs.Limits.{natural_length}
 use Rattle.report.specs.Bits.{Bit}
 

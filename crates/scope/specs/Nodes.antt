@@ -1,6 +1,6 @@
 -- The node store: four numbers a node, and the report's node that a record stands for.
 -- The numbers are the kind; then children, or a word's n and its first bit position in the program, or the byte position in the hash store; unused ones are 0.
-use Rattle.std.specs.Prelude.{List, [], ◌∷◌, ◌++◌, ℕ, zero, suc, ◌+◌, ◌*◌, ◌-◌, ◌/◌, ◌^◌, length, get_or, take as take_l, drop as drop_l}
+use Rattle.std.specs.Prelude.{List, [], ◌∷◌, ℕ, ◌+◌, ◌*◌, ◌-◌, ◌/◌, ◌^◌, length, get_or, take as take_l, drop as drop_l}
 use Rattle.limits.specs.Limits.{node_numbers, hash_bytes, fail_bytes}
 use Rattle.report.specs.Bits.{Bit}
 use Rattle.report.specs.Nodes.{Node, comp, case, pair, disconnect, injl, injr, take, drop, disconnect1, iden, unit, witness, fail, hidden, word}

@@ -1,15 +1,13 @@
 -- A program that passed the checks of its tables, and the report's term that each node stands for.
 -- A case with a hidden child is an assertion. Hidden nodes and one-child disconnects stand for no term.
-use Rattle.std.specs.Prelude.{Bool, true, false, List, [], ◌∷◌, ℕ, zero, suc, ◌+◌, ◌-◌, length, get_or}
-use Rattle.report.specs.Bits.{Bit, bits_of}
+use Rattle.std.specs.Prelude.{Bool, true, false, List, ℕ, ◌-◌, length, get_or}
+use Rattle.report.specs.Bits.{Bit}
 use Rattle.report.specs.Table.{entries}
 use Rattle.report.specs.Types.{Ty, left_of, right_of, word_ty}
-use Rattle.report.specs.Values.{Val, ⟨⟩, Read, value, short, read_value}
+use Rattle.report.specs.Values.{Val, ⟨⟩, value, short, read_value}
 use Rattle.report.specs.Nodes.{Node}
-use Rattle.report.specs.Nodes as Node
 use Rattle.report.specs.Terms.{Term, iden, comp, unit, injl, injr, case, pair, take, drop, assertl, assertr, fail, witness, word, disconnect, bad}
 use Rattle.scope.specs.Types.{TypeRecord, ty_at}
-use Rattle.scope.specs.Nodes.{node_at}
 use Rattle.scope.specs.Walk.{hidden_at}
 use Rattle.scope.specs.Arrows.{Arrow, source, target}
 

@@ -4,7 +4,6 @@ use Rattle.report.specs.Lines.{◌is◌, Hold, b1, b2, o, i}
 use Rattle.report.specs.Types.{one, sum, prod}
 use Rattle.report.specs.Values.{⟨⟩, inl, ◌&◌}
 use Rattle.report.specs.Nodes.{Node}
-use Rattle.report.specs.Nodes as Node
 use Rattle.report.specs.Terms.{iden, comp, unit, injl, injr, case, pair, take, drop, assertl, assertr, fail, witness, word, disconnect, bad}
 use Rattle.scope.specs.Types.{TypeRecord}
 use Rattle.scope.specs.Program.{Program, value_from, source_ty, target_ty, term_of, term_at, last, whole, whole_source, whole_target}

@@ -1,6 +1,6 @@
 -- Reading the nodes of a program: the stream ended (3), a natural over its bound (4) or with a length too long (21), a jet (5),
 -- the node store too short right after the count (17 at 3), the hash store once a hidden or fail node is read (17 at 4).
-use Rattle.std.specs.Prelude.{Bool, leb, ltb, eqb, take, drop}
+use Rattle.std.specs.Prelude.{leb, eqb, take, drop}
 use Rattle.std.proofs.Math.Bool.{true, false}
 use mathlib.Core.List.{List, [], ◌∷◌, ◌++◌}
 use Prim.Native.Nat.{ℕ, zero, suc, ◌+◌, ◌-◌, ◌*◌, ◌^◌}

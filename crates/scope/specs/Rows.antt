@@ -1,6 +1,6 @@
 -- A computed run as a row of a table: a dossier and five stores in; an answer, the bounds and five stores out; compared by one test.
 -- Bytes and numbers are written as one long hexadecimal number, the first byte highest, as a dossier's own numbers are.
-use Rattle.std.specs.Prelude.{Bool, true, false, List, [], ◌∷◌, ℕ, zero, suc, ◌+◌, ◌*◌, ◌/◌, ◌%◌, ◌^◌, length, replicate}
+use Rattle.std.specs.Prelude.{Bool, true, false, List, [], ◌∷◌, ℕ, zero, suc, ◌+◌, ◌*◌, ◌/◌, ◌%◌, ◌^◌, replicate}
 use Rattle.limits.specs.Limits.{node_numbers, frame_numbers}
 use Rattle.refusal.specs.declared.Answer.{Answer}
 use Rattle.refusal.specs.declared.Answer.TheVariants.{Value, Refused}
@@ -9,7 +9,7 @@ use Rattle.scope.specs.Check.{Check, passed, refused, ◌>>=◌}
 use Rattle.scope.specs.Numbers.{every, same}
 use Rattle.scope.specs.Program.{Program}
 use Rattle.scope.specs.Bounds.{check_bounds, whole_cells, whole_frames, whole_cost}
-use Rattle.scope.specs.Run.{Ended, run, check_dossier, tables_of, program_of}
+use Rattle.scope.specs.Run.{run, check_dossier, tables_of, program_of}
 
 -- k digits of a number to a base, the highest first
 unfoldable pub digits : (base k n : ℕ) → List ℕ

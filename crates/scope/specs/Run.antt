@@ -10,22 +10,21 @@
 --   Step       how the machine comes to its end: done, failed, pruned or stuck (Machine)
 --   Left       the answer, with cells, frames and answer store as they are left; `left_with` makes one
 --   Ended      the answer, with all five stores; `ended_with` makes one
-use Rattle.std.specs.Prelude.{Bool, true, false, List, [], ◌∷◌, ◌++◌, ℕ, ◌+◌, ◌*◌, ◌-◌, ◌/◌, length, get_or, drop}
+use Rattle.std.specs.Prelude.{List, [], ◌++◌, ℕ, ◌*◌, ◌/◌, length, get_or, drop}
 use Rattle.limits.specs.Limits.{node_numbers, frame_numbers}
-use Rattle.refusal.specs.declared.Refusal.{Refusal}
 use Rattle.refusal.specs.declared.Refusal.TheVariants.{FailReached, PrunedReached, StoreShort}
 use Rattle.refusal.specs.declared.Answer.{Answer}
 use Rattle.refusal.specs.declared.Answer.TheVariants.{Value, Refused}
 use Rattle.report.specs.Bits.{Bit, bits_of, bytes_of}
-use Rattle.report.specs.Types.{Ty, width, word_ty}
+use Rattle.report.specs.Types.{width, word_ty}
 use Rattle.report.specs.Values.{Val, Cells, compact, value_at}
 use Rattle.report.specs.Nodes.{Node}
-use Rattle.report.specs.Meaning.{Out, done, failed, pruned, stuck}
+use Rattle.report.specs.Meaning.{done, failed, pruned, stuck}
 use Rattle.scope.specs.Check.{Check, passed, refused, ◌>>=◌}
 use Rattle.scope.specs.Numbers.{zeros, filled, bytes_for, stream_of, tabulate}
 use Rattle.scope.specs.Header.{check_header, section, count, s_types, s_program, s_arrows, s_witness, s_input, s_hashes}
 use Rattle.scope.specs.Types.{TypeRecord, type_records, check_types}
-use Rattle.scope.specs.Nodes.{NodeRecord, node_numbers_of, nodes_of}
+use Rattle.scope.specs.Nodes.{node_numbers_of, nodes_of}
 use Rattle.scope.specs.Reading.{NodeTable}
 use Rattle.scope.specs.Closing.{decode}
 use Rattle.scope.specs.Arrows.{Arrow, arrow_records, check_arrows}
@@ -35,7 +34,7 @@ use Rattle.scope.specs.Bounds.{check_bounds, whole_cells, whole_frames}
 use Rattle.scope.specs.Witness.{check_witness}
 use Rattle.scope.specs.Input.{check_input}
 use Rattle.scope.specs.Stores.{check_stores}
-use Rattle.scope.specs.Machine.{State, Step, machine}
+use Rattle.scope.specs.Machine.{Step, machine}
 
 -- the tables of a program, and the bits that it is run on
 pub record Tables : Type 0 where

@@ -1,16 +1,15 @@
 -- Stages over lent tables test them again: no record or too many (4), then each node record (26), then a program over the limit (1),
 -- then every earlier check that can be made from what the stage takes, with the same numbers and places. The tables are left as they were.
-use Rattle.std.specs.Prelude.{Bool, true, false, List, [], ◌∷◌, ℕ, zero, suc, ◌+◌, ◌*◌, ◌-◌, ◌^◌, leb, ltb, eqb, length, get_or}
+use Rattle.std.specs.Prelude.{Bool, true, false, List, [], ◌∷◌, ℕ, ◌+◌, ◌*◌, ◌-◌, ◌^◌, leb, ltb, eqb, length, get_or}
 use Rattle.limits.specs.Limits.{node_count, type_count, dossier_bytes, word_most, hash_bytes, fail_bytes}
 use Rattle.refusal.specs.declared.Refusal.TheVariants.{Natural, NodeRecord as BadNodeRecord, Header}
 use Rattle.refusal.specs.declared.Answer.TheVariants.{Refused}
 use Rattle.scope.specs.Check.{Check, passed, refused, ◌>>=◌, require, each}
 use Rattle.scope.specs.Numbers.{every, stream_of}
-use Rattle.scope.specs.Types.{TypeRecord, type_records, check_types}
+use Rattle.scope.specs.Types.{type_records, check_types}
 use Rattle.scope.specs.Nodes.{Kind, k_comp, k_case, k_pair, k_disconnect, k_injl, k_injr, k_take, k_drop, k_iden, k_unit, k_fail, k_disconnect1, k_witness, k_hidden, k_word, k_unknown, kind_of, NodeRecord, node_records, nodes_of}
 use Rattle.scope.specs.Walk.{check_walk}
 use Rattle.scope.specs.Arrows.{arrow_records, check_arrows}
-use Rattle.scope.specs.Hashes.{check_hashes}
 use Rattle.scope.specs.Bounds.{check_bounds}
 use Rattle.scope.specs.Run.{Tables, program_of, check_tables, Left, left_with, run_tables}
 

@@ -1,10 +1,10 @@
 -- The stores that a run is lent: cells, frames and answer, each long enough for the bounds (17 at 0, 1, 2).
 -- Node store and hash store are judged while the program is read (17 at 3 and 4, in Reading).
-use Rattle.std.specs.Prelude.{Bool, true, false, List, [], ◌∷◌, ℕ, ◌/◌, leb, length}
+use Rattle.std.specs.Prelude.{List, ℕ, ◌/◌, leb, length}
 use Rattle.limits.specs.Limits.{frame_numbers}
 use Rattle.refusal.specs.declared.Refusal.TheVariants.{StoreShort}
 use Rattle.report.specs.Types.{width}
-use Rattle.scope.specs.Check.{Check, passed, refused, ◌>>=◌, require}
+use Rattle.scope.specs.Check.{Check, ◌>>=◌, require}
 use Rattle.scope.specs.Numbers.{bytes_for}
 use Rattle.scope.specs.Program.{Program, whole_target}
 use Rattle.scope.specs.Bounds.{whole_cells, whole_frames}

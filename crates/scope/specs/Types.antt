@@ -1,6 +1,6 @@
 -- The type table: which records it may hold (refusal 2), the type that each record stands for, and what a record is (unit, a sum, a product, a word).
 -- A record refers only to earlier records, unit's indices are 0, no two records are equal, and no type is too wide.
-use Rattle.std.specs.Prelude.{Bool, true, List, [], ◌∷◌, length}
+use Rattle.std.specs.Prelude.{Bool, List, [], ◌∷◌, length}
 use Rattle.std.proofs.Math.Bool.{false, not}
 use Prim.Native.Nat.{ℕ, zero, suc, ◌+◌, ◌*◌, ◌/◌}
 use Rattle.std.proofs.Math.Dec.{leb, ltb, eqb}

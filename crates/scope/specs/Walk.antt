@@ -2,7 +2,7 @@
 -- Hidden children are allowed only under case (7), one at most (8); no hidden hash twice (9); the last node is not hidden (7).
 -- `A9 40 20` is unit, iden, comp(0, 1): from node 2 the nodes done grow from [] to [0], [0, 1] and [0, 1, 2].
 -- `A9 40 10` is unit, iden, comp(1, 0): its left child, node 1, comes while nothing is done, so it is 6 at 0.
-use Rattle.std.specs.Prelude.{Bool, not, ℕ, zero, suc, ◌-◌, eqb}
+use Rattle.std.specs.Prelude.{Bool, not, ℕ, ◌-◌, eqb}
 use Rattle.std.proofs.Math.Bool.{true, false}
 use mathlib.Core.List.{List, [], ◌∷◌, ◌++◌}
 use Rattle.std.proofs.Math.ListN.{length, get_or}
@@ -10,7 +10,7 @@ use Rattle.refusal.specs.declared.Refusal.TheVariants.{CanonicalOrder, HiddenEls
 use Rattle.report.specs.Table.{entries}
 use Rattle.report.specs.Nodes.{Node, comp, case, pair, disconnect, injl, injr, take, drop, disconnect1, iden, unit, witness, fail, hidden, word}
 use Rattle.report.specs.Canonical.{children, is_done}
-use Rattle.scope.specs.Check.{Check, passed, refused, ◌>>=◌, require}
+use Rattle.scope.specs.Check.{Check, passed, ◌>>=◌, require}
 use Rattle.scope.specs.Numbers.{every, any_below, same}
 use Rattle.scope.specs.Nodes.{node_at, on_hidden}
 

@@ -1,10 +1,9 @@
 -- Witness bits: a compact value of its target for each witness node, in index order (15 at the node where they run out);
 -- then nothing left over, and leftover bits of the last byte zero (15 at the node count). Bytes above the limit are left over.
-use Rattle.std.specs.Prelude.{List, [], ◌∷◌, ◌++◌, ℕ, zero, suc, length, take}
+use Rattle.std.specs.Prelude.{List, [], ◌∷◌, ◌++◌, ℕ, suc, length, take}
 use Rattle.refusal.specs.declared.Refusal.TheVariants.{Witness}
 use Rattle.report.specs.Bits.{Bit}
-use Rattle.report.specs.Types.{Ty}
-use Rattle.report.specs.Values.{Val, ⟨⟩, Read, value, short, read_value}
+use Rattle.report.specs.Values.{Val, ⟨⟩, value, short, read_value}
 use Rattle.report.specs.Nodes.{Node}
 use Rattle.scope.specs.Check.{Check, passed, refused, ◌>>=◌, require}
 use Rattle.scope.specs.Numbers.{held_bits, stream_of, every}

@@ -1,6 +1,5 @@
 -- `common::answer_of` meets its contract.
 use mathlib.Core.Path.{sym, ap}
-use borrow.Author.Rules.{rules}
 use Rattle.common.specs.Answers.{answer_of}
 use Rattle.common.proofs.answer_of.Goals as goal
 

@@ -1,11 +1,10 @@
 -- `common::clear_bytes` meets its contract. The invariant: the store is as it was, with zeros from the index up to j. What is left of it is the measure.
 use mathlib.Core.List.{List}
-use mathlib.Core.Path.{◌≡◌, refl, ap, ◌∙◌}
-use Prim.Native.Nat.{ℕ, ◌-◌, ◌≤◌}
+use mathlib.Core.Path.{refl, ap, ◌∙◌}
+use Prim.Native.Nat.{ℕ}
 use native.Mathlib.Omega.{arith}
-use lib.ListN.{length, set, length-set}
-use borrow.Author.Rules.{rules}
-use Rattle.common.specs.Stores.{cleared_to, clear_none, clear_more, clear_all}
+use lib.ListN.{set, length-set}
+use Rattle.common.specs.Stores.{clear_none, clear_more, clear_all}
 use Rattle.common.proofs.clear_bytes.Goals as goal
 
 pub loop-j-init : goal.loop-j-init

@@ -1,11 +1,8 @@
 -- `common::clear_numbers` meets its contract. The invariant: the store is as it was, with zeros from the index up to j. What is left of it is the measure.
-use mathlib.Core.List.{List}
-use mathlib.Core.Path.{◌≡◌, refl, ap, ◌∙◌}
-use Prim.Native.Nat.{ℕ, ◌-◌, ◌≤◌}
-use native.Mathlib.Omega.{arith}
-use lib.ListN.{length, set, length-set}
-use borrow.Author.Rules.{rules}
-use Rattle.common.specs.Stores.{cleared_to, clear_none, clear_more, clear_all}
+use mathlib.Core.Path.{◌≡◌}
+use Prim.Native.Nat.{◌-◌, ◌≤◌}
+use lib.ListN.{length}
+use Rattle.common.specs.Stores.{cleared_to}
 use Rattle.common.proofs.clear_numbers.Given as goal
 
 abbrev pub invariant-loop-j : goal.invariant-loop-j

@@ -1,6 +1,5 @@
 -- `common::first_refusal` meets its contract: the first check's refusal, or the second check.
 use Rattle.scope.specs.Check.{◌>>=◌}
-use borrow.Author.Rules.{rules}
 use Rattle.common.proofs.first_refusal.Goals as goal
 
 pub returns-in_default : goal.returns-in_default

@@ -1,6 +1,5 @@
 -- `common::half_at` meets its contract.
 use mathlib.Core.Path.{sym}
-use borrow.Author.Rules.{rules}
 use Rattle.common.specs.Numbers.{half_past}
 use Rattle.common.proofs.half_at.Goals as goal
 

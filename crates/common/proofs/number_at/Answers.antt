@@ -1,6 +1,5 @@
 -- `common::number_at` meets its contract.
 use mathlib.Core.Path.{sym}
-use borrow.Author.Rules.{rules}
 use Rattle.common.specs.Numbers.{number_past}
 use Rattle.common.proofs.number_at.Goals as goal
 

@@ -1,6 +1,5 @@
 -- `common::same_bytes` meets its contract: what the comparison tells is what the test of two lists does.
 use Rattle.common.specs.Checks.{same_told}
-use borrow.Author.Rules.{rules}
 use Rattle.common.proofs.same_bytes.Goals as goal
 
 pub returns : goal.returns

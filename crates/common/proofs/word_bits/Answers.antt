@@ -1,7 +1,6 @@
 -- `common::word_bits` meets its contract: the shift loses nothing.
 use mathlib.Core.Path.{sym}
 use lib.Dec.{lit<}
-use borrow.Author.Rules.{rules}
 use Rattle.common.specs.Words.{word_none, word_over, word_exact, word_small}
 use Rattle.common.proofs.word_bits.Goals as goal
 
