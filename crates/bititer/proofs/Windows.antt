@@ -1,18 +1,14 @@
 -- Windows: some of the bits of a number as a part of it, four bytes as the window that stands in them, and what is cut out of a window.
 -- A natural's code within a window is read from its number: the ones that it begins with, then each length from the one before.
 use mathlib.Core.Path.{◌≡◌, refl, ap, ap₂, sym, subst, ◌∙◌}
-use mathlib.Core.Bool.{true, false}
 use mathlib.Core.List.{List, [], ◌∷◌, ◌++◌}
 use Prim.Native.Nat.{ℕ, zero, suc, ◌+◌, ◌*◌, ◌-◌, ◌/◌, ◌%◌, ◌^◌, ◌≤◌, ◌<◌}
 use native.Mathlib.Nat.{mod-lt, one-mul}
 use native.Mathlib.Omega.{arith}
-use native.Mathlib.Decide.{dec_lt}
 use borrow.Author.Tests.{le-leb, lt-leb}
-use lib.Dec.{leb}
 use lib.ListN.{length, get_or, take, drop, length-drop, take-append-drop}
 use lib.Pow.{high, low, shl-shr, shr-shr, field, pow_mono, pow_pos, shl_exact}
 use lib.Seq.{length-take-le, take-take, drop-drop, drop-cons}
-use Rattle.limits.specs.Limits.{natural_length, dossier_bytes}
 use Rattle.report.specs.Bits.{Bit, byte_bits, bits_of, number_from}
 use Rattle.scope.specs.Naturals.{natural, more_bits, of_length, read_natural}
 use Rattle.scope.specs.Numbers.{stream_of, be32}

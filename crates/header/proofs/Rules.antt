@@ -1,6 +1,6 @@
 -- The rules of the header's numbers as the check meets them, section by section, and what a header that passes tells of a section.
 use mathlib.Core.Path.{◌≡◌, refl, sym, ap, ◌∙◌}
-use mathlib.Core.Bool.{Bool, true, false}
+use mathlib.Core.Bool.{true}
 use mathlib.Core.List.{List, [], ◌∷◌}
 use Prim.Native.Nat.{ℕ, zero, suc, ◌+◌, ◌*◌, ◌-◌, ◌/◌, ◌≤◌, ◌<◌}
 use native.Mathlib.Numerals.{add-one}
@@ -14,10 +14,10 @@ use Rattle.refusal.specs.declared.Refusal.{Refusal}
 use Rattle.refusal.specs.declared.Refusal.TheVariants.{Header}
 use Rattle.scope.specs.Check.{Check, passed, refused, ◌>>=◌, require, first_failing, each}
 use Rattle.scope.specs.Numbers.{bytes_for, every}
-use Rattle.scope.specs.Header.{number, count, offset, size, start, count_rule, type_count_rule, offset_rule, total_rule, header_rule, check_header, section}
+use Rattle.scope.specs.Header.{number, count, offset, size, start, count_rule, type_count_rule, offset_rule, total_rule, header_rule, check_header}
 use Rattle.promise.specs.Parts.{Part, cut}
 use Rattle.common.specs.Numbers.{number_past as past_end}
-use Rattle.common.specs.Checks.{every_all, every_one, fails_here, holds_here, first_holds, both_passed, each_holds}
+use Rattle.common.specs.Checks.{every_all, every_one, fails_here, holds_here, both_passed, each_holds}
 use Rattle.header.specs.Sections.{section_part, opened_by, opened_part}
 
 module _ (d : List ℕ) where

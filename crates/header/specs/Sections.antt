@@ -1,5 +1,5 @@
 -- A section as that part of the dossier, its place fixed by the header's counts; what it holds is `section` and `opened` of the requirements.
-use Rattle.std.specs.Prelude.{◌≡◌, refl, List, [], ℕ}
+use Rattle.std.specs.Prelude.{◌≡◌, refl, [], ℕ}
 use Rattle.std.proofs.Common.{ap, ◌∙◌}
 use Rattle.promise.specs.Parts.{Part, cut}
 use Rattle.scope.specs.Check.{Check, passed, refused}

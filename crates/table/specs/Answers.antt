@@ -3,8 +3,6 @@ use Rattle.std.specs.Prelude.{ℕ}
 use Rattle.scope.specs.Check.{Check, passed, refused}
 use Rattle.scope.specs.Nodes.{NodeRecord}
 use Rattle.table.specs.declared.NodeRecord.{NodeRecord as Lent}
-use Rattle.common.specs.declared.Checked.{Checked}
-use Rattle.common.specs.declared.Checked.TheVariants.{Passed, Refused}
 use Rattle.table.specs.declared.Walked.{Walked}
 use Rattle.table.specs.declared.Walked.TheVariants.{Done, Refused as Stopped}
 

@@ -2,9 +2,8 @@
 use mathlib.Core.Path.{◌≡◌, sym}
 use Prim.Native.Nat.{◌+◌, ◌-◌, ◌/◌, ◌^◌, ◌≤◌}
 use native.Mathlib.Omega.{arith}
-use lib.Pow.{pow_mono, pow_pos}
+use lib.Pow.{pow_mono}
 use Rattle.bititer.proofs.Windows.{after_one_is, after_one_past, one_shifted, part_small}
-use borrow.Author.Rules.{rules}
 use Rattle.bititer.proofs.after_one.Goals as goal
 
 pub returns-then-count-gt-WINDOW_BITS : goal.returns-then-count-gt-WINDOW_BITS

@@ -5,7 +5,6 @@ use native.Mathlib.Omega.{arith}
 use lib.ListN.{length}
 use Rattle.scope.specs.Numbers.{stream_of}
 use Rattle.bititer.proofs.Streams.{length_stream, stream_inside, code_past, bit_here}
-use borrow.Author.Rules.{rules}
 use Rattle.bititer.proofs.bit.Goals as goal
 
 pub returns-then-stream_length-p : goal.returns-then-stream_length-p

@@ -1,13 +1,11 @@
 -- The bits of a length. The invariant: the number that all of them make is the one that those left make of n, and n has a bit for each
 -- that was read and one more, so that it fits. The bits that are left are the measure.
 use mathlib.Core.Path.{◌≡◌, refl, ap, sym, ◌∙◌}
-use Prim.Native.Nat.{◌+◌, ◌-◌, ◌^◌, ◌≤◌, ◌<◌}
+use Prim.Native.Nat.{◌+◌, ◌-◌}
 use native.Mathlib.Omega.{arith}
 use borrow.Author.Rules.{rules}
-use lib.ListN.{drop}
 use Rattle.scope.specs.Numbers.{stream_of}
 use lib.Dec.{lit<}
-use Rattle.scope.specs.Naturals.{more_bits}
 use Rattle.scope.specs.Reading.{got, code}
 use Rattle.bititer.specs.Answers.{got_code}
 use Rattle.bititer.proofs.Streams.{bit_below, bit_got, bit_ended}
@@ -36,7 +34,7 @@ pub overflow_add-n : goal.overflow_add-n
 overflow_add-n c =
     let a = c.args in
     let l = c.loop-left in
-        let d : code (stream_of a.s.now) 1 l.at ≡ got c.in-Read.b c.in-Read.next = sym c.bit.ensures ∙ ap got_code c.in-Read.is in
+    let d : code (stream_of a.s.now) 1 l.at ≡ got c.in-Read.b c.in-Read.next = sym c.bit.ensures ∙ ap got_code c.in-Read.is in
     let s = bit_below a.s.now l.at c.in-Read.b c.in-Read.next d in
     let f = bits_fit a.count l.left l.n c.in-Read.b (search rules) c.loop-left-test.true l.invariant.1 l.invariant.3 s in
     record { fits = f.1 }
@@ -45,7 +43,7 @@ pub loop-left-preserved : goal.loop-left-preserved
 loop-left-preserved c =
     let a = c.args in
     let l = c.loop-left in
-        let d : code (stream_of a.s.now) 1 l.at ≡ got c.in-Read.b c.in-Read.next = sym c.bit.ensures ∙ ap got_code c.in-Read.is in
+    let d : code (stream_of a.s.now) 1 l.at ≡ got c.in-Read.b c.in-Read.next = sym c.bit.ensures ∙ ap got_code c.in-Read.is in
     let s = bit_below a.s.now l.at c.in-Read.b c.in-Read.next d in
     let f = bits_fit a.count l.left l.n c.in-Read.b (search rules) c.loop-left-test.true l.invariant.1 l.invariant.3 s in
     let h = bit_got (stream_of a.s.now) l.at c.in-Read.b c.in-Read.next d in

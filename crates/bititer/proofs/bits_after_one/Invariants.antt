@@ -1,17 +1,10 @@
 -- The bits of a length. The invariant: the number that all of them make is the one that those left make of n, and n has a bit for each
 -- that was read and one more, so that it fits. The bits that are left are the measure.
-use mathlib.Core.Path.{◌≡◌, refl, ap, sym, ◌∙◌}
+use mathlib.Core.Path.{◌≡◌}
 use Prim.Native.Nat.{◌+◌, ◌-◌, ◌^◌, ◌≤◌, ◌<◌}
-use native.Mathlib.Omega.{arith}
-use borrow.Author.Rules.{rules}
 use lib.ListN.{drop}
 use Rattle.scope.specs.Numbers.{stream_of}
-use lib.Dec.{lit<}
 use Rattle.scope.specs.Naturals.{more_bits}
-use Rattle.scope.specs.Reading.{got, code}
-use Rattle.bititer.specs.Answers.{got_code}
-use Rattle.bititer.proofs.Streams.{bit_below, bit_got, bit_ended}
-use Rattle.bititer.proofs.Naturals.{bits_done_lem, bits_cut, bits_turn, bits_fit}
 use Rattle.bititer.proofs.bits_after_one.Given as goal
 
 abbrev pub invariant-loop-left : goal.invariant-loop-left

@@ -5,7 +5,6 @@ use native.Mathlib.Omega.{arith}
 use lib.ListN.{length, get_or}
 use Rattle.bititer.proofs.Bits.{byte_at}
 use Rattle.bititer.proofs.Octets.{byte_whole, byte_split}
-use borrow.Author.Rules.{rules}
 use Rattle.bititer.proofs.byte_from.Goals as goal
 
 pub returns-then-k-eq0 : goal.returns-then-k-eq0

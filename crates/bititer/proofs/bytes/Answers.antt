@@ -1,12 +1,11 @@
 -- Whole bytes into a store. The invariant: the store is as it was, with the first j of the bytes pasted in from `at` on.
 -- The bytes that are left are the measure.
-use borrow.Author.Tests.{leb-true, leb-false, not-true, not-false}
+use borrow.Author.Tests.{leb-true, leb-false}
 use mathlib.Core.Path.{◌≡◌, refl, ap, ap₂, sym, ◌∙◌}
 use mathlib.Core.List.{List}
-use Prim.Native.Nat.{ℕ, ◌+◌, ◌*◌, ◌-◌, ◌≤◌}
+use Prim.Native.Nat.{ℕ, ◌+◌, ◌*◌}
 use native.Mathlib.Numerals.{add-one}
 use native.Mathlib.Omega.{arith}
-use borrow.Author.Rules.{rules}
 use lib.ListN.{length, get_or, set, drop, length-set}
 use lib.Seq.{paste, paste-zero, paste-suc}
 use Rattle.report.specs.Bits.{bytes_of}

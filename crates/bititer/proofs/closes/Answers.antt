@@ -5,7 +5,6 @@ use native.Mathlib.Omega.{arith}
 use Rattle.scope.specs.Numbers.{stream_of}
 use Rattle.bititer.proofs.Streams.{stream_inside}
 use Rattle.bititer.proofs.Closing.{closes_past, closes_long, closes_end, closes_rest}
-use borrow.Author.Rules.{rules}
 use Rattle.bititer.proofs.closes.Goals as goal
 
 pub returns-then-all-p : goal.returns-then-all-p

@@ -1,15 +1,14 @@
 -- A natural with its bound: the one that its window begins with, or else the one that is read length by length.
-use mathlib.Core.Path.{◌≡◌, sym, ap, subst, ◌∙◌}
-use Prim.Native.Nat.{◌+◌, ◌≤◌}
+use mathlib.Core.Path.{sym, ap, subst, ◌∙◌}
+use Prim.Native.Nat.{◌+◌}
 use native.Mathlib.Omega.{arith}
-use lib.ListN.{length, drop, length-drop}
+use lib.ListN.{drop, length-drop}
 use lib.Seq.{drop-drop}
 use Rattle.scope.specs.Numbers.{stream_of}
-use Rattle.scope.specs.Naturals.{natural, read_natural}
+use Rattle.scope.specs.Naturals.{natural}
 use Rattle.bititer.specs.Windows.{got_window, BeginsWith}
 use Rattle.bititer.proofs.Naturals.{up_to_natural}
 use Rattle.bititer.proofs.Windows.{window_read}
-use borrow.Author.Rules.{rules}
 use Rattle.bititer.proofs.natural.Goals as goal
 
 pub returns : goal.returns
@@ -17,7 +16,7 @@ returns c =
     let a = c.args in
     let s = stream_of a.s.now in
     let w = c.in-Read.w in
-        let read = sym c.window.ensures
+    let read = sym c.window.ensures
     ∙ ap (got_window a.p) c.in-Read.is in
     let window = window_read a.s.now a.p w read in
     let m = subst (BeginsWith (drop a.p s)) c.in-Natural.is (c.natural_in.ensures (drop a.p s) window) in

@@ -1,14 +1,12 @@
 -- A natural with its bound. The invariant: the natural from p on is what the lengths that are left lead to from n.
 -- Those lengths are the measure.
 use mathlib.Core.Path.{◌≡◌, sym, ap, subst, ◌∙◌}
-use Prim.Native.Nat.{◌+◌, ◌-◌, ◌≤◌}
+use Prim.Native.Nat.{◌+◌, ◌-◌}
 use native.Mathlib.Omega.{arith}
-use borrow.Author.Rules.{rules}
-use lib.ListN.{length, drop, length-drop}
+use lib.ListN.{drop, length-drop}
 use Rattle.scope.specs.Numbers.{stream_of}
-use Rattle.scope.specs.Naturals.{natural, read_natural}
 use Rattle.bititer.specs.Answers.{at_most}
-use Rattle.bititer.specs.Parts.{of_lengths, OnesMean, BitsMean}
+use Rattle.bititer.specs.Parts.{OnesMean, BitsMean}
 use Rattle.bititer.proofs.Naturals.{lengths_turn, lengths_cut, lengths_stop, lengths_done, bits_got, up_to_ended, up_to_long, up_to_natural}
 use Rattle.bititer.proofs.natural_by_lengths.Goals as goal
 
@@ -44,7 +42,7 @@ loop-lengths-preserved c =
     let a = c.args in
     let s = stream_of a.s.now in
     let l = c.loop-lengths in
-        let m = subst (BitsMean s l.at l.n) c.in-Number-bits_after_one.is c.bits_after_one.ensures in
+    let m = subst (BitsMean s l.at l.n) c.in-Number-bits_after_one.is c.bits_after_one.ensures in
     let g = bits_got l.n 1 c.in-Number-bits_after_one.longer (drop l.at s) (drop c.in-Number-bits_after_one.next s) m.0 in (
       l.invariant.0 ∙ lengths_turn l.lengths l.n _ _ c.loop-lengths-test.true
           c.if-n-gt-NATURAL_LENGTH.false m.0,

@@ -1,15 +1,11 @@
 -- A natural with its bound. The invariant: the natural from p on is what the lengths that are left lead to from n.
 -- Those lengths are the measure.
-use mathlib.Core.Path.{◌≡◌, sym, ap, subst, ◌∙◌}
-use Prim.Native.Nat.{◌+◌, ◌-◌, ◌≤◌}
-use native.Mathlib.Omega.{arith}
-use borrow.Author.Rules.{rules}
-use lib.ListN.{length, drop, length-drop}
+use mathlib.Core.Path.{◌≡◌}
+use Prim.Native.Nat.{◌≤◌}
+use lib.ListN.{length, drop}
 use Rattle.scope.specs.Numbers.{stream_of}
 use Rattle.scope.specs.Naturals.{natural, read_natural}
-use Rattle.bititer.specs.Answers.{at_most}
-use Rattle.bititer.specs.Parts.{of_lengths, OnesMean, BitsMean}
-use Rattle.bititer.proofs.Naturals.{lengths_turn, lengths_cut, lengths_stop, lengths_done, bits_got, up_to_ended, up_to_long, up_to_natural}
+use Rattle.bititer.specs.Parts.{of_lengths}
 use Rattle.bititer.proofs.natural_by_lengths.Given as goal
 
 abbrev pub invariant-loop-lengths : goal.invariant-loop-lengths

@@ -1,12 +1,11 @@
 -- The natural that a window begins with: after no, one, two or three ones, each length told by the one before it.
-use mathlib.Core.Path.{◌≡◌, ap, ap₂, sym, ◌∙◌}
+use mathlib.Core.Path.{ap, ap₂, sym, ◌∙◌}
 use Prim.Native.Nat.{ℕ, ◌+◌, ◌<◌}
 use native.Mathlib.Omega.{arith}
 use lib.ListN.{drop}
 use Rattle.scope.specs.Naturals.{natural}
 use Rattle.bititer.specs.Windows.{after_one}
 use Rattle.bititer.proofs.Windows.{after_one_under, no_ones, one_one, two_ones, three_ones}
-use borrow.Author.Rules.{rules}
 use Rattle.bititer.proofs.natural_in.Goals as goal
 
 pub returns-then-w-lt-ONE : goal.returns-then-w-lt-ONE
@@ -15,9 +14,9 @@ returns-then-w-lt-ONE c = λ l window. (no_ones l _ window c.if-w-lt-ONE.true, o
 pub returns-then-w-lt-TWO_ONES : goal.returns-then-w-lt-TWO_ONES
 returns-then-w-lt-TWO_ONES c =
     λ l window. (
-  one_one l _ window c.if-w-lt-ONE.false c.if-w-lt-TWO_ONES.true ∙ ap (λ (n : ℕ). natural n (drop 3 l)) (sym c.after_one.ensures),
-  omega arith,
-)
+      one_one l _ window c.if-w-lt-ONE.false c.if-w-lt-TWO_ONES.true ∙ ap (λ (n : ℕ). natural n (drop 3 l)) (sym c.after_one.ensures),
+      omega arith,
+    )
 
 pub overflow_add-result : goal.overflow_add-result
 overflow_add-result c =

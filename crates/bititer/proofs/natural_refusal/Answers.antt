@@ -1,6 +1,5 @@
 -- `bititer::natural_refusal` meets its contract, case by case.
 use mathlib.Core.Path.{sym, ap}
-use borrow.Author.Rules.{rules}
 use Rattle.scope.specs.Reading.{refusal_at}
 use Rattle.bititer.specs.declared.NaturalFault.{NaturalFault}
 use Rattle.bititer.specs.Answers.{natural_fault}

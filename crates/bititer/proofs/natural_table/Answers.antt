@@ -3,7 +3,6 @@ use mathlib.Core.Path.{refl}
 use Rattle.scope.specs.Numbers.{tabulate_from, tabulate}
 use Rattle.scope.specs.Naturals.{more_bits, of_length, read_natural}
 use Rattle.bititer.specs.Windows.{entry_of, natural_entries}
-use borrow.Author.Rules.{rules}
 use Rattle.bititer.proofs.natural_table.Goals as goal
 
 pub returns : goal.returns

@@ -1,16 +1,11 @@
 -- The ones that begin a natural. The invariant: the natural from p on is what as many lengths as ones were passed lead to from the
 -- natural that is left. The bits that are left are the measure.
-use mathlib.Core.Path.{◌≡◌, ap, sym, ◌∙◌}
+use mathlib.Core.Path.{◌≡◌}
 use Prim.Native.Nat.{◌-◌, ◌≤◌}
-use native.Mathlib.Omega.{arith}
-use borrow.Author.Rules.{rules}
 use lib.ListN.{length, drop}
 use Rattle.scope.specs.Numbers.{stream_of}
 use Rattle.scope.specs.Naturals.{read_natural}
-use Rattle.bititer.specs.Answers.{got_code}
 use Rattle.bititer.specs.Parts.{of_lengths}
-use Rattle.bititer.proofs.Streams.{length_stream, bit_got, bit_ended}
-use Rattle.bititer.proofs.Naturals.{natural_none, natural_zero, natural_one, lengths_none, lengths_more, lengths_ended}
 use Rattle.bititer.proofs.ones.Given as goal
 
 abbrev pub invariant-loop-b : goal.invariant-loop-b

@@ -3,7 +3,6 @@ use mathlib.Core.Path.{sym}
 use native.Mathlib.Omega.{arith}
 use Rattle.common.specs.Bits.{length_within}
 use Rattle.bititer.proofs.Streams.{length_over}
-use borrow.Author.Rules.{rules}
 use Rattle.bititer.proofs.stream_length.Goals as goal
 
 pub returns-then-s-gt-DOSSIER_BYTES : goal.returns-then-s-gt-DOSSIER_BYTES

@@ -5,7 +5,6 @@ use Rattle.scope.specs.Numbers.{stream_of}
 use Rattle.scope.specs.Reading.{got, code}
 use Rattle.bititer.specs.Answers.{got_code}
 use Rattle.bititer.proofs.Streams.{bit_below, two_got, two_ended, two_cut}
-use borrow.Author.Rules.{rules}
 use Rattle.bititer.proofs.two_bits.Goals as goal
 
 pub returns-in_default : goal.returns-in_default
@@ -17,7 +16,7 @@ pub returns-in_default-bit : goal.returns-in_default-bit
 returns-in_default-bit c =
     let s = stream_of c.args.s.now in
     let p = c.args.p in
-        let a : code s 1 p ≡ got c.in-Read.high c.in-Read.middle = sym c.bit.ensures ∙ ap got_code c.in-Read.is in
+    let a : code s 1 p ≡ got c.in-Read.high c.in-Read.middle = sym c.bit.ensures ∙ ap got_code c.in-Read.is in
     sym (two_cut s p c.in-Read.high c.in-Read.middle a (sym c.bit-2.ensures ∙ ap got_code c.in_default-bit.is))
 
 pub overflow_mul-result : goal.overflow_mul-result
@@ -32,9 +31,9 @@ pub overflow_add-result : goal.overflow_add-result
 overflow_add-result c =
     let s = stream_of c.args.s.now in
     let p = c.args.p in
-        let a : code s 1 p ≡ got c.in-Read.high c.in-Read.middle =
+    let a : code s 1 p ≡ got c.in-Read.high c.in-Read.middle =
     sym c.bit.ensures ∙ ap got_code c.in-Read.is in
-        let b : code s 1 c.in-Read.middle ≡ got c.in-Read-bit.low c.in-Read-bit.next = sym c.bit-2.ensures ∙ ap got_code c.in-Read-bit.is in
+    let b : code s 1 c.in-Read.middle ≡ got c.in-Read-bit.low c.in-Read-bit.next = sym c.bit-2.ensures ∙ ap got_code c.in-Read-bit.is in
     let x = bit_below c.args.s.now p c.in-Read.high c.in-Read.middle a in
     let y = bit_below c.args.s.now c.in-Read.middle c.in-Read-bit.low c.in-Read-bit.next b in
     omega arith
@@ -43,7 +42,7 @@ pub returns : goal.returns
 returns c =
     let s = stream_of c.args.s.now in
     let p = c.args.p in
-        let a : code s 1 p ≡ got c.in-Read.high c.in-Read.middle =
+    let a : code s 1 p ≡ got c.in-Read.high c.in-Read.middle =
     sym c.bit.ensures ∙ ap got_code c.in-Read.is in
-        let b : code s 1 c.in-Read.middle ≡ got c.in-Read-bit.low c.in-Read-bit.next = sym c.bit-2.ensures ∙ ap got_code c.in-Read-bit.is in
+    let b : code s 1 c.in-Read.middle ≡ got c.in-Read-bit.low c.in-Read-bit.next = sym c.bit-2.ensures ∙ ap got_code c.in-Read-bit.is in
     sym (two_got s p c.in-Read.high c.in-Read.middle c.in-Read-bit.low c.in-Read-bit.next a b)

@@ -11,7 +11,6 @@ use Rattle.common.specs.Bits.{stream_within, length_within}
 use Rattle.bititer.specs.Windows.{window_bits}
 use Rattle.bititer.proofs.Streams.{length_over, length_stream, code_past, code_within}
 use Rattle.bititer.proofs.Windows.{window_number}
-use borrow.Author.Rules.{rules}
 use Rattle.bititer.proofs.window.Goals as goal
 
 pub returns-then-all-i : goal.returns-then-all-i

@@ -2,7 +2,6 @@
 use Rattle.cells.proofs.Bytes.{past_read}
 use Rattle.bititer.proofs.Bits.{bit_at_lem}
 use mathlib.Core.Path.{sym}
-use borrow.Author.Rules.{rules}
 use Rattle.cells.proofs.cell.Goals as goal
 
 pub returns-then-i-cells : goal.returns-then-i-cells

@@ -2,13 +2,12 @@
 -- Those bytes are the measure.
 use Rattle.cells.proofs.Copies.{copy_start, copy_done}
 use Rattle.cells.proofs.Runs.{byte_bits_lem, bytes_apart, copy_byte}
-use Rattle.common.specs.Cells.{copy_bits, bits_from}
+use Rattle.common.specs.Cells.{bits_from}
 use Rattle.report.specs.Bits.{bits_of}
-use lib.ListN.{length, length-set}
-use Prim.Native.Nat.{ℕ, ◌+◌, ◌*◌, ◌-◌, ◌≤◌}
+use lib.ListN.{length-set}
+use Prim.Native.Nat.{ℕ, ◌+◌, ◌*◌}
 use mathlib.Core.Path.{◌≡◌, refl, ap, sym, ◌∙◌}
 use native.Mathlib.Omega.{arith}
-use borrow.Author.Rules.{rules}
 use Rattle.cells.proofs.copy_bytes.Goals as goal
 
 pub loop-i-init : goal.loop-i-init

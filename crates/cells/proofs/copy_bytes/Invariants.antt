@@ -1,14 +1,10 @@
 -- Whole bytes copied. The invariant: the copy of all k bytes of the old list is that of the bytes left, in the list as it is now, as bits.
 -- Those bytes are the measure.
-use Rattle.cells.proofs.Copies.{copy_start, copy_done}
-use Rattle.cells.proofs.Runs.{byte_bits_lem, bytes_apart, copy_byte}
-use Rattle.common.specs.Cells.{copy_bits, bits_from}
+use Rattle.common.specs.Cells.{copy_bits}
 use Rattle.report.specs.Bits.{bits_of}
-use lib.ListN.{length, length-set}
-use Prim.Native.Nat.{ℕ, ◌+◌, ◌*◌, ◌-◌, ◌≤◌}
-use mathlib.Core.Path.{◌≡◌, refl, ap, sym, ◌∙◌}
-use native.Mathlib.Omega.{arith}
-use borrow.Author.Rules.{rules}
+use lib.ListN.{length}
+use Prim.Native.Nat.{◌+◌, ◌*◌, ◌-◌, ◌≤◌}
+use mathlib.Core.Path.{◌≡◌}
 use Rattle.cells.proofs.copy_bytes.Given as goal
 
 abbrev pub invariant-loop-i : goal.invariant-loop-i

@@ -1,12 +1,10 @@
 -- A run of cells copied. The invariant: the copy of the cells that the whole bytes left is that of the cells left, in the list as it is now.
 -- Those cells are the measure.
-use Rattle.cells.proofs.Copies.{copy_turn, copy_done}
 use Rattle.common.specs.Cells.{copy_bits}
 use Rattle.report.specs.Bits.{bits_of}
 use lib.ListN.{length}
 use Prim.Native.Nat.{◌+◌, ◌-◌, ◌≤◌}
-use mathlib.Core.Path.{◌≡◌, refl, sym, ◌∙◌}
-use borrow.Author.Rules.{rules}
+use mathlib.Core.Path.{◌≡◌}
 use Rattle.cells.proofs.copy_cells.Given as goal
 
 abbrev pub invariant-loop-i : goal.invariant-loop-i

@@ -3,14 +3,12 @@
 use Rattle.cells.proofs.Parts.{one_put}
 use Rattle.cells.proofs.Copies.{copy_start, copy_turn, copy_step, one_apart}
 use Rattle.cells.proofs.Runs.{whole_copied}
-use Rattle.common.specs.Cells.{copy_bits}
 use Rattle.report.specs.Bits.{bits_of}
 use Rattle.bititer.proofs.Bits.{bit_small}
 use lib.ListN.{length}
 use Prim.Native.Nat.{◌+◌, ◌*◌, ◌-◌, ◌/◌, ◌%◌, ◌≤◌}
 use mathlib.Core.Path.{◌≡◌, refl, ◌∙◌}
 use native.Mathlib.Omega.{arith}
-use borrow.Author.Tests.{eqb-true, not-false, ltb-false}
 use borrow.Author.Rules.{rules}
 use Rattle.cells.proofs.copy_front.Goals as goal
 

@@ -4,10 +4,9 @@ use Rattle.cells.proofs.Copies.{copy_step, one_apart, far}
 use Rattle.report.specs.Bits.{bits_of}
 use Rattle.bititer.proofs.Bits.{bit_small}
 use mathlib.Core.Path.{sym, ◌∙◌}
-use mathlib.Core.Logic.{◌⊎◌, inl, inr, ⊎_elim}
+use mathlib.Core.Logic.{◌⊎◌, inl, inr}
 use Prim.Native.Nat.{◌+◌, ◌≤◌}
 use native.Mathlib.Omega.{arith}
-use borrow.Author.Tests.{eqb-true}
 use borrow.Author.Rules.{rules}
 use Rattle.cells.proofs.copy_step.Goals as goal
 use Rattle.cells.proofs.copy_step.Goals.{then-to-from, else-to-from}

@@ -2,7 +2,6 @@
 use Rattle.cells.proofs.Bytes.{byte_whole, across_fits, byte_across}
 use native.Mathlib.Omega.{arith}
 use Prim.Native.Nat.{◌%◌}
-use borrow.Author.Rules.{rules}
 use Rattle.cells.proofs.eight_at.Goals as goal
 
 pub returns-then-k-eq0 : goal.returns-then-k-eq0

@@ -1,12 +1,9 @@
 -- Bits of a source put into the cells. The invariant: putting the bits that the whole bytes left is putting those left into the list as it is now.
 -- Those bits are the measure.
 use Rattle.cells.proofs.Parts.{put_turn, put_done}
-use Rattle.common.specs.Cells.{bits_from}
-use lib.Seq.{sets}
 use Rattle.report.specs.Bits.{bits_of}
-use lib.ListN.{length}
-use Prim.Native.Nat.{◌+◌, ◌-◌, ◌≤◌}
-use mathlib.Core.Path.{◌≡◌, refl, sym, ◌∙◌}
+use Prim.Native.Nat.{◌+◌}
+use mathlib.Core.Path.{refl, sym, ◌∙◌}
 use borrow.Author.Rules.{rules}
 use Rattle.cells.proofs.put_bits.Goals as goal
 

@@ -1,13 +1,11 @@
 -- Bits of a source put into the cells. The invariant: putting the bits that the whole bytes left is putting those left into the list as it is now.
 -- Those bits are the measure.
-use Rattle.cells.proofs.Parts.{put_turn, put_done}
 use Rattle.common.specs.Cells.{bits_from}
 use lib.Seq.{sets}
 use Rattle.report.specs.Bits.{bits_of}
 use lib.ListN.{length}
 use Prim.Native.Nat.{◌+◌, ◌-◌, ◌≤◌}
-use mathlib.Core.Path.{◌≡◌, refl, sym, ◌∙◌}
-use borrow.Author.Rules.{rules}
+use mathlib.Core.Path.{◌≡◌}
 use Rattle.cells.proofs.put_bits.Given as goal
 
 abbrev pub invariant-loop-put : goal.invariant-loop-put

@@ -1,7 +1,6 @@
 -- A byte stored is its eight bits put; past the end nothing is.
 use mathlib.Core.Path.{sym}
 use Rattle.cells.proofs.Bytes.{byte_set, past_byte}
-use borrow.Author.Rules.{rules}
 use Rattle.cells.proofs.put_byte.Goals as goal
 
 pub returns-then-i-cells : goal.returns-then-i-cells

@@ -4,12 +4,10 @@ use Rattle.cells.proofs.Parts.{put_start, put_done}
 use Rattle.cells.proofs.Runs.{byte_bits_lem, put_byte}
 use Rattle.common.specs.Cells.{bits_from}
 use Rattle.report.specs.Bits.{bits_of}
-use lib.ListN.{length, length-set}
-use lib.Seq.{sets}
-use Prim.Native.Nat.{ℕ, ◌+◌, ◌*◌, ◌-◌, ◌≤◌}
+use lib.ListN.{length-set}
+use Prim.Native.Nat.{ℕ, ◌+◌, ◌*◌}
 use mathlib.Core.Path.{◌≡◌, refl, ap, sym, ◌∙◌}
 use native.Mathlib.Omega.{arith}
-use borrow.Author.Rules.{rules}
 use Rattle.cells.proofs.put_bytes.Goals as goal
 
 pub loop-put-init : goal.loop-put-init

@@ -1,15 +1,11 @@
 -- Whole bytes of a source put into the cells. The invariant: putting all k bytes into the old list is putting those left into the list as
 -- it is now, as bits. Those bytes are the measure.
-use Rattle.cells.proofs.Parts.{put_start, put_done}
-use Rattle.cells.proofs.Runs.{byte_bits_lem, put_byte}
 use Rattle.common.specs.Cells.{bits_from}
 use Rattle.report.specs.Bits.{bits_of}
-use lib.ListN.{length, length-set}
+use lib.ListN.{length}
 use lib.Seq.{sets}
-use Prim.Native.Nat.{ℕ, ◌+◌, ◌*◌, ◌-◌, ◌≤◌}
-use mathlib.Core.Path.{◌≡◌, refl, ap, sym, ◌∙◌}
-use native.Mathlib.Omega.{arith}
-use borrow.Author.Rules.{rules}
+use Prim.Native.Nat.{◌+◌, ◌*◌, ◌-◌, ◌≤◌}
+use mathlib.Core.Path.{◌≡◌}
 use Rattle.cells.proofs.put_bytes.Given as goal
 
 abbrev pub invariant-loop-put : goal.invariant-loop-put

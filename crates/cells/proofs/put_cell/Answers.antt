@@ -2,7 +2,6 @@
 use Rattle.cells.proofs.Bytes.{cell_set, past_set}
 use Prim.Native.Nat.{◌%◌}
 use mathlib.Core.Path.{sym}
-use borrow.Author.Rules.{rules}
 use Rattle.cells.proofs.put_cell.Goals as goal
 
 pub returns-then-i-cells : goal.returns-then-i-cells

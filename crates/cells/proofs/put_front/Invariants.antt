@@ -1,17 +1,11 @@
 -- Whole bytes of a source put into the cells, and the bits before them. The invariant: putting all n bits into the old list is putting those
 -- left into the list as it is now, and the bits put do not pass the next byte. The bits left are the measure.
-use Rattle.cells.proofs.Parts.{one_put, put_start, put_turn, put_step}
-use Rattle.cells.proofs.Runs.{whole_put}
 use Rattle.common.specs.Cells.{bits_from}
 use lib.Seq.{sets}
 use Rattle.report.specs.Bits.{bits_of}
-use Rattle.bititer.proofs.Bits.{bit_small}
 use lib.ListN.{length}
-use Prim.Native.Nat.{◌+◌, ◌*◌, ◌-◌, ◌/◌, ◌%◌, ◌≤◌}
-use mathlib.Core.Path.{◌≡◌, refl, ◌∙◌}
-use native.Mathlib.Omega.{arith}
-use borrow.Author.Tests.{eqb-true, not-false, ltb-false}
-use borrow.Author.Rules.{rules}
+use Prim.Native.Nat.{◌+◌, ◌-◌, ◌%◌, ◌≤◌}
+use mathlib.Core.Path.{◌≡◌}
 use Rattle.cells.proofs.put_front.Given as goal
 
 abbrev pub invariant-loop-i : goal.invariant-loop-i

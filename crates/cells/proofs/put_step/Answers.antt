@@ -3,7 +3,6 @@ use Rattle.cells.proofs.Parts.{one_put, eight_put, put_step}
 use Rattle.report.specs.Bits.{bits_of}
 use Rattle.bititer.proofs.Bits.{bit_small}
 use Prim.Native.Nat.{◌≤◌}
-use borrow.Author.Tests.{eqb-true}
 use borrow.Author.Rules.{rules}
 use Rattle.cells.proofs.put_step.Goals as goal
 

@@ -1,7 +1,6 @@
 -- `cells::read_eight` meets its contract: a byte is the number of its bits.
 use mathlib.Core.Path.{sym, ap, ◌∙◌}
 use native.Mathlib.Omega.{arith}
-use borrow.Author.Rules.{rules}
 use Rattle.report.specs.Bits.{number_from}
 use Rattle.common.specs.Bits.{bits_of_byte}
 use Rattle.cells.proofs.read_eight.Goals as goal

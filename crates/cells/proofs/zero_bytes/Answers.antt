@@ -2,14 +2,11 @@
 -- Those bytes are the measure.
 use Rattle.cells.proofs.Parts.{zero_start, zero_done}
 use Rattle.cells.proofs.Runs.{zero_byte}
-use Rattle.scope.specs.Numbers.{zeros}
 use Rattle.report.specs.Bits.{bits_of}
-use lib.ListN.{length, length-set}
-use lib.Seq.{sets}
-use Prim.Native.Nat.{◌+◌, ◌*◌, ◌-◌, ◌≤◌}
-use mathlib.Core.Path.{◌≡◌, refl, sym, ◌∙◌}
+use lib.ListN.{length-set}
+use Prim.Native.Nat.{◌+◌, ◌*◌}
+use mathlib.Core.Path.{refl, sym, ◌∙◌}
 use native.Mathlib.Omega.{arith}
-use borrow.Author.Rules.{rules}
 use Rattle.cells.proofs.zero_bytes.Goals as goal
 
 pub loop-done-init : goal.loop-done-init

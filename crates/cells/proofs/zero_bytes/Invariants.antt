@@ -1,15 +1,11 @@
 -- Whole bytes cleared. The invariant: clearing all k bytes of the old list is clearing those left, in the list as it is now, as bits.
 -- Those bytes are the measure.
-use Rattle.cells.proofs.Parts.{zero_start, zero_done}
-use Rattle.cells.proofs.Runs.{zero_byte}
 use Rattle.scope.specs.Numbers.{zeros}
 use Rattle.report.specs.Bits.{bits_of}
-use lib.ListN.{length, length-set}
+use lib.ListN.{length}
 use lib.Seq.{sets}
 use Prim.Native.Nat.{◌+◌, ◌*◌, ◌-◌, ◌≤◌}
-use mathlib.Core.Path.{◌≡◌, refl, sym, ◌∙◌}
-use native.Mathlib.Omega.{arith}
-use borrow.Author.Rules.{rules}
+use mathlib.Core.Path.{◌≡◌}
 use Rattle.cells.proofs.zero_bytes.Given as goal
 
 abbrev pub invariant-loop-done : goal.invariant-loop-done

@@ -1,13 +1,11 @@
 -- A run of cells cleared. The invariant: clearing the cells that the whole bytes left is clearing those left, in the list as it is now.
 -- Those cells are the measure.
-use Rattle.cells.proofs.Parts.{zero_turn, zero_done}
 use Rattle.scope.specs.Numbers.{zeros}
 use lib.Seq.{sets}
 use Rattle.report.specs.Bits.{bits_of}
 use lib.ListN.{length}
 use Prim.Native.Nat.{◌+◌, ◌-◌, ◌≤◌}
-use mathlib.Core.Path.{◌≡◌, refl, sym, ◌∙◌}
-use borrow.Author.Rules.{rules}
+use mathlib.Core.Path.{◌≡◌}
 use Rattle.cells.proofs.zero_cells.Given as goal
 
 abbrev pub invariant-loop-done : goal.invariant-loop-done

@@ -2,14 +2,11 @@
 -- as it is now, and the cells cleared do not pass the next byte. The cells left are the measure.
 use Rattle.cells.proofs.Parts.{zero_start, zero_turn, zero_step}
 use Rattle.cells.proofs.Runs.{whole_cleared}
-use Rattle.scope.specs.Numbers.{zeros}
-use lib.Seq.{sets}
 use Rattle.report.specs.Bits.{bits_of}
 use lib.ListN.{length}
-use Prim.Native.Nat.{◌+◌, ◌*◌, ◌-◌, ◌/◌, ◌%◌, ◌≤◌}
+use Prim.Native.Nat.{◌+◌, ◌*◌, ◌-◌, ◌/◌, ◌≤◌}
 use mathlib.Core.Path.{◌≡◌, refl, ◌∙◌}
 use native.Mathlib.Omega.{arith}
-use borrow.Author.Tests.{ltb-false}
 use borrow.Author.Rules.{rules}
 use Rattle.cells.proofs.zero_front.Goals as goal
 

@@ -1,16 +1,11 @@
 -- Whole bytes cleared, and the cells before them. The invariant: clearing all n cells of the old list is clearing those left, in the list
 -- as it is now, and the cells cleared do not pass the next byte. The cells left are the measure.
-use Rattle.cells.proofs.Parts.{zero_start, zero_turn, zero_step}
-use Rattle.cells.proofs.Runs.{whole_cleared}
 use Rattle.scope.specs.Numbers.{zeros}
 use lib.Seq.{sets}
 use Rattle.report.specs.Bits.{bits_of}
 use lib.ListN.{length}
-use Prim.Native.Nat.{◌+◌, ◌*◌, ◌-◌, ◌/◌, ◌%◌, ◌≤◌}
-use mathlib.Core.Path.{◌≡◌, refl, ◌∙◌}
-use native.Mathlib.Omega.{arith}
-use borrow.Author.Tests.{ltb-false}
-use borrow.Author.Rules.{rules}
+use Prim.Native.Nat.{◌+◌, ◌-◌, ◌%◌, ◌≤◌}
+use mathlib.Core.Path.{◌≡◌}
 use Rattle.cells.proofs.zero_front.Given as goal
 
 abbrev pub invariant-loop-i : goal.invariant-loop-i

@@ -2,7 +2,6 @@
 use Rattle.cells.proofs.Parts.{eight_zeros, zero_step}
 use Rattle.report.specs.Bits.{bits_of}
 use Prim.Native.Nat.{◌≤◌}
-use borrow.Author.Tests.{eqb-true}
 use borrow.Author.Rules.{rules}
 use Rattle.cells.proofs.zero_step.Goals as goal
 

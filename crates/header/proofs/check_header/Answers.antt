@@ -1,7 +1,6 @@
 -- `header::check_header` meets its contract: too short, too long, and the first wrong number.
 use mathlib.Core.Path.{sym, ◌∙◌}
 use native.Mathlib.Omega.{arith}
-use borrow.Author.Rules.{rules}
 use Rattle.scope.specs.Header.{header_rule}
 use Rattle.common.specs.Checks.{first_before}
 use Rattle.header.proofs.Rules.{too_short, too_long_lem, judged_wrong, judged_right}

@@ -1,5 +1,4 @@
 -- `header::count` meets its contract.
-use borrow.Author.Rules.{rules}
 use Rattle.scope.specs.Header as Header
 use Rattle.header.proofs.Rules.{count_past}
 use Rattle.header.proofs.count.Goals as goal

@@ -1,12 +1,10 @@
 -- `header::first_wrong` meets its contract.
 -- The loop's invariant: the first wrong number of all is the first from the count of section k on, and section k has to start at `place`.
-use mathlib.Core.Path.{◌≡◌, refl, sym, ap, ◌∙◌}
+use mathlib.Core.Path.{◌≡◌}
 use Prim.Native.Nat.{◌-◌, ◌≤◌}
-use native.Mathlib.Omega.{arith}
-use borrow.Author.Rules.{rules}
 use Rattle.limits.specs.Limits.{dossier_bytes}
-use Rattle.scope.specs.Header.{number, count, size, start}
-use Rattle.header.proofs.Rules.{first_wrong, wrong_from, version_wrong, version_right, no_types, many_types, next_start, count_wrong, offset_wrong, section_right, total_wrong, end_wrong, total_right}
+use Rattle.scope.specs.Header.{start}
+use Rattle.header.proofs.Rules.{first_wrong, wrong_from}
 use Rattle.header.proofs.first_wrong.Given as goal
 
 abbrev pub invariant-loop-k : goal.invariant-loop-k

@@ -1,5 +1,4 @@
 -- `header::number` meets its contract.
-use borrow.Author.Rules.{rules}
 use Rattle.scope.specs.Header as Header
 use Rattle.header.proofs.Rules.{number_past}
 use Rattle.header.proofs.number.Goals as goal

@@ -1,6 +1,5 @@
 -- `header::opened` meets its contract: nothing of a header that is refused, and else the section.
 use mathlib.Core.Path.{sym, ap, ◌∙◌}
-use borrow.Author.Rules.{rules}
 use Rattle.common.specs.Answers.{check_of}
 use Rattle.header.proofs.Rules.{opened_passed, opened_refused}
 use Rattle.header.proofs.opened.Goals as goal

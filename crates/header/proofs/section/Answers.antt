@@ -1,7 +1,5 @@
 -- `header::section` meets its contract: the part that start and size name; past the last section they name the end of all.
-use mathlib.Core.Path.{◌≡◌, sym, ap₂, ◌∙◌}
-use Prim.Native.Nat.{ℕ}
-use borrow.Author.Rules.{rules}
+use mathlib.Core.Path.{ap₂, ◌∙◌}
 use Rattle.promise.specs.Parts.{part_of, cut}
 use Rattle.header.proofs.Rules.{start_end, size_none}
 use Rattle.header.proofs.section.Goals as goal

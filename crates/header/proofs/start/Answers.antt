@@ -1,6 +1,5 @@
 -- `header::start` meets its contract: the loop carries where section j has to start.
 use mathlib.Core.Path.{◌≡◌, refl, ap, ◌∙◌}
-use Prim.Native.Nat.{◌+◌, ◌*◌, ◌-◌, ◌^◌, ◌≤◌}
 use borrow.Author.Rules.{rules}
 use Rattle.scope.specs.Header as Header
 use Rattle.header.proofs.Rules.{next_start}

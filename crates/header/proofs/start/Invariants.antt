@@ -1,9 +1,7 @@
 -- `header::start` meets its contract: the loop carries where section j has to start.
-use mathlib.Core.Path.{◌≡◌, refl, ap, ◌∙◌}
+use mathlib.Core.Path.{◌≡◌}
 use Prim.Native.Nat.{◌+◌, ◌*◌, ◌-◌, ◌^◌, ◌≤◌}
-use borrow.Author.Rules.{rules}
 use Rattle.scope.specs.Header as Header
-use Rattle.header.proofs.Rules.{next_start}
 use Rattle.header.proofs.start.Given as goal
 
 abbrev pub invariant-loop-j : goal.invariant-loop-j

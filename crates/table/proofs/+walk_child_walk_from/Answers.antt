@@ -3,8 +3,6 @@
 use Rattle.table.proofs.Steps.{child_below, child_not_below, walk_done, left_stops, right_stops, both_pass}
 use Rattle.table.specs.Answers.{walked_of}
 use mathlib.Core.Path.{sym, ap, ◌∙◌, refl}
-use borrow.Author.Rules.{rules}
-use Prim.Native.Nat.{ℕ, ◌<◌, ◌+◌, ◌*◌}
 use Rattle.table.proofs.+walk_child_walk_from.Goals as goal
 
 pub walk_child-returns-then-i-j : goal.walk_child-returns-then-i-j

@@ -1,7 +1,6 @@
 -- `table::allowed` meets its contract: a hidden node, a case, any other node.
 use Rattle.table.proofs.Steps.{asks_hidden, asks_case, asks_other}
 use mathlib.Core.Path.{sym, ◌∙◌}
-use borrow.Author.Rules.{rules}
 use Rattle.table.proofs.allowed.Goals as goal
 
 pub returns-then-is_hidden : goal.returns-then-is_hidden

@@ -2,7 +2,6 @@
 use Rattle.table.proofs.Steps.{turn_refused, turn_passed}
 use Rattle.common.specs.Answers.{check_of}
 use mathlib.Core.Path.{ap}
-use borrow.Author.Rules.{rules}
 use Rattle.table.proofs.arrive.Goals as goal
 
 pub returns-in-Passed : goal.returns-in-Passed

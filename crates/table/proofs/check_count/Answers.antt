@@ -1,7 +1,6 @@
 -- `table::check_count` meets its contract: the records are a fourth of the numbers.
 use mathlib.Core.Path.{sym, ap, ◌∙◌}
 use Prim.Native.Nat.{ℕ}
-use borrow.Author.Rules.{rules}
 use Rattle.limits.specs.Limits.{node_count}
 use Rattle.scope.specs.Stages.{counted}
 use Rattle.common.specs.Nodes.{length_records}

@@ -1,7 +1,6 @@
 -- `table::finished` meets its contract, case by case.
 use Rattle.table.specs.Answers.{finish_of}
 use mathlib.Core.Path.{sym, ap}
-use borrow.Author.Rules.{rules}
 use Rattle.table.proofs.finished.Goals as goal
 
 pub returns-in-Refused : goal.returns-in-Refused

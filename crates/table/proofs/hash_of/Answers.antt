@@ -3,7 +3,6 @@ use Rattle.table.proofs.Hashes.{hash_at}
 use Rattle.table.proofs.Groups.{no_hash}
 use Rattle.promise.specs.Parts.{Part}
 use mathlib.Core.Path.{sym, ap, ◌∙◌}
-use borrow.Author.Rules.{rules}
 use Rattle.table.proofs.hash_of.Goals as goal
 
 pub returns-then-r-ne-HIDDEN : goal.returns-then-r-ne-HIDDEN

@@ -4,7 +4,6 @@ use Rattle.table.specs.Lent.{hidden_kind}
 use Rattle.scope.specs.Nodes.{NodeRecord, node_records}
 use mathlib.Core.List.{[]}
 use mathlib.Core.Path.{sym, ap, ◌∙◌}
-use borrow.Author.Rules.{rules}
 use Rattle.table.proofs.hidden_at.Goals as goal
 
 pub returns : goal.returns

@@ -1,12 +1,9 @@
 -- `table::hidden_before` meets its contract. The loop's invariant: a node below i hides the hash exactly if one below j does.
-use Rattle.common.specs.Checks.{any_found, any_later, any_none}
 use Rattle.table.specs.Lent.{lent_nodes}
 use Rattle.scope.specs.Walk.{hides}
 use Rattle.scope.specs.Numbers.{any_below}
-use native.Mathlib.Omega.{arith}
 use Prim.Native.Nat.{◌≤◌}
-use mathlib.Core.Path.{◌≡◌, sym, refl, ◌∙◌}
-use borrow.Author.Rules.{rules}
+use mathlib.Core.Path.{◌≡◌}
 use Rattle.table.proofs.hidden_before.Given as goal
 
 abbrev pub invariant-loop-j : goal.invariant-loop-j

@@ -5,12 +5,10 @@ use Rattle.scope.specs.Stages.{no_record}
 use Rattle.scope.specs.Nodes.{NodeRecord, node_records}
 use Rattle.scope.specs.Numbers.{same}
 use lib.ListN.{get_or}
-use borrow.Author.Tests.{not-true, not-false}
 use Prim.Native.Nat.{ℕ}
 use mathlib.Core.List.{List}
 use mathlib.Core.Bool.{true, false}
 use mathlib.Core.Path.{sym, ap, ◌∙◌, ◌≡◌}
-use borrow.Author.Rules.{rules}
 use Rattle.table.proofs.hides.Goals as goal
 
 pub returns-then-not-is_hidden : goal.returns-then-not-is_hidden

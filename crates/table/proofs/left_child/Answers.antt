@@ -2,7 +2,6 @@
 use Rattle.table.proofs.Groups.{left_first, left_none}
 use native.Mathlib.Omega.{arith}
 use mathlib.Core.Path.{sym}
-use borrow.Author.Rules.{rules}
 use Rattle.table.proofs.left_child.Goals as goal
 
 pub returns-then-child_count-lt1 : goal.returns-then-child_count-lt1

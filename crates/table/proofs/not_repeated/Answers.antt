@@ -7,7 +7,6 @@ use Rattle.scope.specs.Check.{require}
 use Prim.Native.Nat.{ℕ}
 use mathlib.Core.List.{List}
 use mathlib.Core.Path.{sym, ap, ◌∙◌}
-use borrow.Author.Rules.{rules}
 use Rattle.table.proofs.not_repeated.Goals as goal
 
 pub returns-then-hidden_before : goal.returns-then-hidden_before

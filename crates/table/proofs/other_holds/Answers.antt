@@ -1,10 +1,9 @@
 -- `table::other_holds` meets its contract: each kind's rule.
-use Rattle.table.proofs.Groups.{rule_unknown, above_kinds}
+use Rattle.table.proofs.Groups.{rule_unknown}
 use Rattle.scope.specs.Stages.{numbers_rule}
 use Rattle.scope.specs.Nodes.{kind_of}
 use mathlib.Core.Path.{sym}
 use native.Mathlib.Omega.{arith}
-use borrow.Author.Rules.{rules}
 use Rattle.table.proofs.other_holds.Goals as goal
 
 pub returns-in-10 : goal.returns-in-10

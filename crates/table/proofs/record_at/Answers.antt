@@ -2,7 +2,6 @@
 use mathlib.Core.Path.{ap, ◌∙◌}
 use Prim.Native.Nat.{ℕ}
 use lib.ListN.{get_or}
-use borrow.Author.Rules.{rules}
 use Rattle.scope.specs.Nodes.{node_records}
 use Rattle.scope.specs.Stages.{no_record}
 use Rattle.table.proofs.record_at.Goals as goal

@@ -1,7 +1,6 @@
 -- `table::record_holds` meets its contract: the groups of kinds.
 use Rattle.table.proofs.Groups.{rule_by}
 use borrow.Author.Tests.{le-leb, lt-leb}
-use borrow.Author.Rules.{rules}
 use Rattle.table.proofs.record_holds.Goals as goal
 
 pub returns-then-kind-le-DISCONNECT : goal.returns-then-kind-le-DISCONNECT

@@ -3,7 +3,6 @@ use Rattle.common.specs.Nodes.{record_in, record_past}
 use Rattle.scope.specs.Nodes.{node_record}
 use native.Mathlib.Omega.{arith}
 use mathlib.Core.Path.{sym}
-use borrow.Author.Rules.{rules}
 use Rattle.table.proofs.record_in.Goals as goal
 
 pub returns-then-k-nodes : goal.returns-then-k-nodes

@@ -2,7 +2,6 @@
 use Rattle.table.proofs.Groups.{right_second, right_none}
 use native.Mathlib.Omega.{arith}
 use mathlib.Core.Path.{sym}
-use borrow.Author.Rules.{rules}
 use Rattle.table.proofs.right_child.Goals as goal
 
 pub returns-then-child_count-lt2 : goal.returns-then-child_count-lt2

@@ -5,7 +5,6 @@ use borrow.Author.Tests.{lt-leb, le-leb, eq-eqb, ne_eqb}
 use native.Mathlib.Omega.{arith}
 use Prim.Native.Nat.{◌+◌, ◌<◌, ◌≤◌}
 use mathlib.Core.Path.{sym}
-use borrow.Author.Rules.{rules}
 use Rattle.table.proofs.stored_within.Goals as goal
 
 pub returns-then-bytes-place : goal.returns-then-bytes-place

@@ -6,7 +6,6 @@ use Rattle.table.specs.Answers.{walked_of, finish_of}
 use Rattle.scope.specs.Check.{require}
 use native.Mathlib.Omega.{arith}
 use mathlib.Core.Path.{sym, ap, ◌∙◌}
-use borrow.Author.Rules.{rules}
 use Rattle.table.proofs.walk.Goals as goal
 
 pub returns-in_default : goal.returns-in_default

@@ -2,7 +2,6 @@
 use Rattle.table.proofs.Stages.{stage_refused, stage_too_long, stage_walks}
 use Rattle.common.specs.Answers.{check_of}
 use mathlib.Core.Path.{sym, ap, ◌∙◌}
-use borrow.Author.Rules.{rules}
 use Rattle.table.proofs.walk_stage.Goals as goal
 
 pub returns-in_default : goal.returns-in_default

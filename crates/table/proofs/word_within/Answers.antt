@@ -4,7 +4,6 @@ use Rattle.table.proofs.Tests.{word_none, word_over, word_third, word_end}
 use lib.Dec.{leb}
 use Prim.Native.Nat.{ℕ, ◌+◌, ◌/◌}
 use mathlib.Core.Path.{◌∙◌, ap₂}
-use borrow.Author.Rules.{rules}
 use Rattle.table.proofs.word_within.Goals as goal
 
 pub returns-then-r-lt1 : goal.returns-then-r-lt1

@@ -3,17 +3,15 @@
 use mathlib.Core.Path.{◌≡◌, ap, ap₂, sym, ◌∙◌}
 use mathlib.Core.Logic.{⊎_elim}
 use mathlib.Core.List.{List}
-use Prim.Native.Nat.{ℕ, ◌-◌, ◌/◌, ◌≤◌}
+use Prim.Native.Nat.{ℕ, ◌/◌}
 use native.Mathlib.Omega.{arith}
 use lib.ListN.{length, set, length-set, length-replicate}
-use borrow.Author.Rules.{rules}
-use borrow.Author.Tests.{ltb-true, ltb-false}
 use Rattle.limits.specs.Limits.{type_count, type_bytes}
 use Rattle.refusal.specs.declared.Refusal.TheVariants.{TypeRecord}
 use Rattle.scope.specs.Check.{first_failing}
 use Rattle.scope.specs.Types.{type_records, type_at, type_rule}
 use Rattle.common.specs.Checks.{counted_none, counted_over, counted_fine}
-use Rattle.common.specs.Passes.{Passing, pass_start, pass_more, first_failed, none_failed}
+use Rattle.common.specs.Passes.{pass_start, pass_more, first_failed, none_failed}
 use Rattle.types.specs.Records.{record_judged, record_next, next_at}
 use Rattle.types.specs.Table.{array_of}
 use Rattle.types.specs.declared.TypeAnswer.{TypeAnswer}
@@ -67,7 +65,7 @@ loop-i-preserved c =
     let T = type_records b in
     let n = length b / type_bytes in
     let s : length T ≡ n = length_records b in
-        let r = good_record T l.i (omega arith) c.in-Width.width
+    let r = good_record T l.i (omega arith) c.in-Width.width
     (sym c.in-Width.is ∙ c.judge.ensures ∙ ap (λ (w : List ℕ). record_judged T w l.i) l.invariant.1) in
     let x : c.next_record.result ≡ next_at T l.i =
     c.next_record.ensures

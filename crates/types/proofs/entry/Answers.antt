@@ -1,6 +1,5 @@
 -- `types::entry` meets its contract: each way through its tests is one case of the definition.
 use mathlib.Core.Path.{sym, ◌∙◌}
-use borrow.Author.Rules.{rules}
 use Rattle.types.proofs.Records.{next_marked, next_padded, next_self, next_right, next_left, next_own}
 use Rattle.types.proofs.entry.Goals as goal
 

@@ -1,7 +1,5 @@
 -- `types::is_bit` meets its contract.
-use mathlib.Core.Path.{◌≡◌, refl, sym, ◌∙◌}
-use borrow.Author.Tests.{not-true, not-false}
-use borrow.Author.Rules.{rules}
+use mathlib.Core.Path.{sym, ◌∙◌}
 use Rattle.scope.specs.Types.{type_records}
 use Rattle.types.proofs.Words.{first_fails, second_fails, third_tells, bit_is}
 use Rattle.types.proofs.is_bit.Goals as goal

@@ -1,5 +1,4 @@
 -- `types::is_product` meets its contract.
-use borrow.Author.Rules.{rules}
 use Rattle.scope.specs.Types.{is_product}
 use Rattle.types.specs.Records.{is_record}
 use Rattle.types.proofs.is_product.Goals as goal

@@ -1,8 +1,7 @@
 -- `types::is_record` meets its contract.
-use mathlib.Core.Path.{◌≡◌, sym, ap, ◌∙◌}
+use mathlib.Core.Path.{sym, ap, ◌∙◌}
 use Prim.Native.Nat.{ℕ}
 use lib.Dec.{eqb}
-use borrow.Author.Rules.{rules}
 use Rattle.types.proofs.Words.{other_tag, other_left, by_right}
 use Rattle.types.proofs.is_record.Goals as goal
 

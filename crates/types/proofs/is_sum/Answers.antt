@@ -1,5 +1,4 @@
 -- `types::is_sum` meets its contract.
-use borrow.Author.Rules.{rules}
 use Rattle.scope.specs.Types.{is_sum}
 use Rattle.types.specs.Records.{is_record}
 use Rattle.types.proofs.is_sum.Goals as goal

@@ -1,7 +1,6 @@
 -- `types::is_unit` meets its contract.
 use mathlib.Core.Path.{ap}
 use lib.Dec.{eqb}
-use borrow.Author.Rules.{rules}
 use Rattle.scope.specs.Types.{is_unit}
 use Rattle.types.proofs.is_unit.Goals as goal
 

@@ -2,8 +2,6 @@
 use mathlib.Core.Path.{◌≡◌, refl, sym, ap, ◌∙◌}
 use Prim.Native.Nat.{ℕ}
 use native.Mathlib.Omega.{arith}
-use borrow.Author.Tests.{not-true, not-false}
-use borrow.Author.Rules.{rules}
 use Rattle.scope.specs.Types.{type_records, is_word}
 use Rattle.types.proofs.Words.{word_down, word_stops}
 use Rattle.types.proofs.is_word.Goals as goal

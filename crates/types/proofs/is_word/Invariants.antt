@@ -1,11 +1,6 @@
 -- `types::is_word` meets its contract. The loop's invariant: type j is a word of k exactly if type `at` is one of what is left.
-use mathlib.Core.Path.{◌≡◌, refl, sym, ap, ◌∙◌}
-use Prim.Native.Nat.{ℕ}
-use native.Mathlib.Omega.{arith}
-use borrow.Author.Tests.{not-true, not-false}
-use borrow.Author.Rules.{rules}
+use mathlib.Core.Path.{◌≡◌}
 use Rattle.scope.specs.Types.{type_records, is_word}
-use Rattle.types.proofs.Words.{word_down, word_stops}
 use Rattle.types.proofs.is_word.Given as goal
 
 abbrev pub invariant-loop-left : goal.invariant-loop-left

@@ -6,8 +6,7 @@ use Prim.Native.Nat.{ℕ}
 use native.Mathlib.Omega.{arith}
 use lib.Dec.{leb}
 use lib.ListN.{get_or}
-use borrow.Author.Rules.{rules}
-use borrow.Author.Tests.{le-leb, lt-leb, not-true, not-false}
+use borrow.Author.Tests.{le-leb, lt-leb}
 use Rattle.limits.specs.Limits.{type_width}
 use Rattle.scope.specs.Numbers.{any_below}
 use Rattle.scope.specs.Types.{type_records, type_at, same_type, parts_rule}

@@ -1,6 +1,5 @@
 -- `types::left_of` meets its contract.
 use mathlib.Core.Path.{ap, ◌∙◌}
-use borrow.Author.Rules.{rules}
 use Rattle.scope.specs.Types.{left_at}
 use Rattle.types.proofs.left_of.Goals as goal
 

@@ -1,5 +1,4 @@
 -- `types::left_width` meets its contract.
-use borrow.Author.Rules.{rules}
 use Rattle.types.proofs.left_width.Goals as goal
 
 pub returns : goal.returns

@@ -2,7 +2,6 @@
 use mathlib.Core.Path.{sym}
 use native.Mathlib.Omega.{arith}
 use lib.ListN.{get_or-eq_default}
-use borrow.Author.Rules.{rules}
 use Rattle.types.proofs.next_at.Goals as goal
 
 pub returns-else-i-next : goal.returns-else-i-next

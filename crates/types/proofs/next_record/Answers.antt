@@ -2,7 +2,6 @@
 use mathlib.Core.Path.{◌≡◌, ap, ◌∙◌}
 use Prim.Native.Nat.{ℕ}
 use lib.ListN.{get_or}
-use borrow.Author.Rules.{rules}
 use Rattle.scope.specs.Types.{type_records, type_at}
 use Rattle.types.specs.declared.TypeRecord.{TypeRecord}
 use Rattle.types.proofs.Records.{next_of}

@@ -2,7 +2,6 @@
 use mathlib.Core.Path.{◌≡◌, ap₂, sym, ◌∙◌}
 use Prim.Native.Nat.{ℕ, ◌+◌, max}
 use native.Mathlib.Omega.{arith}
-use borrow.Author.Rules.{rules}
 use Rattle.types.proofs.Records.{width_sum, width_product}
 use Rattle.types.proofs.parts_width.Goals as goal
 

@@ -3,7 +3,6 @@ use mathlib.Core.Path.{◌≡◌, ap, sym, ◌∙◌}
 use Prim.Native.Nat.{ℕ, ◌+◌, ◌*◌}
 use native.Mathlib.Omega.{arith}
 use lib.ListN.{get_or}
-use borrow.Author.Rules.{rules}
 use Rattle.limits.specs.Limits.{type_bytes}
 use Rattle.scope.specs.Numbers.{be16}
 use Rattle.scope.specs.Types.{type_record}

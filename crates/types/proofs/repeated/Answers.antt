@@ -1,11 +1,9 @@
 -- `types::repeated` meets its contract. The loop goes down from i: that an earlier record equals record i is that one below j does.
 use mathlib.Core.Path.{refl, ◌≡◌, ap₂, sym, ◌∙◌}
-use Prim.Native.Nat.{◌-◌, ◌≤◌}
+use Prim.Native.Nat.{◌-◌}
 use native.Mathlib.Omega.{arith}
-use borrow.Author.Rules.{rules}
-use Rattle.scope.specs.Numbers.{any_below}
-use Rattle.scope.specs.Types.{type_records, type_at, same_type}
-use Rattle.types.specs.Table.{record_of, same_record}
+use Rattle.scope.specs.Types.{type_records, same_type}
+use Rattle.types.specs.Table.{same_record}
 use Rattle.common.specs.Checks.{any_found, any_later, any_none}
 use Rattle.types.proofs.repeated.Goals as goal
 

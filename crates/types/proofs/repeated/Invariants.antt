@@ -1,12 +1,9 @@
 -- `types::repeated` meets its contract. The loop goes down from i: that an earlier record equals record i is that one below j does.
-use mathlib.Core.Path.{refl, ◌≡◌, ap₂, sym, ◌∙◌}
-use Prim.Native.Nat.{◌-◌, ◌≤◌}
-use native.Mathlib.Omega.{arith}
-use borrow.Author.Rules.{rules}
+use mathlib.Core.Path.{◌≡◌}
+use Prim.Native.Nat.{◌≤◌}
 use Rattle.scope.specs.Numbers.{any_below}
 use Rattle.scope.specs.Types.{type_records, type_at, same_type}
-use Rattle.types.specs.Table.{record_of, same_record}
-use Rattle.common.specs.Checks.{any_found, any_later, any_none}
+use Rattle.types.specs.Table.{record_of}
 use Rattle.types.proofs.repeated.Given as goal
 
 abbrev pub invariant-loop-j : goal.invariant-loop-j

@@ -1,6 +1,5 @@
 -- `types::right_of` meets its contract.
 use mathlib.Core.Path.{ap, ◌∙◌}
-use borrow.Author.Rules.{rules}
 use Rattle.scope.specs.Types.{right_at}
 use Rattle.types.proofs.right_of.Goals as goal
 

@@ -1,7 +1,6 @@
 -- `types::type_count` meets its contract: the records are a fifth of the bytes.
 use mathlib.Core.Path.{sym, ap, ◌∙◌}
 use Prim.Native.Nat.{ℕ}
-use borrow.Author.Rules.{rules}
 use Rattle.limits.specs.Limits.{type_count}
 use Rattle.scope.specs.Stages.{counted}
 use Rattle.types.proofs.Records.{length_records}

@@ -1,6 +1,5 @@
 -- `types::types_hold` meets its contract.
 use mathlib.Core.Path.{◌∙◌}
-use borrow.Author.Rules.{rules}
 use Rattle.types.proofs.Check.{answer_says}
 use Rattle.types.proofs.types_hold.Goals as goal
 

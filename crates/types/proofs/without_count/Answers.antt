@@ -1,6 +1,5 @@
 -- `types::without_count` meets its contract.
 use mathlib.Core.Path.{sym, ap}
-use borrow.Author.Rules.{rules}
 use Rattle.types.specs.Table.{without_count}
 use Rattle.types.proofs.without_count.Goals as goal
 

@@ -2,10 +2,9 @@
 -- each way through the code is one law of skipping and one of padding along a shape.
 use mathlib.Core.Path.{◌≡◌, ap, sym, ◌∙◌}
 use mathlib.Core.List.{[]}
-use Prim.Native.Nat.{◌+◌, ◌≤◌, ℕ, ◌<◌}
+use Prim.Native.Nat.{◌+◌, ◌≤◌}
 use native.Mathlib.Omega.{arith}
 use lib.ListN.{get_or, drop}
-use borrow.Author.Rules.{rules}
 use Rattle.limits.specs.Limits.{cell_count}
 use Rattle.report.specs.Bits.{bits_of}
 use Rattle.scope.specs.Numbers.{stream_of}
@@ -24,7 +23,7 @@ pad_plain-requires t c =
     let ts = a.types.now in
     let w = a.widths.now in
     let n = a.next.now in
-        let v = c.in-Plain.width in
+    let v = c.in-Plain.width in
     let e : step_at ts w n a.i ≡ Plain v = sym c.step_at-way.ensures ∙ c.in-Plain.is in
     let told = plain_told ts w n a.i v e in
     omega arith
@@ -36,7 +35,7 @@ returns-in_default t c =
     let w = a.widths.now in
     let n = a.next.now in
     let bits = stream_of a.s.now in
-        let l = c.in-Tag.left in
+    let l = c.in-Tag.left in
     let r = c.in-Tag.right in
     let x = c.in-Tag.pad_left in
     let y = c.in-Tag.pad_right in
@@ -52,7 +51,7 @@ write_tag-requires t c =
     let ts = a.types.now in
     let w = a.widths.now in
     let n = a.next.now in
-        let l = c.in-Tag.left in
+    let l = c.in-Tag.left in
     let r = c.in-Tag.right in
     let x = c.in-Tag.pad_left in
     let y = c.in-Tag.pad_right in
@@ -69,7 +68,7 @@ overflow_add-at t c =
     let ts = a.types.now in
     let w = a.widths.now in
     let n = a.next.now in
-        let l = c.in-Tag.left in
+    let l = c.in-Tag.left in
     let r = c.in-Tag.right in
     let x = c.in-Tag.pad_left in
     let y = c.in-Tag.pad_right in
@@ -86,7 +85,7 @@ overflow_add-at-in-Tag t c =
     let ts = a.types.now in
     let w = a.widths.now in
     let n = a.next.now in
-        let l = c.in-Tag.left in
+    let l = c.in-Tag.left in
     let r = c.in-Tag.right in
     let x = c.in-Tag.pad_left in
     let y = c.in-Tag.pad_right in
@@ -107,7 +106,7 @@ pad_part-requires t c =
     let ts = a.types.now in
     let w = a.widths.now in
     let n = a.next.now in
-        let l = c.in-Tag.left in
+    let l = c.in-Tag.left in
     let r = c.in-Tag.right in
     let x = c.in-Tag.pad_left in
     let y = c.in-Tag.pad_right in
@@ -128,7 +127,7 @@ pad_part-requires-in-Both t c =
     let ts = a.types.now in
     let w = a.widths.now in
     let n = a.next.now in
-        let l = c.in-Both.left in
+    let l = c.in-Both.left in
     let r = c.in-Both.right in
     let v = c.in-Both.width in
     let e : step_at ts w n a.i ≡ Both l r v = sym c.step_at-way.ensures ∙ c.in-Both.is in
@@ -143,7 +142,7 @@ returns-in_default-pad_part t c =
     let w = a.widths.now in
     let n = a.next.now in
     let bits = stream_of a.s.now in
-        let l = c.in-Both.left in
+    let l = c.in-Both.left in
     let r = c.in-Both.right in
     let v = c.in-Both.width in
     let e : step_at ts w n a.i ≡ Both l r v = sym c.step_at-way.ensures ∙ c.in-Both.is in (
@@ -159,7 +158,7 @@ overflow_add-at-in-Both t c =
     let ts = a.types.now in
     let w = a.widths.now in
     let n = a.next.now in
-        let l = c.in-Both.left in
+    let l = c.in-Both.left in
     let r = c.in-Both.right in
     let v = c.in-Both.width in
     let e : step_at ts w n a.i ≡ Both l r v =
@@ -176,7 +175,7 @@ pad_part-requires-in-Both-2 t c =
     let ts = a.types.now in
     let w = a.widths.now in
     let n = a.next.now in
-        let l = c.in-Both.left in
+    let l = c.in-Both.left in
     let r = c.in-Both.right in
     let v = c.in-Both.width in
     let e : step_at ts w n a.i ≡ Both l r v =
@@ -203,7 +202,7 @@ returns-in-Plain t c =
     let ts = a.types.now in
     let w = a.widths.now in
     let n = a.next.now in
-        let v = c.in-Plain.width in
+    let v = c.in-Plain.width in
     let e : step_at ts w n a.i ≡ Plain v = sym c.step_at-way.ensures ∙ c.in-Plain.is in (
       skip_along ts w n a.i v a.p c.pad_plain.result (drop a.p (stream_of a.s.now)) e
           c.pad_plain.ensures.0,
@@ -217,12 +216,12 @@ returns-in-Read t c =
     let w = a.widths.now in
     let n = a.next.now in
     let bits = stream_of a.s.now in
-        let l = c.in-Tag.left in
+    let l = c.in-Tag.left in
     let r = c.in-Tag.right in
     let x = c.in-Tag.pad_left in
     let y = c.in-Tag.pad_right in
     let e : step_at ts w n a.i ≡ Tag l r x y = sym c.step_at-way.ensures ∙ c.in-Tag.is in
-        let side = c.in-Read.side in
+    let side = c.in-Read.side in
     let after = c.in-Read.after in
     let read : code bits 1 a.p ≡ got side after =
     sym c.bit.ensures
@@ -246,7 +245,7 @@ returns-in-Next t c =
     let w = a.widths.now in
     let n = a.next.now in
     let bits = stream_of a.s.now in
-        let l = c.in-Both.left in
+    let l = c.in-Both.left in
     let r = c.in-Both.right in
     let v = c.in-Both.width in
     let e : step_at ts w n a.i ≡ Both l r v =

@@ -2,10 +2,8 @@
 -- each way through the code is one law of skipping along a shape.
 use mathlib.Core.Path.{◌≡◌, ap, sym, ◌∙◌}
 use mathlib.Core.List.{[]}
-use Prim.Native.Nat.{◌+◌, ℕ, ◌<◌}
 use native.Mathlib.Omega.{arith}
 use lib.ListN.{drop}
-use borrow.Author.Rules.{rules}
 use Rattle.scope.specs.Numbers.{stream_of}
 use Rattle.scope.specs.Reading.{got, code}
 use Rattle.bititer.proofs.Streams.{bit_got, bit_ended}
@@ -23,7 +21,7 @@ returns-in_default t c =
     let w = a.widths.now in
     let n = a.next.now in
     let bits = stream_of a.s.now in
-        let l = c.in-Tag.left in
+    let l = c.in-Tag.left in
     let r = c.in-Tag.right in
     let x = c.in-Tag.field-2 in
     let y = c.in-Tag.field-3 in
@@ -38,7 +36,7 @@ skip-requires t c =
     let w = a.widths.now in
     let n = a.next.now in
     let bits = stream_of a.s.now in
-        let l = c.in-Tag.left in
+    let l = c.in-Tag.left in
     let r = c.in-Tag.right in
     let x = c.in-Tag.field-2 in
     let y = c.in-Tag.field-3 in
@@ -52,7 +50,7 @@ skip-requires-in-Both t c =
     let ts = a.types.now in
     let w = a.widths.now in
     let n = a.next.now in
-        let l = c.in-Both.left in
+    let l = c.in-Both.left in
     let r = c.in-Both.right in
     let v = c.in-Both.field-2 in
     let e : step_at ts w n a.i ≡ Both l r v = sym c.step_at-way.ensures ∙ c.in-Both.is in
@@ -66,7 +64,7 @@ returns-in_default-skip t c =
     let w = a.widths.now in
     let n = a.next.now in
     let bits = stream_of a.s.now in
-        let l = c.in-Both.left in
+    let l = c.in-Both.left in
     let r = c.in-Both.right in
     let v = c.in-Both.field-2 in
     let e : step_at ts w n a.i ≡ Both l r v = sym c.step_at-way.ensures ∙ c.in-Both.is in
@@ -78,7 +76,7 @@ skip-requires-in-Both-2 t c =
     let ts = a.types.now in
     let w = a.widths.now in
     let n = a.next.now in
-        let l = c.in-Both.left in
+    let l = c.in-Both.left in
     let r = c.in-Both.right in
     let v = c.in-Both.field-2 in
     let e : step_at ts w n a.i ≡ Both l r v = sym c.step_at-way.ensures ∙ c.in-Both.is in
@@ -100,7 +98,7 @@ returns-in-Plain t c =
     let ts = a.types.now in
     let w = a.widths.now in
     let n = a.next.now in
-        let v = c.in-Plain.width in
+    let v = c.in-Plain.width in
     let e : step_at ts w n a.i ≡ Plain v = sym c.step_at-way.ensures ∙ c.in-Plain.is in
     skip_along ts w n a.i v a.p c.skip_plain.result (drop a.p (stream_of a.s.now)) e c.skip_plain.ensures
 
@@ -111,12 +109,12 @@ returns-in-Read t c =
     let w = a.widths.now in
     let n = a.next.now in
     let bits = stream_of a.s.now in
-        let l = c.in-Tag.left in
+    let l = c.in-Tag.left in
     let r = c.in-Tag.right in
     let x = c.in-Tag.field-2 in
     let y = c.in-Tag.field-3 in
     let e : step_at ts w n a.i ≡ Tag l r x y = sym c.step_at-way.ensures ∙ c.in-Tag.is in
-        let side = c.in-Read.side in
+    let side = c.in-Read.side in
     let after = c.in-Read.after in
     let read : code bits 1 a.p ≡ got side after = sym c.bit.ensures ∙ ap got_code c.in-Read.is in
     let rest = bit_got bits a.p side after read in
@@ -129,7 +127,7 @@ returns-in-Next t c =
     let w = a.widths.now in
     let n = a.next.now in
     let bits = stream_of a.s.now in
-        let l = c.in-Both.left in
+    let l = c.in-Both.left in
     let r = c.in-Both.right in
     let v = c.in-Both.field-2 in
     let e : step_at ts w n a.i ≡ Both l r v = sym c.step_at-way.ensures ∙ c.in-Both.is in

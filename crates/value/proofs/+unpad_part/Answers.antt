@@ -1,10 +1,9 @@
 -- `value::unpad_part` meets its contract. The index falls; no place passes the record's last cell, since the widths of the parts add up
 -- and a value has no more bits than cells; each way through the code is one law of unpadding along a shape.
 use mathlib.Core.Path.{◌≡◌, sym, ◌∙◌}
-use Prim.Native.Nat.{◌+◌, ◌≤◌, ℕ, ◌<◌}
+use Prim.Native.Nat.{◌+◌, ◌≤◌}
 use native.Mathlib.Omega.{arith}
 use lib.ListN.{get_or}
-use borrow.Author.Rules.{rules}
 use Rattle.limits.specs.Limits.{cell_count}
 use Rattle.report.specs.Bits.{bits_of}
 use Rattle.scope.specs.Run.{cells_of}
@@ -21,7 +20,7 @@ overflow_add-result t c =
     let ts = a.types.now in
     let w = a.widths.now in
     let n = a.next.now in
-        let v = c.in-Plain.width in
+    let v = c.in-Plain.width in
     let e : step_at ts w n a.i ≡ Plain v = sym c.step_at-way.ensures ∙ c.in-Plain.is in
     let told = plain_told ts w n a.i v e in
     let room = c.requires (omega arith) in
@@ -34,7 +33,7 @@ overflow_add-place t c =
     let ts = a.types.now in
     let w = a.widths.now in
     let n = a.next.now in
-        let l = c.in-Tag.left in
+    let l = c.in-Tag.left in
     let r = c.in-Tag.right in
     let x = c.in-Tag.pad_left in
     let y = c.in-Tag.pad_right in
@@ -54,7 +53,7 @@ overflow_add-place-in-Tag t c =
     let ts = a.types.now in
     let w = a.widths.now in
     let n = a.next.now in
-        let l = c.in-Tag.left in
+    let l = c.in-Tag.left in
     let r = c.in-Tag.right in
     let x = c.in-Tag.pad_left in
     let y = c.in-Tag.pad_right in
@@ -77,7 +76,7 @@ overflow_add-q t c =
     let ts = a.types.now in
     let w = a.widths.now in
     let n = a.next.now in
-        let l = c.in-Tag.left in
+    let l = c.in-Tag.left in
     let r = c.in-Tag.right in
     let x = c.in-Tag.pad_left in
     let y = c.in-Tag.pad_right in
@@ -97,7 +96,7 @@ unpad_part-requires t c =
     let ts = a.types.now in
     let w = a.widths.now in
     let n = a.next.now in
-        let l = c.in-Tag.left in
+    let l = c.in-Tag.left in
     let r = c.in-Tag.right in
     let x = c.in-Tag.pad_left in
     let y = c.in-Tag.pad_right in
@@ -120,7 +119,7 @@ unpad_part-middle-requires t c =
     let ts = a.types.now in
     let w = a.widths.now in
     let n = a.next.now in
-        let l = c.in-Both.left in
+    let l = c.in-Both.left in
     let r = c.in-Both.right in
     let v = c.in-Both.width in
     let e : step_at ts w n a.i ≡ Both l r v = sym c.step_at-way.ensures ∙ c.in-Both.is in
@@ -137,7 +136,7 @@ overflow_add-place-in-Both t c =
     let ts = a.types.now in
     let w = a.widths.now in
     let n = a.next.now in
-        let l = c.in-Both.left in
+    let l = c.in-Both.left in
     let r = c.in-Both.right in
     let v = c.in-Both.width in
     let e : step_at ts w n a.i ≡ Both l r v = sym c.step_at-way.ensures ∙ c.in-Both.is in
@@ -154,7 +153,7 @@ unpad_part-requires-in-Both t c =
     let ts = a.types.now in
     let w = a.widths.now in
     let n = a.next.now in
-        let l = c.in-Both.left in
+    let l = c.in-Both.left in
     let r = c.in-Both.right in
     let v = c.in-Both.width in
     let e : step_at ts w n a.i ≡ Both l r v = sym c.step_at-way.ensures ∙ c.in-Both.is in
@@ -182,7 +181,7 @@ returns-in-Plain t c =
     let ts = a.types.now in
     let w = a.widths.now in
     let n = a.next.now in
-        let v = c.in-Plain.width in
+    let v = c.in-Plain.width in
     let e : step_at ts w n a.i ≡ Plain v = sym c.step_at-way.ensures ∙ c.in-Plain.is in
     unpad_plain ts w n a.i v a.cells.now a.at a.q (bits_of a.answer.now) _ e c.put_bits.ensures
 
@@ -193,7 +192,7 @@ returns-in-Tag t c =
     let ts = a.types.now in
     let w = a.widths.now in
     let n = a.next.now in
-        let l = c.in-Tag.left in
+    let l = c.in-Tag.left in
     let r = c.in-Tag.right in
     let x = c.in-Tag.pad_left in
     let y = c.in-Tag.pad_right in
@@ -215,7 +214,7 @@ returns-in-Both t c =
     let ts = a.types.now in
     let w = a.widths.now in
     let n = a.next.now in
-        let l = c.in-Both.left in
+    let l = c.in-Both.left in
     let r = c.in-Both.right in
     let v = c.in-Both.width in
     let e : step_at ts w n a.i ≡ Both l r v =

@@ -1,7 +1,6 @@
 -- `value::bits_left` meets its contract: a stream above the dossier's limit has no bits, and any other eight for each byte.
 use native.Mathlib.Omega.{arith}
 use lib.ListN.{length-drop}
-use borrow.Author.Rules.{rules}
 use Rattle.common.specs.Bits.{length_within}
 use Rattle.bititer.proofs.Streams.{length_over}
 use Rattle.scope.specs.Numbers.{stream_of}

@@ -1,6 +1,5 @@
 -- `value::both_step` meets its contract: the step is there just where the widths fit.
 use native.Mathlib.Omega.{arith}
-use borrow.Author.Rules.{rules}
 use Rattle.value.proofs.Steps.{both_fits, both_unfit}
 use Rattle.value.proofs.both_step.Goals as goal
 

@@ -3,7 +3,6 @@ use mathlib.Core.Path.{◌≡◌, ap₂, sym, ◌∙◌}
 use Prim.Native.Nat.{ℕ, ◌+◌}
 use native.Mathlib.Omega.{arith}
 use lib.Dec.{leb}
-use borrow.Author.Rules.{rules}
 use Rattle.report.specs.Bits.{bits_of}
 use Rattle.common.specs.Bits.{length_bits}
 use Rattle.value.proofs.Ways.{room_none, room_inside, room_outside}

@@ -4,7 +4,6 @@ use Prim.Native.Nat.{◌≤◌}
 use native.Mathlib.Omega.{arith}
 use lib.ListN.{length, drop, length-drop}
 use lib.Seq.{sets}
-use borrow.Author.Rules.{rules}
 use Rattle.bititer.proofs.Streams.{length_stream}
 use Rattle.report.specs.Bits.{bits_of}
 use Rattle.scope.specs.Numbers.{stream_of}

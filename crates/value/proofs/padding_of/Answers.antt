@@ -1,5 +1,4 @@
 -- `value::padding_of` meets its contract: a side that is not 0 names the right padding.
-use borrow.Author.Rules.{rules}
 use Rattle.value.proofs.Steps.{part_right}
 use Rattle.value.proofs.padding_of.Goals as goal
 

@@ -1,5 +1,4 @@
 -- `value::part_of` meets its contract: a side that is not 0 names the right part.
-use borrow.Author.Rules.{rules}
 use Rattle.value.proofs.Steps.{part_right}
 use Rattle.value.proofs.part_of.Goals as goal
 

@@ -2,7 +2,6 @@
 use mathlib.Core.Path.{ap, sym}
 use native.Mathlib.Omega.{arith}
 use lib.ListN.{drop, length-drop}
-use borrow.Author.Rules.{rules}
 use Rattle.bititer.proofs.Streams.{length_stream}
 use Rattle.scope.specs.Numbers.{stream_of}
 use Rattle.value.specs.Bits.{skipped}

@@ -3,8 +3,6 @@ use mathlib.Core.Path.{◌≡◌, ap, sym, ◌∙◌}
 use Prim.Native.Nat.{ℕ}
 use native.Mathlib.Omega.{arith}
 use lib.ListN.{get_or}
-use borrow.Author.Rules.{rules}
-use borrow.Author.Tests.{not-true, not-false}
 use Rattle.scope.specs.Types.{type_records, type_at}
 use Rattle.types.specs.Table.{record_of}
 use Rattle.types.specs.declared.TypeRecord.{TypeRecord}

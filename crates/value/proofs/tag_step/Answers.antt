@@ -1,6 +1,5 @@
 -- `value::tag_step` meets its contract: the step is there just where the widths fit, and no difference wraps.
 use native.Mathlib.Omega.{arith}
-use borrow.Author.Rules.{rules}
 use Rattle.value.proofs.Steps.{tag_fits, tag_unfit}
 use Rattle.value.proofs.tag_step.Goals as goal
 

@@ -2,8 +2,6 @@
 use mathlib.Core.Path.{◌≡◌, ap, sym, ◌∙◌}
 use Prim.Native.Nat.{ℕ}
 use lib.ListN.{get_or}
-use borrow.Author.Rules.{rules}
-use borrow.Author.Tests.{not-true, not-false}
 use Rattle.report.specs.Bits.{bits_of}
 use Rattle.scope.specs.Run.{cells_of}
 use Rattle.value.specs.Bits.{room}
