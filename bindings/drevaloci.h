@@ -1,6 +1,6 @@
 /* The C functions of Drevaloci's proved library: a Simplicity interpreter without jets.
  *
- * Build the library with `rt staticlib exports` (x86-64 Linux) and link target/staticlib/libexports.a.
+ * Build the library with bindings/library.sh (x86-64 Linux) and link target/staticlib/libexports.a.
  *
  * A slice is passed as two arguments: a pointer to its first element, then its length in elements.
  * Each function returns 0 where it passed or gave a value, else the refusal's number of the table in

@@ -9,7 +9,7 @@ root=$(dirname "$here")
 if [ -n "${DREVALOCI_LIB:-}" ]; then
   DREVALOCI_LIB=$(cd "$DREVALOCI_LIB" && pwd)
 else
-  (cd "$root" && rt staticlib exports)
+  "$here/library.sh"
   DREVALOCI_LIB=$root/target/staticlib
 fi
 export DREVALOCI_LIB

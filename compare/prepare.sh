@@ -5,6 +5,5 @@ set -eu
 here=$(cd "$(dirname "$0")" && pwd)
 "$here/assemble.sh"
 if [ -z "${DREVALOCI_LIB:-}" ]; then
-  cd "$(dirname "$here")"
-  rt staticlib exports
+  "$(dirname "$here")/bindings/library.sh"
 fi

@@ -3,7 +3,7 @@
 
     python3 tools/assemble.py FILE.txt ..            writes FILE.dossier beside each FILE.txt
     python3 tools/assemble.py --check FILE.txt ..    writes nothing: each FILE.dossier has to hold what its text says, and where
-                                                     target/bin/drevaloci is built it has to print the line after `prints`
+                                                     crates/drevaloci/out/drevaloci is built it has to print the line after `prints`
 
 A text has one thing a line; `#` starts a comment. Indices count from 0 and are there for the reader: a wrong one is an error.
 
@@ -124,7 +124,7 @@ def faults(path, data, prints):
     with open(binary, "rb") as file:
         if file.read() != data:
             yield f"{binary} is not what {path} says"
-    program = os.path.join(os.path.dirname(__file__), "..", "target", "bin", "drevaloci")
+    program = os.path.join(os.path.dirname(__file__), "..", "crates", "drevaloci", "out", "drevaloci")
     if os.path.exists(program) and prints is not None:
         line = subprocess.run([program], input=data, capture_output=True).stdout.decode()
         if line != prints + "\n":

@@ -99,7 +99,7 @@ class Known:
         self.unfoldable = {name for text in texts.values() for name in re.findall(r"^ *unfoldable (?:pub )?(\S+) :", text, re.M)}
         self.bodies = {}
         for (crate, name), text in texts.items():
-            self.read("Rattle·%s·specs.specs.%s" % (crate, name), text)
+            self.read("Rattle.%s.specs.%s" % (crate, name), text)
             for indent, word, start, end in items(text):
                 self.bodies[word] = self.bodies.get(word, "") + text[start + indent + len(word):end]
 
@@ -378,7 +378,7 @@ def counted(c, known):
     for node in c.tokens():
         if re.fullmatch(r"\d+|0x[0-9a-fA-F_]+", node.token):
             yield c.edit("one more", node.start, node.end, str(int(node.token.replace("_", ""), 0) + 1))
-        if c.imports.get(node.token, "").startswith("Rattle·limits.") and successor:
+        if c.imports.get(node.token, "").startswith("Rattle.limits.") and successor:
             yield c.edit("one more", node.start, node.end, "(suc %s)" % node.token)
     for run in c.runs():
         if run[0].token == "suc" and len(run) == 2:
@@ -391,23 +391,25 @@ def counted(c, known):
 def replaced(c, known):
     """Another function, field or constructor of the same type, another variable of the same type."""
     for node in c.tokens():
-        if node.token in c.scope:
-            others = [v for v, t in c.scope.items() if t == c.scope[node.token]]
-            if len(others) > 1:
-                yield c.edit("another name", node.start, node.end, others[(others.index(node.token) + 1) % len(others)])
-            continue
         stem = node.token[: len(node.token) - len(node.token.split(".")[-1])]
         name = node.token[len(stem):]
-        if stem == ".":
+        # a variable, alone or with a field after it
+        variable = node.token if node.token in c.scope else stem[:-1]
+        if variable in c.scope:
+            others = [v for v, t in c.scope.items() if t == c.scope[variable]]
+            if len(others) > 1:
+                yield c.edit("another name", node.start, node.start + len(variable), others[(others.index(variable) + 1) % len(others)])
+        if node.token in c.scope:
+            continue
+        if stem == "." or stem[:-1] in c.scope:
             for record, fields in known.fields.items():
                 alike = [f for f, t in fields if t == dict(fields).get(name)]
                 if len(alike) > 1 and (record in c.imports or re.search(r"^pub record %s " % record, c.text, re.M)):
-                    yield c.edit("another field", node.start, node.end, "." + alike[(alike.index(name) + 1) % len(alike)])
+                    yield c.edit("another field", node.end - len(name) - 1, node.end, "." + alike[(alike.index(name) + 1) % len(alike)])
             continue
         home = c.imports.get(name, c.module)
-        if home.startswith("lib."):
-            if name in LIBRARY_PAIRS:
-                yield c.edit("another function", node.start, node.end, "%s.%s" % (home, LIBRARY_PAIRS[name]))
+        if home.startswith("Rattle.std.") and name in LIBRARY_PAIRS:
+            yield c.edit("another function", node.start, node.end, "%s.%s" % (home, LIBRARY_PAIRS[name]))
             continue
         for other in known.families.get(name, [])[:1]:
             yield c.edit("another constructor", node.start, node.end, stem + other)

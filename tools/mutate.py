@@ -63,7 +63,7 @@ class Files:
     def __init__(self, root, crate):
         folder = os.path.join(root, "crates", crate, "specs")
         self.crate, self.texts = crate, {name[:-5]: read(os.path.join(folder, name)) for name in sorted(os.listdir(folder)) if name != "Lib.antt"}
-        self.own = re.compile(r"(Rattle·%s·specs\.specs\.)(\w+)" % crate)
+        self.own = re.compile(r"(Rattle\.%s\.specs\.)(\w+)" % crate)
         self.uses = {name: {m[1] for m in self.own.findall(text)} for name, text in self.texts.items()}
         self.theorems = {name: theorems(text) for name, text in self.texts.items()}
         self.rows = {name for name in self.texts if ROWS.search(name)}
@@ -98,7 +98,7 @@ class Files:
 
     def named(self, row, name):
         """How many names of a file another one imports."""
-        return sum(len(found.split(",")) for found in re.findall(r"^use Rattle·%s·specs\.specs\.%s\.\{([^}]*)\}" % (self.crate, name), self.texts[row], re.M))
+        return sum(len(found.split(",")) for found in re.findall(r"^use Rattle\.%s\.specs\.%s\.\{([^}]*)\}" % (self.crate, name), self.texts[row], re.M))
 
 
 def theorems(text):
@@ -115,20 +115,21 @@ def theorems(text):
 
 # ---- trying edits
 
+def checked(root, crate):
+    """A check of a crate, which has ended."""
+    return subprocess.run(["rt", "check", "--jobs", "1"], cwd=os.path.join(root, "crates", crate), capture_output=True, text=True)
+
+
 class Bench:
     """A small repository with a crate and the proved libraries below it, in which edits are tried."""
 
     def __init__(self, root, files):
+        os.makedirs(os.path.join(root, "target"), exist_ok=True)
         self.files, self.root = files, tempfile.mkdtemp(prefix="mutate-", dir=os.path.join(root, "target"))
         lines = needed(root, files.crate)
         write(os.path.join(self.root, "crates.txt"), "\n".join(lines.values()) + "\n")
-        for name in lines:
+        for name in lines:  # each with what its check kept in out/
             shutil.copytree(os.path.join(root, "crates", name), os.path.join(self.root, "crates", name))
-            for part in ("rlib/%s.rlib", "stamp/%s") if name != files.crate else ():
-                there, here = (os.path.join(r, "target", part % name) for r in (root, self.root))
-                os.makedirs(os.path.dirname(here), exist_ok=True)
-                (shutil.copytree if os.path.isdir(there) else shutil.copy)(there, here)
-        shutil.copytree(os.path.join(root, "target", "inc", files.crate), os.path.join(self.root, "target", "inc", files.crate))
         self.specs = os.path.join(self.root, "crates", files.crate, "specs")
 
     def copies(self, number, edit, names):
@@ -148,7 +149,7 @@ class Bench:
         for name, text in written.items():
             write(os.path.join(self.specs, name + ".antt"), text)
         write(os.path.join(self.specs, "Lib.antt"), "".join("pub mod %s\n" % name for name in sorted(written)))
-        done = subprocess.run(["rt", "dev", self.files.crate], cwd=self.root, capture_output=True, text=True, env=dict(os.environ, RT_JOBS="1", RT_CUT="0"))
+        done = checked(self.root, self.files.crate)
         found = [[] for _ in batch]
         for name, number, declared, message in ERROR.findall(done.stdout + done.stderr):
             found[int(number)].append((name, declared, message))
@@ -239,7 +240,7 @@ def gather(crates, what):
     texts = {(files.crate, name): text for files in crates.values() for name, text in files.texts.items() if name not in files.rows}
     known = Known(texts)
     for (crate, name), text in texts.items():
-        for number, made in enumerate(edits(text, "Rattle·%s·specs.specs.%s" % (crate, name), known)):
+        for number, made in enumerate(edits(text, "Rattle.%s.specs.%s" % (crate, name), known)):
             edit = Edit(crate, name, number, made)
             if not what or edit.asked & set(what):
                 yield edit
@@ -290,7 +291,7 @@ def main():
         return
     names = [crate for crate in CRATES if any(edit.crate == crate for edit in chosen)]
     for crate in names:
-        done = subprocess.run(["rt", "dev", crate], cwd=root, capture_output=True, text=True, env=dict(os.environ, RT_JOBS="1"))
+        done = checked(root, crate)
         if done.returncode != 0:
             raise SystemExit(done.stdout + done.stderr)
     for crate in names:

@@ -4,7 +4,7 @@
     python3 tools/pins.py        from the repository's root
 
 For each crate: its `pub fn`, and which of them have a pin, `pub NAME : ..` in proofs/Pins.antt, and a row in docs/PROMISES.md.
-A pin has the call's name with - for _; its type's name may stand before it.
+A pin has the call's name, with - or _ in it; its type's name may stand before it.
 It is stated over its call's own promise, the generated `Post`, and by `OneOutcome` where the call is lent anything to write.
 Of a call that is proved by hand there is no `Post`: its pin names the generated `clauses` and what they ensure.
 Exits 1 if a call lacks its pin or its row, if the call of a pin or of a row is gone, or if a pin does not name its call's promise.
@@ -16,13 +16,17 @@ import sys
 
 CALL = re.compile(r'^\s*pub (?:extern "C" )?fn (\w+)(.*?)(?=\n\s*(?:requires|ensures)\b|\{)', re.M | re.S)
 PIN = re.compile(r"^\s*pub ([^\s:]+) :(.*?)(?=^\s*(?:unfolding\b|\1\s))", re.M | re.S)
-USE = re.compile(r"^use Rattle·\w+·proofs\.proofs\.(\S+) as (\S+)$", re.M)
+USE = re.compile(r"^use Rattle\.\w+\.(?:proofs|specs\.contracts)\.(\S+) as (\S+)$", re.M)
 ROW = re.compile(r"^\| `(\w+(?:::\w+)+)", re.M)
 IMPL = re.compile(r"^impl (\w+)", re.M)
 # Lines of Pins.antt that are no call's pin: what tells two answers apart.
 TELLS = re.compile(r"-tells$")
-# Calls that promise nothing: what they print is no result.
-SILENT = ("packed::print_wrong", "packed::print_tally")
+# Calls that promise nothing of what they print or read: what is printed is no result, and no promise can say what a file holds.
+SILENT = ("packed::print_wrong", "packed::print_tally", "packed::read_file")
+# A static library, and the library whose calls it exports. An export has the parameters and the clauses of its call, so that call's pin and row are its own.
+EXPORTED = {"exports_c": "exports"}
+# What stands between a function's name and its body.
+SIGNED = re.compile(r'^pub (?:extern "C" )?fn (\w+)(.*?)^\{', re.M | re.S)
 # Calls that are proved by hand.
 BY_HAND = ("frame::forward", "frame::backward", "frame::reset")
 
@@ -52,9 +56,8 @@ def pins(crate):
 
 def pin_of(call, held):
     """The pin of a call among those that are held, or None."""
-    name = call.split("::")[-1].replace("_", "-")
-    owned = call.lower().replace("::", "-").replace("_", "-")
-    return next((pin for pin in (owned, name) if pin in held), None)
+    name, owned = call.split("::")[-1], call.lower().replace("::", "_")
+    return next((pin for wanted in (owned, name) for pin in held if pin.replace("-", "_") == wanted), None)
 
 
 def says(call, by_hand, stated, modules):
@@ -84,11 +87,27 @@ def faults_of(crate, name, rows):
     return found, len(used - {None}), faults
 
 
+def signatures(crate):
+    """Each public function of a library's root file, with its parameters, its answer and its clauses, whatever the layout."""
+    return {name: "".join(said.split()).replace(",)", ")") for name, said in SIGNED.findall(text(f"crates/{crate}/src/lib.rt"))}
+
+
+def exported_faults(crate, library):
+    """The calls that a static library exports otherwise than they stand in its library, or not at all."""
+    made, given = signatures(library), signatures(crate)
+    return [f"exported otherwise than in {library}: {name}" for name in sorted(made.keys() | given.keys()) if made.get(name) != given.get(name)]
+
+
 def main():
     rows = set(ROW.findall(text("docs/PROMISES.md")))
     public, wrong = set(), 0
     for crate in sorted(glob.glob("crates/*")):
         name = os.path.basename(crate)
+        if name in EXPORTED:
+            faults = exported_faults(name, EXPORTED[name])
+            print(f"{name}: exports the calls of {EXPORTED[name]}" + "".join("\n  " + fault for fault in faults))
+            wrong += len(faults)
+            continue
         found, pinned, faults = faults_of(crate, name, rows)
         if found or faults:
             print(f"{name}: {len(found)} public calls, {pinned} pins" + "".join("\n  " + fault for fault in faults))

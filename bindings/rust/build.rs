@@ -12,7 +12,7 @@ fn main() {
     };
     let archive = folder.join("libexports.a");
     if !Path::new(&archive).exists() {
-        panic!("{} is not there: make it with `rt staticlib exports`", archive.display());
+        panic!("{} is not there: make it with bindings/library.sh", archive.display());
     }
     println!("cargo:rerun-if-changed={}", archive.display());
     println!("cargo:rustc-link-search=native={}", folder.display());

@@ -6,8 +6,8 @@
 ghost use Rattle.std.specs.Prelude.{◌≡◌, ◌<◌, ◌≤◌, length};
 
 use bititer::{BytesFault, BytesRead, NaturalFault, NaturalRead};
-use libc::STDOUT_FILENO;
 use packed::Tally;
+use std::io;
 
 // The numbers of a record: the kind of read, its bit position, its answer, a natural's bound and the natural, and the next position,
 // or how many bits a natural took.
@@ -218,25 +218,16 @@ fn replay(file: &[u8], wanted: u32) -> Tally {
     t
 }
 
-fn print(name: &[u8], t: Tally) {
-    io::write_all(STDOUT_FILENO, name);
-    io::print_decimal(STDOUT_FILENO, t.count as u64);
-    io::write_all(STDOUT_FILENO, b" read, ");
-    io::print_decimal(STDOUT_FILENO, t.wrong as u64);
-    io::write_all(STDOUT_FILENO, b" wrong\n");
+fn print(rt: &impl Print, name: &str, t: Tally) -> io::Result<()> {
+    let count = t.count;
+    let wrong = t.wrong;
+    println!(rt; "{name}: {count} read, {wrong} wrong")
 }
 
-fn main() {
-    let path = b"reads";
-    let fd = os::open_read(path);
-    if fd < 0 {
-        os::fail(path);
-        return;
-    }
+fn main(rt: HostRuntime) -> io::Result<()> {
     let mut file = [0u8; packed::FILE_BYTES];
-    let n = io::read_full(fd, &mut file);
-    libc::close(fd);
-    print(b"naturals: ", replay(&file[..n], 0));
-    print(b"bytes: ", replay(&file[..n], 1));
-    print(b"closings: ", replay(&file[..n], 2));
+    let n = packed::read_file(&rt, "reads", &mut file)?;
+    print(&rt, "naturals", replay(&file[..n], 0))?;
+    print(&rt, "bytes", replay(&file[..n], 1))?;
+    print(&rt, "closings", replay(&file[..n], 2))
 }

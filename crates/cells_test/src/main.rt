@@ -5,6 +5,8 @@
 ghost use Rattle.std.specs.Prelude.{◌≡◌, length};
 
 use packed::Tally;
+use std::io;
+use std::rt::Files;
 
 // The numbers of a record: the step, what it is told, and what a read answers.
 const STEP: u32 = 0;
@@ -98,19 +100,13 @@ fn replay(file: &[u8]) -> Tally {
 }
 
 // The records of the file of that name, replayed, and what came of them printed.
-fn replay_file(path: &[u8]) {
-    let fd = os::open_read(path);
-    if fd < 0 {
-        os::fail(path);
-        return;
-    }
+fn replay_file(rt: &(impl Files + Print), path: &str) -> io::Result<()> {
     let mut file = [0u8; packed::FILE_BYTES];
-    let n = io::read_full(fd, &mut file);
-    libc::close(fd);
-    packed::print_tally(path, replay(&file[..n]));
+    let n = packed::read_file(rt, path, &mut file)?;
+    packed::print_tally(rt, path.as_bytes(), replay(&file[..n]))
 }
 
-fn main() {
-    replay_file(b"steps");
-    replay_file(b"runs");
+fn main(rt: HostRuntime) -> io::Result<()> {
+    replay_file(&rt, "steps")?;
+    replay_file(&rt, "runs")
 }

@@ -3,10 +3,11 @@
 // standard error says so. The stores have the largest size that any dossier needs.
 #![tactic(auto)]
 
-ghost use Rattle.std.specs.Prelude.{◌≡◌, ◌≤◌, length};
+ghost use Rattle.std.specs.Prelude.{◌≤◌, length, IfOk};
 
-use libc::{STDERR_FILENO, STDIN_FILENO, STDOUT_FILENO};
 use refusal::{Answer, Refusal};
+use std::io;
+use std::io::{Read, Write};
 
 // The most bits of an output: the width of the widest type.
 const OUTPUT_BITS: usize = limits::TYPE_WIDTH as usize;
@@ -33,29 +34,26 @@ fn spell(answer: &[u8], count: u32, text: &mut [u8]) -> usize
 }
 
 // The line of an output.
-fn print_value(count: u32, answer: &[u8]) {
-    io::write_all(STDOUT_FILENO, b"value ");
-    io::print_decimal(STDOUT_FILENO, count as u64);
+fn print_value<W: Write>(out: &mut W, count: u32, answer: &[u8]) -> io::Result<()> {
+    write!(out, "value {count}")?;
     if 0 < count {
         let mut text = [0u8; OUTPUT_BITS];
         let n = spell(answer, count, &mut text);
-        io::write_all(STDOUT_FILENO, b" ");
-        io::write_all(STDOUT_FILENO, &text[..n]);
+        out.write_all(b" ")?;
+        out.write_all(&text[..n])?;
     }
-    io::write_all(STDOUT_FILENO, b"\n");
+    out.write_all(b"\n")
 }
 
 // The line of a refusal.
-fn print_refusal(why: Refusal) {
-    io::write_all(STDOUT_FILENO, b"refused ");
-    io::print_decimal(STDOUT_FILENO, refusal::number(why) as u64);
-    io::write_all(STDOUT_FILENO, b" ");
-    io::print_decimal(STDOUT_FILENO, refusal::place(why) as u64);
-    io::write_all(STDOUT_FILENO, b"\n");
+fn print_refusal<W: Write>(out: &mut W, why: Refusal) -> io::Result<()> {
+    let number = refusal::number(why);
+    let place = refusal::place(why);
+    writeln!(out, "refused {number} {place}")
 }
 
 // The whole job on a dossier, and its line.
-fn answer(dossier: &[u8]) {
+fn answer<W: Write>(out: &mut W, dossier: &[u8]) -> io::Result<()> {
     let mut nodes = [0u32; limits::NODE_NUMBERS * limits::NODE_COUNT];
     let mut hashes = [0u8; limits::DOSSIER_BYTES];
     let mut cells = [0u8; limits::CELL_COUNT as usize / 8];
@@ -70,50 +68,31 @@ fn answer(dossier: &[u8]) {
         &mut answer,
     );
     match said {
-        Answer::Value(count) => print_value(count, &answer),
-        Answer::Refused(why) => print_refusal(why),
+        Answer::Value(count) => print_value(out, count, &answer),
+        Answer::Refused(why) => print_refusal(out, why),
     }
 }
 
-// How many bytes were read, and whether a read failed.
-#[derive(Drop)]
-struct Input {
-    count: usize,
-    failed: bool,
-}
-
-// Reads standard input until the buffer is full, the input ends or a read fails.
-fn read_input(buf: &mut [u8]) -> Input
-    ensures { result.count ≤ length buf.new }
+// Reads until the buffer is full or the input ends; how many bytes were read.
+fn read_input<R: Read>(input: &mut R, buf: &mut [u8]) -> io::Result<usize>
+    ensures { IfOk result (λ n. n ≤ length buf.new) }
 {
     let mut count: usize = 0;
     while count < buf.len() {
-        let got = libc::read(STDIN_FILENO, &mut buf[count..]);
-        if got < 0 {
-            return Input {
-                count,
-                failed: true,
-            };
-        }
-        let more = io::count(got, &buf[count..]);
+        let more = input.read(&mut buf[count..])?;
         if more == 0 {
             break;
         }
         count += more;
     }
-    Input {
-        count,
-        failed: false,
-    }
+    Ok(count)
 }
 
-fn main() {
+fn main(rt: HostRuntime) -> io::Result<()> {
     let mut input = [0u8; limits::DOSSIER_BYTES + 1];
-    let got = read_input(&mut input);
-    if got.failed {
-        io::write_all(STDERR_FILENO, b"drevaloci: standard input cannot be read\n");
-        return;
-    }
-    let count = got.count;
-    answer(&input[..count]);
+    let mut stdin = rt.stdin();
+    let Ok(count) = read_input(&mut stdin, &mut input) else {
+        return eprintln!(rt; "drevaloci: standard input cannot be read");
+    };
+    answer(&mut io::writer(&rt), &input[..count])
 }

@@ -1,6 +1,6 @@
-// The calls that controllers in C and Rust make: the whole job, decoding, and the stages one by one, over lent slices.
+// The calls that controllers in C and Rust make: the whole job, decoding, and the stages one by one, over lent slices. C reaches them through exports_c.
 // Each answers 0, or the number of its refusal. Beside it, through `place`, stands a refusal's place, or the count that an output or a table has.
-// A slice is passed as a pointer and then a length in elements. Each call promises what the call that it wraps promises.
+// Each call promises what the call that it wraps promises.
 #![tactic(auto)]
 
 ghost use Rattle.std.specs.Prelude.{◌≡◌, length, ◌/◌};
@@ -46,8 +46,7 @@ fn fault_code(why: NaturalFault) -> u32
 }
 
 // The whole job.
-#[unsafe(no_mangle)]
-pub extern "C" fn drevaloci_run(
+pub fn drevaloci_run(
     dossier: &[u8],
     nodes: &mut [u32],
     hashes: &mut [u8],
@@ -66,8 +65,7 @@ pub extern "C" fn drevaloci_run(
 }
 
 // A program's bytes into a node store and a hash store; `place` gets the count of nodes, `bytes` the bytes used of the hash store.
-#[unsafe(no_mangle)]
-pub extern "C" fn drevaloci_decode(
+pub fn drevaloci_decode(
     program: &[u8],
     nodes: &mut [u32],
     hashes: &mut [u8],
@@ -94,13 +92,7 @@ pub extern "C" fn drevaloci_decode(
 }
 
 // Lent nodes: 4, 26, 1 and the walk.
-#[unsafe(no_mangle)]
-pub extern "C" fn drevaloci_walk(
-    program: &[u8],
-    hashes: &[u8],
-    nodes: &[u32],
-    place: &mut u32,
-) -> u32
+pub fn drevaloci_walk(program: &[u8], hashes: &[u8], nodes: &[u32], place: &mut u32) -> u32
     ensures { judged result place.new ≡ judged_by (walk_stage program.now hashes.now nodes.now) }
 {
     let walked = common::answer_of(table::walk_stage(program, hashes, nodes));
@@ -109,8 +101,7 @@ pub extern "C" fn drevaloci_walk(
 }
 
 // Lent tables up to their arrows: 11, 12, and 9 for equal nodes.
-#[unsafe(no_mangle)]
-pub extern "C" fn drevaloci_arrows(
+pub fn drevaloci_arrows(
     types: &[u8],
     nodes: &[u32],
     arrows: &[u8],
@@ -127,8 +118,7 @@ pub extern "C" fn drevaloci_arrows(
 }
 
 // Lent tables up to their supplied hashes: 13.
-#[unsafe(no_mangle)]
-pub extern "C" fn drevaloci_hashes(
+pub fn drevaloci_hashes(
     types: &[u8],
     nodes: &[u32],
     arrows: &[u8],
@@ -147,8 +137,7 @@ pub extern "C" fn drevaloci_hashes(
 }
 
 // Lent tables up to their bounds, 14: the cells, frames and cost of the whole program; of a refusal `cells` gets the place.
-#[unsafe(no_mangle)]
-pub extern "C" fn drevaloci_bounds(
+pub fn drevaloci_bounds(
     types: &[u8],
     nodes: &[u32],
     arrows: &[u8],
@@ -179,8 +168,7 @@ pub extern "C" fn drevaloci_bounds(
 }
 
 // A run over lent tables: all of it, as the whole job does it after decoding.
-#[unsafe(no_mangle)]
-pub extern "C" fn drevaloci_run_tables<'a>(
+pub fn drevaloci_run_tables<'a>(
     types: &'a [u8],
     nodes: &'a [u32],
     arrows: &'a [u8],
@@ -220,8 +208,7 @@ pub extern "C" fn drevaloci_run_tables<'a>(
 }
 
 // One natural from the bit position `at` on, at most `bound`: the number, and the position after it.
-#[unsafe(no_mangle)]
-pub extern "C" fn drevaloci_natural(
+pub fn drevaloci_natural(
     bytes: &[u8],
     at: usize,
     bound: u32,

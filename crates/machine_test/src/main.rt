@@ -4,8 +4,9 @@
 
 ghost use Rattle.std.specs.Prelude.{◌≤◌};
 
-use libc::STDOUT_FILENO;
 use refusal::Answer;
+use std::io;
+use std::rt::Files;
 
 // The largest stores: node numbers, cell bytes, frame numbers, answer bytes.
 const NODES: usize = limits::NODE_NUMBERS * limits::NODE_COUNT;
@@ -38,7 +39,7 @@ const INPUT: u32 = 14;
 const HEAD: u32 = 15;
 
 // A number that stands so many times in a row.
-#[derive(Drop)]
+#[derive(Clone, Copy)]
 struct Row {
     number: u32,
     count: u64,
@@ -50,33 +51,33 @@ fn part(record: &[u8], k: u32) -> &[u8] {
 }
 
 // Prints a number in hexadecimal, and how often it stands in a row where that is more than once.
-fn print_row(row: Row) {
+fn print_row(rt: &impl Print, row: Row) -> io::Result<()> {
+    let number = row.number;
     let count = row.count;
     if count == 0 {
-        return;
+        return Ok(());
     }
-    io::write_all(STDOUT_FILENO, b" ");
-    io::print_hex(STDOUT_FILENO, row.number as u64, 1);
+    print!(rt; " {number:x}")?;
     if 1 < count {
-        io::write_all(STDOUT_FILENO, b"*");
-        io::print_decimal(STDOUT_FILENO, count);
+        print!(rt; "*{count}")?;
     }
+    Ok(())
 }
 
 // A row with the next number of its store; another number begins another row, and the one that ends is printed.
-fn row_after(row: Row, number: u32) -> Row {
+fn row_after(rt: &impl Print, row: Row, number: u32) -> io::Result<Row> {
     let count = row.count;
     if row.number != number {
-        print_row(row);
-        return Row { number, count: 1 };
+        print_row(rt, row)?;
+        return Ok(Row { number, count: 1 });
     }
     if 65_536 < count {
-        return row;
+        return Ok(row);
     }
-    Row {
+    Ok(Row {
         number,
         count: count + 1,
-    }
+    })
 }
 
 // Entry i of some bytes and, after them, numbers.
@@ -89,50 +90,45 @@ fn entry(bytes: &[u8], numbers: &[u32], i: usize) -> u32 {
 }
 
 // Prints a store row by row: bytes, or numbers, where there are none of the other.
-fn print_rows(bytes: &[u8], numbers: &[u32]) {
+fn print_rows(rt: &impl Print, bytes: &[u8], numbers: &[u32]) -> io::Result<()> {
     let mut row = Row {
         number: 0,
         count: 0,
     };
     let mut i: usize = 0;
     while i < bytes.len() + numbers.len() {
-        row = row_after(row, entry(bytes, numbers, i));
+        row = row_after(rt, row, entry(bytes, numbers, i))?;
         i += 1;
     }
-    print_row(row);
+    print_row(rt, row)
 }
 
-fn print_answer(said: Answer) {
+fn print_answer(rt: &impl Print, said: Answer) -> io::Result<()> {
     match said {
-        Answer::Value(count) => {
-            io::write_all(STDOUT_FILENO, b"value ");
-            io::print_decimal(STDOUT_FILENO, count as u64);
-        }
+        Answer::Value(count) => print!(rt; "value {count}"),
         Answer::Refused(why) => {
-            io::write_all(STDOUT_FILENO, b"refused ");
-            io::print_decimal(STDOUT_FILENO, refusal::number(why) as u64);
-            io::write_all(STDOUT_FILENO, b" ");
-            io::print_decimal(STDOUT_FILENO, refusal::place(why) as u64);
+            let number = refusal::number(why);
+            let place = refusal::place(why);
+            print!(rt; "refused {number} {place}")
         }
     }
 }
 
-fn print_stores(cells: &[u8], frames: &[u32], answer: &[u8]) {
-    io::write_all(STDOUT_FILENO, b"; cells");
-    print_rows(cells, packed::front_numbers(frames, 0));
-    io::write_all(STDOUT_FILENO, b"; frames");
-    print_rows(packed::front(cells, 0), frames);
-    io::write_all(STDOUT_FILENO, b"; answer");
-    print_rows(answer, packed::front_numbers(frames, 0));
-    io::write_all(STDOUT_FILENO, b"\n");
+fn print_stores(rt: &impl Print, cells: &[u8], frames: &[u32], answer: &[u8]) -> io::Result<()> {
+    print!(rt; "; cells")?;
+    print_rows(rt, cells, packed::front_numbers(frames, 0))?;
+    print!(rt; "; frames")?;
+    print_rows(rt, packed::front(cells, 0), frames)?;
+    print!(rt; "; answer")?;
+    print_rows(rt, answer, packed::front_numbers(frames, 0))?;
+    println!(rt)
 }
 
 // Prints the name of a record's run, and the byte that fills the stores, which is the last of its number 2.
-fn print_head(record: &[u8]) {
-    io::write_all(STDOUT_FILENO, part(record, NAME));
-    io::write_all(STDOUT_FILENO, b", filled with ");
-    io::print_hex(STDOUT_FILENO, common::byte_at(record, 11) as u64, 1);
-    io::write_all(STDOUT_FILENO, b": ");
+fn print_head(rt: &impl Print, record: &[u8]) -> io::Result<()> {
+    let fill = common::byte_at(record, 11);
+    rt.write_all(part(record, NAME))?;
+    print!(rt; ", filled with {fill:x}: ")
 }
 
 // The run of a record on its tables, in these stores.
@@ -162,16 +158,17 @@ fn run<'a>(
 
 // Runs a record and prints what it says and leaves.
 fn show<'a>(
+    rt: &impl Print,
     record: &'a [u8],
     nodes: &'a [u32],
     cells: &mut [u8],
     frames: &mut [u32],
     answer: &mut [u8],
-) {
+) -> io::Result<()> {
     let said = run(record, nodes, cells, frames, answer);
-    print_head(record);
-    print_answer(said);
-    print_stores(cells, frames, answer);
+    print_head(rt, record)?;
+    print_answer(rt, said)?;
+    print_stores(rt, cells, frames, answer)
 }
 
 // Number k of a record, and at most the largest.
@@ -186,7 +183,7 @@ fn size(record: &[u8], k: u32, most: usize) -> usize
 }
 
 // A run on a table in stores of the record's sizes, filled as it says.
-fn show_run<'a>(record: &'a [u8], nodes: &'a [u32]) {
+fn show_run<'a>(rt: &impl Print, record: &'a [u8], nodes: &'a [u32]) -> io::Result<()> {
     let fill = common::byte_at(record, 11);
     let old = fill as u32 * 16_843_009;
     let mut cells = [fill; CELLS];
@@ -196,46 +193,42 @@ fn show_run<'a>(record: &'a [u8], nodes: &'a [u32]) {
     let b = size(record, 4, FRAMES);
     let c = size(record, 5, ANSWER);
     show(
+        rt,
         record,
         nodes,
         &mut cells[0..a],
         &mut frames[0..b],
         &mut answer[0..c],
-    );
+    )
 }
 
 // A run of a record on its table.
-fn show_record(record: &[u8]) {
+fn show_record(rt: &impl Print, record: &[u8]) -> io::Result<()> {
     let mut nodes = [0u32; NODES];
     let n = packed::laid(part(record, TABLE), &mut nodes);
-    show_run(record, packed::front_numbers(&nodes, n));
+    show_run(rt, record, packed::front_numbers(&nodes, n))
 }
 
 // Every run of a file.
-fn show_all(file: &[u8]) {
+fn show_all(rt: &impl Print, file: &[u8]) -> io::Result<()> {
     let mut rest = file;
     while 0 < rest.len() {
-        show_record(packed::first_record(rest));
+        show_record(rt, packed::first_record(rest))?;
         let next = packed::after_first(rest);
         rest = next;
     }
+    Ok(())
 }
 
 // The same of the file at a path.
-fn show_file(path: &[u8]) {
-    let fd = os::open_read(path);
-    if fd < 0 {
-        os::fail(path);
-        return;
-    }
+fn show_file(rt: &(impl Files + Print), path: &str) -> io::Result<()> {
     let mut file = [0u8; packed::FILE_BYTES];
-    let n = io::read_full(fd, &mut file);
-    libc::close(fd);
-    show_all(&file[..n]);
+    let n = packed::read_file(rt, path, &mut file)?;
+    show_all(rt, &file[..n])
 }
 
-fn main() {
-    show_file(b"runs0");
-    show_file(b"runs1");
-    show_file(b"runs2");
+fn main(rt: HostRuntime) -> io::Result<()> {
+    show_file(&rt, "runs0")?;
+    show_file(&rt, "runs1")?;
+    show_file(&rt, "runs2")
 }

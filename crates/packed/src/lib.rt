@@ -1,22 +1,48 @@
-// Packed records of test data: numbers, the parts of a record, packed lists of numbers, and the tally that is printed of a file.
+// Packed records of test data: files of them read, numbers, the parts of a record, packed lists of numbers, and the tally that is printed of a file.
 // Every read has an answer past the end: numbers are 0 there, and a part or a record that is cut off is empty.
 #![tactic(auto)]
 
-ghost use Rattle.std.specs.Prelude.{◌≡◌, ◌+◌, ◌*◌, ◌<◌, take, drop};
+ghost use Rattle.std.specs.Prelude.{◌≡◌, ◌+◌, ◌*◌, ◌<◌, ◌≤◌, length, take, drop, IfOk};
 ghost use Rattle.packed.specs.Records.{number, whole, part, first_record, after_first, tells};
 ghost use Rattle.packed.specs.Lists.{unpacked, head_or, after_number, holds_numbers, laid};
 ghost use Rattle.packed.specs.Tallies.{counted};
 
-use libc::STDOUT_FILENO;
+use std::fs::File;
+use std::io;
+use std::io::Read;
+use std::rt::Files;
 
 // The most bytes of a file.
 pub const FILE_BYTES: usize = 65_536;
 
 // How many records a file had, and how many of them came out otherwise than it says.
-#[derive(Drop)]
+#[derive(Clone, Copy)]
 pub struct Tally {
     pub count: u32,
     pub wrong: u32,
+}
+
+// Reads until the buffer is full or the reader ends; how many bytes were read.
+fn fill<R: Read>(reader: &mut R, buf: &mut [u8]) -> io::Result<usize>
+    ensures { IfOk result (λ n. n ≤ length buf.new) }
+{
+    let mut count: usize = 0;
+    while count < buf.len() {
+        let more = reader.read(&mut buf[count..])?;
+        if more == 0 {
+            break;
+        }
+        count += more;
+    }
+    Ok(count)
+}
+
+// Reads the file at a path until the buffer is full or the file ends; how many bytes were read.
+pub fn read_file<R: Files>(rt: &R, path: &str, buf: &mut [u8]) -> io::Result<usize>
+    ensures { IfOk result (λ n. n ≤ length buf.new) }
+{
+    let mut file = File::open(rt, path)?;
+    fill(&mut file, buf)
 }
 
 // Number k of a record.
@@ -186,18 +212,17 @@ pub fn counted(t: Tally, fine: bool) -> Tally
 }
 
 // Prints a line that names what came out otherwise.
-pub fn print_wrong(name: &[u8]) {
-    io::write_all(STDOUT_FILENO, b"wrong: ");
-    io::write_all(STDOUT_FILENO, name);
-    io::write_all(STDOUT_FILENO, b"\n");
+pub fn print_wrong(rt: &impl Print, name: &[u8]) -> io::Result<()> {
+    rt.write_all(b"wrong: ")?;
+    rt.write_all(name)?;
+    rt.write_all(b"\n")
 }
 
 // Prints a line: how many there were of what, and how many wrong.
-pub fn print_tally(what: &[u8], t: Tally) {
-    io::print_decimal(STDOUT_FILENO, t.count as u64);
-    io::write_all(STDOUT_FILENO, b" ");
-    io::write_all(STDOUT_FILENO, what);
-    io::write_all(STDOUT_FILENO, b", ");
-    io::print_decimal(STDOUT_FILENO, t.wrong as u64);
-    io::write_all(STDOUT_FILENO, b" wrong\n");
+pub fn print_tally(rt: &impl Print, what: &[u8], t: Tally) -> io::Result<()> {
+    let count = t.count;
+    let wrong = t.wrong;
+    print!(rt; "{count} ")?;
+    rt.write_all(what)?;
+    println!(rt; ", {wrong} wrong")
 }

@@ -6,7 +6,7 @@
 ghost use Rattle.std.specs.Prelude.{◌≡◌};
 ghost use Rattle.refusal.specs.Numbers.{number_of, place_of, keeps_table};
 
-#[derive(Drop)]
+#[derive(Clone, Copy)]
 pub enum Refusal {
     // 1: dossier too short or too long, or a header number against the rules. Place: 0, or the byte position of the number.
     Header(u32),
@@ -53,7 +53,7 @@ pub enum Refusal {
 }
 
 // What a run says: the count of the output's compact bits, which stand in the answer store, or why there is none.
-#[derive(Drop)]
+#[derive(Clone, Copy)]
 pub enum Answer {
     Value(u32),
     Refused(Refusal),

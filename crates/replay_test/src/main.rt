@@ -9,6 +9,8 @@ ghost use Rattle.std.specs.Prelude.{◌≤◌};
 use analysis::BoundsAnswer;
 use packed::Tally;
 use refusal::{Answer, Refusal};
+use std::io;
+use std::rt::Files;
 
 // The largest stores: node numbers, hash bytes, cell bytes, frame numbers, answer bytes.
 const NODES: usize = limits::NODE_NUMBERS * limits::NODE_COUNT;
@@ -220,106 +222,106 @@ fn record_right(record: &[u8], odd: bool) -> bool {
 }
 
 // The same, and a record that is wrong is named.
-fn right(record: &[u8], odd: bool) -> bool {
+fn right(rt: &impl Print, record: &[u8], odd: bool) -> io::Result<bool> {
     if record_right(record, odd) {
-        return true;
+        return Ok(true);
     }
-    packed::print_wrong(part(record, NAME));
-    false
+    packed::print_wrong(rt, part(record, NAME))?;
+    Ok(false)
 }
 
 // The records of a file, counted on.
-fn replay(file: &[u8], odd: bool, before: Tally) -> Tally {
+fn replay(rt: &impl Print, file: &[u8], odd: bool, before: Tally) -> io::Result<Tally> {
     let mut t = before;
     let mut rest = file;
     while 0 < rest.len() {
-        t = packed::counted(t, right(packed::first_record(rest), odd));
+        let fine = right(rt, packed::first_record(rest), odd)?;
+        t = packed::counted(t, fine);
         let next = packed::after_first(rest);
         rest = next;
     }
-    t
+    Ok(t)
 }
 
 // The same of the file at a path.
-fn replay_file(path: &[u8], odd: bool, before: Tally) -> Tally {
-    let fd = os::open_read(path);
-    if fd < 0 {
-        os::fail(path);
-        return before;
-    }
+fn replay_file(
+    rt: &(impl Files + Print),
+    path: &str,
+    odd: bool,
+    before: Tally,
+) -> io::Result<Tally> {
     let mut file = [0u8; packed::FILE_BYTES];
-    let n = io::read_full(fd, &mut file);
-    libc::close(fd);
-    replay(&file[..n], odd, before)
+    let n = packed::read_file(rt, path, &mut file)?;
+    replay(rt, &file[..n], odd, before)
 }
 
 // The tally of each list, whose files' names end in 0, 1 and so on.
-fn replay_known() {
+fn replay_known(rt: &(impl Files + Print)) -> io::Result<()> {
     let none = Tally { count: 0, wrong: 0 };
-    let mut t = replay_file(b"known0", false, none);
-    t = replay_file(b"known1", false, t);
-    packed::print_tally(b"known", t);
+    let mut t = replay_file(rt, "known0", false, none)?;
+    t = replay_file(rt, "known1", false, t)?;
+    packed::print_tally(rt, b"known", t)
 }
 
-fn replay_edges() {
+fn replay_edges(rt: &(impl Files + Print)) -> io::Result<()> {
     let none = Tally { count: 0, wrong: 0 };
-    let mut t = replay_file(b"edges0", false, none);
-    t = replay_file(b"edges1", false, t);
-    t = replay_file(b"edges2", false, t);
-    t = replay_file(b"edges3", false, t);
-    t = replay_file(b"edges4", false, t);
-    t = replay_file(b"edges5", false, t);
-    packed::print_tally(b"edges", t);
+    let mut t = replay_file(rt, "edges0", false, none)?;
+    t = replay_file(rt, "edges1", false, t)?;
+    t = replay_file(rt, "edges2", false, t)?;
+    t = replay_file(rt, "edges3", false, t)?;
+    t = replay_file(rt, "edges4", false, t)?;
+    t = replay_file(rt, "edges5", false, t)?;
+    packed::print_tally(rt, b"edges", t)
 }
 
-fn replay_random() {
+fn replay_random(rt: &(impl Files + Print)) -> io::Result<()> {
     let none = Tally { count: 0, wrong: 0 };
-    let mut t = replay_file(b"random0", false, none);
-    t = replay_file(b"random1", false, t);
-    t = replay_file(b"random2", false, t);
-    t = replay_file(b"random3", false, t);
-    t = replay_file(b"random4", false, t);
-    t = replay_file(b"random5", false, t);
-    t = replay_file(b"random6", false, t);
-    packed::print_tally(b"random", t);
+    let mut t = replay_file(rt, "random0", false, none)?;
+    t = replay_file(rt, "random1", false, t)?;
+    t = replay_file(rt, "random2", false, t)?;
+    t = replay_file(rt, "random3", false, t)?;
+    t = replay_file(rt, "random4", false, t)?;
+    t = replay_file(rt, "random5", false, t)?;
+    t = replay_file(rt, "random6", false, t)?;
+    packed::print_tally(rt, b"random", t)
 }
 
-fn replay_bounds() {
+fn replay_bounds(rt: &(impl Files + Print)) -> io::Result<()> {
     let none = Tally { count: 0, wrong: 0 };
-    let mut t = replay_file(b"bounds0", false, none);
-    t = replay_file(b"bounds1", false, t);
-    packed::print_tally(b"bounds", t);
+    let mut t = replay_file(rt, "bounds0", false, none)?;
+    t = replay_file(rt, "bounds1", false, t)?;
+    packed::print_tally(rt, b"bounds", t)
 }
 
-fn replay_stores(what: &[u8], odd: bool) {
+fn replay_stores(rt: &(impl Files + Print), what: &[u8], odd: bool) -> io::Result<()> {
     let none = Tally { count: 0, wrong: 0 };
-    let mut t = replay_file(b"stores0", odd, none);
-    t = replay_file(b"stores1", odd, t);
-    t = replay_file(b"stores2", odd, t);
-    t = replay_file(b"stores3", odd, t);
-    packed::print_tally(what, t);
+    let mut t = replay_file(rt, "stores0", odd, none)?;
+    t = replay_file(rt, "stores1", odd, t)?;
+    t = replay_file(rt, "stores2", odd, t)?;
+    t = replay_file(rt, "stores3", odd, t)?;
+    packed::print_tally(rt, what, t)
 }
 
-fn replay_outputs() {
+fn replay_outputs(rt: &(impl Files + Print)) -> io::Result<()> {
     let none = Tally { count: 0, wrong: 0 };
-    let mut t = replay_file(b"outputs0", false, none);
-    t = replay_file(b"outputs1", false, t);
-    t = replay_file(b"outputs2", false, t);
-    packed::print_tally(b"outputs", t);
+    let mut t = replay_file(rt, "outputs0", false, none)?;
+    t = replay_file(rt, "outputs1", false, t)?;
+    t = replay_file(rt, "outputs2", false, t)?;
+    packed::print_tally(rt, b"outputs", t)
 }
 
-fn replay_lengths() {
-    let t = replay_file(b"lengths0", false, Tally { count: 0, wrong: 0 });
-    packed::print_tally(b"lengths", t);
+fn replay_lengths(rt: &(impl Files + Print)) -> io::Result<()> {
+    let t = replay_file(rt, "lengths0", false, Tally { count: 0, wrong: 0 })?;
+    packed::print_tally(rt, b"lengths", t)
 }
 
-fn main() {
-    replay_known();
-    replay_edges();
-    replay_random();
-    replay_bounds();
-    replay_stores(b"stores", false);
-    replay_stores(b"stores with odd numbers more", true);
-    replay_lengths();
-    replay_outputs();
+fn main(rt: HostRuntime) -> io::Result<()> {
+    replay_known(&rt)?;
+    replay_edges(&rt)?;
+    replay_random(&rt)?;
+    replay_bounds(&rt)?;
+    replay_stores(&rt, b"stores", false)?;
+    replay_stores(&rt, b"stores with odd numbers more", true)?;
+    replay_lengths(&rt)?;
+    replay_outputs(&rt)
 }

@@ -7,6 +7,8 @@ use common::Checked;
 use decode::Decoded;
 use packed::Tally;
 use refusal::Refusal;
+use std::io;
+use std::rt::Files;
 
 // The numbers of a store of nodes, room for as many records as a table may have: 64 KiB.
 const NUMBERS: usize = limits::NODE_NUMBERS * limits::NODE_COUNT;
@@ -17,6 +19,9 @@ const HASHES: usize = 4_096;
 const OLD_NUMBER: u32 = 2_779_096_485;
 
 const OLD_BYTE: u8 = 165;
+
+// How many zeros there are for a lent program and a lent hash store of zeros.
+const ZEROS: usize = 65_536;
 
 // The parts of a record, each by the number that is its size, and how many numbers a record has: of a lent table, and of a program.
 const LENT_TABLE: u32 = 4;
@@ -62,12 +67,8 @@ fn lent_right(record: &[u8]) -> bool {
     let list = packed::part(record, LENT_TABLE, LENT_HEAD, LENT_TABLE);
     let n = packed::laid(list, &mut nodes);
     let given = packed::part(record, LENT_TABLE, LENT_HEAD, LENT_HASHES);
-    stage_right(
-        record,
-        given,
-        &io::large_buffer(),
-        packed::front_numbers(&nodes, n),
-    )
+    let zeros = [0u8; ZEROS];
+    stage_right(record, given, &zeros, packed::front_numbers(&nodes, n))
 }
 
 // Whether a store holds some bytes, and then zeros.
@@ -76,7 +77,8 @@ fn holds_bytes(store: &[u8], bytes: &[u8]) -> bool {
         return false;
     }
     let rest = packed::from(store, bytes.len());
-    check::same(rest, packed::front(&io::large_buffer(), rest.len()))
+    let zeros = [0u8; ZEROS];
+    check::same(rest, packed::front(&zeros, rest.len()))
 }
 
 // Whether decoding says what the record says: numbers 0 to 2 are the refusal's number and place, or 0 and 0, and the count of nodes;
@@ -148,30 +150,24 @@ fn replay(file: &[u8], lent: bool, before: Tally) -> Tally {
 }
 
 // The same of the file at a path.
-fn replay_file(path: &[u8], lent: bool, before: Tally) -> Tally {
-    let fd = os::open_read(path);
-    if fd < 0 {
-        os::fail(path);
-        return before;
-    }
+fn replay_file(rt: &impl Files, path: &str, lent: bool, before: Tally) -> io::Result<Tally> {
     let mut file = [0u8; packed::FILE_BYTES];
-    let n = io::read_full(fd, &mut file);
-    libc::close(fd);
-    replay(&file[..n], lent, before)
+    let n = packed::read_file(rt, path, &mut file)?;
+    Ok(replay(&file[..n], lent, before))
 }
 
-fn main() {
+fn main(rt: HostRuntime) -> io::Result<()> {
     let none = Tally { count: 0, wrong: 0 };
-    let mut t = replay_file(b"lent0", true, none);
-    t = replay_file(b"lent1", true, t);
-    t = replay_file(b"lent2", true, t);
-    t = replay_file(b"lent3", true, t);
-    t = replay_file(b"lent4", true, t);
-    t = replay_file(b"lent5", true, t);
-    packed::print_tally(b"lent", t);
-    t = replay_file(b"programs0", false, none);
-    t = replay_file(b"programs1", false, t);
-    t = replay_file(b"programs2", false, t);
-    t = replay_file(b"programs3", false, t);
-    packed::print_tally(b"programs", t);
+    let mut t = replay_file(&rt, "lent0", true, none)?;
+    t = replay_file(&rt, "lent1", true, t)?;
+    t = replay_file(&rt, "lent2", true, t)?;
+    t = replay_file(&rt, "lent3", true, t)?;
+    t = replay_file(&rt, "lent4", true, t)?;
+    t = replay_file(&rt, "lent5", true, t)?;
+    packed::print_tally(&rt, b"lent", t)?;
+    t = replay_file(&rt, "programs0", false, none)?;
+    t = replay_file(&rt, "programs1", false, t)?;
+    t = replay_file(&rt, "programs2", false, t)?;
+    t = replay_file(&rt, "programs3", false, t)?;
+    packed::print_tally(&rt, b"programs", t)
 }

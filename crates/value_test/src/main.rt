@@ -6,6 +6,8 @@
 ghost use Rattle.std.specs.Prelude.{◌<◌};
 
 use packed::Tally;
+use std::io;
+use std::rt::Files;
 use types::TypeAnswer;
 use value::{ValueRead, ValueWritten};
 
@@ -216,21 +218,17 @@ fn replay(file: &[u8], tables: bool, before: Tally) -> Tally {
 }
 
 // The same of the file at a path.
-fn replay_file(path: &[u8], tables: bool, before: Tally) -> Tally {
-    let fd = os::open_read(path);
-    if fd < 0 {
-        os::fail(path);
-        return before;
-    }
+fn replay_file(rt: &impl Files, path: &str, tables: bool, before: Tally) -> io::Result<Tally> {
     let mut file = [0u8; packed::FILE_BYTES];
-    let n = io::read_full(fd, &mut file);
-    libc::close(fd);
-    replay(&file[..n], tables, before)
+    let n = packed::read_file(rt, path, &mut file)?;
+    Ok(replay(&file[..n], tables, before))
 }
 
-fn main() {
+fn main(rt: HostRuntime) -> io::Result<()> {
     let none = Tally { count: 0, wrong: 0 };
-    packed::print_tally(b"tables", replay_file(b"tables0", true, none));
-    let t = replay_file(b"values0", false, none);
-    packed::print_tally(b"values", replay_file(b"values1", false, t));
+    let mut t = replay_file(&rt, "tables0", true, none)?;
+    packed::print_tally(&rt, b"tables", t)?;
+    t = replay_file(&rt, "values0", false, none)?;
+    t = replay_file(&rt, "values1", false, t)?;
+    packed::print_tally(&rt, b"values", t)
 }
