@@ -25,21 +25,21 @@ use refusal::Refusal;
 use table::NodeRecord;
 
 // How many records and how many bytes of hashes were decoded.
-#[derive(Drop)]
+#[derive(Clone, Copy)]
 pub struct Sizes {
     pub nodes: u32,
     pub hashes: u32,
 }
 
 // What decoding says: the table's sizes, or why there is none.
-#[derive(Drop)]
+#[derive(Clone, Copy)]
 pub enum Decoded {
     Table(Sizes),
     Refused(Refusal),
 }
 
 // The bytes that follow a node's bits: none, the 32 of a hidden node, or the 64 of a fail node.
-#[derive(Drop)]
+#[derive(Clone, Copy)]
 enum Follows {
     Nothing,
     Hash,

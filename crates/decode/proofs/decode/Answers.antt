@@ -1,0 +1,14 @@
+-- `decode::decode` meets its contract: the stores are cleared behind what the answer keeps.
+use Rattle.decode.proofs.Tables.{clearing_leaves}
+use Rattle.decode.proofs.decode.Goals as goal
+
+pub returns : goal.returns
+returns c =
+    let place2 = c.place-2 in
+    let place = c.place in
+    let sizes-of = c.sizes_of-kept in
+    let checked-table = c.checked_table-answer in
+    clearing_leaves _ checked-table.result checked-table.new.nodes checked-table.new.hashes _ _
+    checked-table.ensures checked-table.auto.nodes checked-table.auto.hashes sizes-of.result sizes-of.ensures
+    place.result place2.result place.ensures.0 place2.ensures.0 _ _
+    c.clear_numbers.ensures c.clear_bytes.ensures
