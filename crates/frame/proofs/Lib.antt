@@ -1,4 +1,3 @@
 pub mod Moves
-pub mod InPlace
 pub mod Records
 pub mod Pins

@@ -1,5 +1,5 @@
 -- What each public call promises has one outcome: over the call's own promise, `Post`, two results, or two frames or stores that are left, are the same.
--- The moves in place are proved by hand and have no `Post`: their pins say which fact their clauses are, and that one frame alone meets it.
+-- The pins of the moves in place say which fact their clauses are, and that one frame alone meets it.
 use mathlib.Core.Path.{◌≡◌, refl, sym, ap, ◌∙◌}
 use seplogic.Ra.Ura.{Ura}
 use base.Logic.{SProp}
