@@ -1,7 +1,7 @@
 -- Lists of tests, each the same as another.
-use mathlib.Core.Path.{◌≡◌, refl, ap}
-use mathlib.Core.Bool.{Bool, true, false}
-use mathlib.Core.List.{List, [], ◌∷◌}
+use mathlib.Core.Path.{◌≡◌}
+use mathlib.Core.Bool.{Bool}
+use mathlib.Core.List.{[], ◌∷◌}
 use Rattle.scope.specs.Numbers.{every}
 
 pub all_four : {a a' b b' c c' d d' : Bool} → a ≡ a' → b ≡ b' → c ≡ c' → d ≡ d' → every (a ∷ b ∷ c ∷ d ∷ []) ≡ every (a' ∷ b' ∷ c' ∷ d' ∷ [])

@@ -1,0 +1,10 @@
+-- `arrow::all2` meets its contract.
+use mathlib.Core.Path.{sym, ◌∙◌}
+use Rattle.common.specs.Checks.{every_one, every_held, every_failed}
+use Rattle.arrow.proofs.all2.Goals as goal
+
+pub returns-then-a : goal.returns-then-a
+returns-then-a c = sym (every_held _ _ c.if-a.true ∙ every_one _)
+
+pub returns-else-a : goal.returns-else-a
+returns-else-a c = sym (every_failed _ _ c.if-a.false)

@@ -1,0 +1,17 @@
+-- `arrow::pair_fits` meets its contract.
+use mathlib.Core.Path.{ap}
+use Rattle.scope.specs.Arrows.{source, target, kind_rule}
+use Rattle.arrow.proofs.pair_fits.Goals as goal
+
+pub returns : goal.returns
+unfolding kind_rule source target
+returns c =
+    let arrow-at-call = c.arrow_at-a in
+    let arrow-at2-call = c.arrow_at-b in
+    λ ns. cc (
+      ap (λ a. a.source) arrow-at-call.ensures,
+      ap (λ a. a.target) arrow-at-call.ensures,
+      ap (λ a. a.source)
+          arrow-at2-call.ensures,
+      ap (λ a. a.target) arrow-at2-call.ensures,
+    )
