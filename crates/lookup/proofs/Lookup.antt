@@ -7,7 +7,6 @@ use borrow.Author.Tests.{eq-eqb, ne_eqb}
 use Rattle.scope.specs.Types.{type_records}
 use Rattle.scope.specs.Nodes.{NodeRecord}
 use Rattle.scope.specs.Arrows.{arrow_records}
-use Rattle.lookup.specs.declared.Around.{Around}
 use Rattle.lookup.specs.declared.Around.TheVariants.{Pairing, Composing, Disconnecting}
 use Rattle.lookup.specs.declared.Padding.{Padding}
 use Rattle.lookup.specs.Lookup.{source_width, target_width, kept_width, around_by, padding_of}

@@ -1,5 +1,5 @@
 -- What the machine asks of a node, as numbers: widths, paddings, and what is done around two children.
-use Rattle.std.specs.Prelude.{Bool, true, false, List, ℕ, ◌-◌, max, eqb, get_or}
+use Rattle.std.specs.Prelude.{true, false, List, ℕ, ◌-◌, max, eqb, get_or}
 use Rattle.scope.specs.Types.{TypeRecord, type_records, left_at, right_at}
 use Rattle.scope.specs.Nodes.{NodeRecord, node_records}
 use Rattle.scope.specs.Stages.{no_record}
