@@ -21,7 +21,7 @@ use refusal::Refusal;
 pub const UNPADDED: u16 = 65_535;
 
 // What the check says: how many records there are, or why there is no table.
-#[derive(Drop)]
+#[derive(Clone, Copy)]
 pub enum TypeAnswer {
     Records(usize),
     Refused(Refusal),
