@@ -24,13 +24,13 @@ use table::NodeRecord;
 const HASH_CELLS: u64 = 8 * limits::HASH_BYTES as u64;
 
 // A price. It carries its own fixed numbers.
-#[derive(Drop)]
+#[derive(Clone, Copy)]
 pub struct Cost {
     pub units: u32,
 }
 
 // What a node needs beyond its input and its output, and what it costs.
-#[derive(Drop)]
+#[derive(Clone, Copy)]
 pub struct Bound {
     pub cells: u32,
     pub frames: u32,

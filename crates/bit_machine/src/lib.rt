@@ -16,7 +16,7 @@ use ready::RunAnswer;
 use refusal::Answer;
 
 // How many write frames and read frames stand, and the first cell above all frames.
-#[derive(Drop)]
+#[derive(Clone, Copy)]
 pub(crate) struct Heights {
     pub(crate) writes: usize,
     pub(crate) reads: usize,

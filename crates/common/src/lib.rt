@@ -15,7 +15,7 @@ ghost use Rattle.common.specs.Words.{word_bits};
 use refusal::{Answer, Refusal};
 
 // A check passed, or why not.
-#[derive(Drop)]
+#[derive(Clone, Copy)]
 pub enum Checked {
     Passed,
     Refused(Refusal),

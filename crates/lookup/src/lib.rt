@@ -17,7 +17,7 @@ pub struct Padding {
 
 // A node with two children, by the widths of what is done around them: a pair's nothing; a comp's middle;
 // a disconnect's source, the part of the left child's target that is kept and the part that is handed to the right child.
-#[derive(Drop)]
+#[derive(Clone, Copy)]
 pub enum Around {
     Pairing,
     Composing(u32),
