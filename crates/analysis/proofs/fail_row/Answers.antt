@@ -2,12 +2,8 @@
 use mathlib.Core.Path.{refl}
 use Rattle.scope.specs.Bounds.{fail_row}
 use Rattle.analysis.proofs.Sums.{bound_eq}
-use Rattle.analysis.proofs.fail_row.Statement.{statement}
-use Rattle.analysis.proofs.fail_row.Tie as tie
+use Rattle.analysis.proofs.fail_row.Goals as goal
 
-returns : tie.Need-returns
+pub returns : goal.returns
 unfolding fail_row
 returns c = bound_eq refl refl refl
-
-pub fail-row-spec : {M : Type 1} → statement M
-fail-row-spec = tie.close (tie.spec returns)
