@@ -4,14 +4,13 @@ use mathlib.Core.Path.{◌≡◌, refl, ap, sym, ◌∙◌}
 use mathlib.Core.List.{List, [], ◌∷◌, ◌++◌}
 use Prim.Native.Nat.{ℕ, zero, suc, ◌+◌, ◌≤◌, ◌<◌}
 use native.Mathlib.Omega.{arith}
-use lib.ListN.{length, take, drop, drop_of_length-le}
+use lib.ListN.{length, drop, drop_of_length-le}
 use lib.Seq.{drop-drop, drop-cons}
 use Rattle.refusal.specs.declared.Refusal.TheVariants.{Witness}
 use Rattle.report.specs.Bits.{Bit}
 use Rattle.report.specs.Types.{Ty}
 use Rattle.report.specs.Values.{Val, ⟨⟩, compact, Read, value, short, read_value}
 use Rattle.report.specs.Nodes.{Node, comp, case, pair, disconnect, injl, injr, disconnect1, iden, unit, witness, fail, hidden, word}
-use Rattle.report.specs.Nodes as Node
 use Rattle.scope.specs.Check.{passed, refused}
 use Rattle.scope.specs.Numbers.{tabulate}
 use Rattle.scope.specs.Types.{TypeRecord, ty_at}

@@ -1,7 +1,7 @@
 -- What a run may rest on once its checks have passed: the tables are as `Shown` says, their program is the one that was made ready,
 -- its input stands at the front of the input bits, the stores have room for the bounds, and the machine is never stuck.
 use mathlib.Core.Path.{◌≡◌, refl, ap, sym, subst, ◌∙◌}
-use mathlib.Core.List.{List, [], ◌∷◌}
+use mathlib.Core.List.{List, []}
 use Prim.Native.Nat.{ℕ, ◌-◌, ◌/◌, ◌≤◌, ◌<◌}
 use native.Mathlib.Omega.{arith}
 use native.Mathlib.Decide.{dec_lt}
