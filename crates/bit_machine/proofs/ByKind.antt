@@ -2,34 +2,32 @@
 -- r is the node's record as the code holds it, m the machine before the node's own work, m' the machine after it.
 use mathlib.Core.Path.{◌≡◌, refl, sym, ap, ◌∙◌, subst}
 use mathlib.Core.Bool.{Bool, true, false}
-use mathlib.Core.List.{List, [], ◌∷◌}
-use Prim.Native.Nat.{ℕ, zero, suc, ◌+◌, ◌*◌, ◌-◌, ◌^◌, ◌≤◌, ◌<◌}
+use mathlib.Core.List.{List, []}
+use Prim.Native.Nat.{ℕ, zero, suc, ◌+◌, ◌-◌, ◌^◌, ◌≤◌, ◌<◌}
 use native.Mathlib.Omega.{arith}
 use lib.ListN.{length, get_or, take, drop, length-drop}
 use lib.Seq.{length-take-le}
 use native.Mathlib.Decide.{ℕ_discrete}
 use Rattle.report.specs.Bits.{Bit, bits_of}
-use Rattle.report.specs.Types.{width}
 use Rattle.report.specs.Values.{⟨⟩, padded}
 use Rattle.report.specs.Nodes.{Node}
-use Rattle.report.specs.Nodes as Node
-use Rattle.report.specs.Meaning.{Out, done, failed, pruned, stuck}
+use Rattle.report.specs.Meaning.{done, failed, pruned}
 use Rattle.scope.specs.Numbers.{stream_of}
 use Rattle.scope.specs.Types.{type_records, ty_at, left_at}
 use Rattle.scope.specs.Nodes.{NodeRecord, kind_of, node_of, node_at, nodes_of, node_records}
 use Rattle.scope.specs.Walk.{hidden_at}
 use Rattle.scope.specs.Arrows.{arrow_records, source, target}
 use Rattle.scope.specs.Hashes.{branch_hash}
-use Rattle.scope.specs.Program.{Program, value_from, source_ty, target_ty, term_at}
+use Rattle.scope.specs.Program.{Program, value_from, target_ty, term_at}
 use Rattle.scope.specs.Run.{program_of}
 use Rattle.scope.specs.Stages.{tables_lent}
 use Rattle.layout.specs.Mach.{Mach}
 use Rattle.layout.specs.Rules.{bit_written, bits_written, skipped, copied, forwarded, peeked}
-use Rattle.layout.specs.Exec.{run_term, pairing, composing, disconnecting}
+use Rattle.layout.specs.Exec.{run_term}
 use Rattle.layout.specs.Safe.{WriteOk, ReadOk, CopyOk, Safe}
 use Rattle.table.proofs.Hashes.{hidden_kind_lem}
 use Rattle.lookup.specs.Lookup.{padding_in, record_at, around_by, around_in}
-use Rattle.ready.specs.Lent.{program_nodes, program_at, Reads, TypesShown, Shown}
+use Rattle.ready.specs.Lent.{program_at, Reads, Shown}
 use Rattle.bit_machine.specs.Engine.{OneOk, TwoKind, around_of}
 use Rattle.lookup.specs.declared.Around.{Around}
 use Rattle.lookup.specs.declared.Around.TheVariants.{Pairing, Composing, Disconnecting}

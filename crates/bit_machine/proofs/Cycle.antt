@@ -1,19 +1,19 @@
 -- The cycle of calls: a child's answer as the child's run, and from it the answer of its parent.
 use mathlib.Core.Path.{◌≡◌, refl, sym, ap, ◌∙◌, subst}
-use mathlib.Core.List.{List, [], ◌∷◌}
-use Prim.Native.Nat.{ℕ, ◌+◌, ◌≤◌, ◌<◌}
+use mathlib.Core.List.{List}
+use Prim.Native.Nat.{ℕ}
 use Rattle.report.specs.Terms.{Term}
 use Rattle.report.specs.Canonical.{children}
-use Rattle.report.specs.Meaning.{Out, done, failed, pruned, stuck, ◌>>=◌}
+use Rattle.report.specs.Meaning.{done}
 use Rattle.scope.specs.Nodes.{node_at}
 use Rattle.scope.specs.Program.{Program, term_at}
 use Rattle.common.specs.Bits.{AllBelow}
 use Rattle.layout.specs.Mach.{Mach}
 use Rattle.layout.specs.Rules.{backed}
-use Rattle.layout.specs.Exec.{Outcome, Around, first_of, second_of, third_of, returning, run_term, NotDone, stop_stays, done_goes_on, left_stops, right_stops, both_done}
+use Rattle.layout.specs.Exec.{Outcome, Around, first_of, second_of, third_of, run_term, NotDone, stop_stays, done_goes_on, left_stops, right_stops, both_done}
 use Rattle.layout.specs.Safe.{Safe}
 use Rattle.bit_machine.specs.Machine.{machine_of}
-use Rattle.bit_machine.specs.Engine.{stop_of, out_of, OneOk, Planned}
+use Rattle.bit_machine.specs.Engine.{out_of, OneOk, Planned}
 use Rattle.bit_machine.specs.declared.Heights.{Heights}
 use Rattle.bit_machine.specs.declared.Reason.{Reason}
 use Rattle.bit_machine.specs.declared.Reason.TheVariants.{Failed, Pruned}

@@ -1,24 +1,24 @@
 -- The end of a run within its bounds: what is told, and the three stores as they are left, are those of the requirements.
 use mathlib.Core.Path.{◌≡◌, refl, sym, ap, ap₂, ◌∙◌, subst}
 use mathlib.Core.List.{List, ◌++◌}
-use Prim.Native.Nat.{ℕ, ◌+◌, ◌*◌, ◌-◌, ◌/◌, ◌^◌, ◌≤◌, ◌<◌}
+use Prim.Native.Nat.{ℕ, ◌+◌, ◌*◌, ◌-◌, ◌/◌, ◌≤◌}
 use native.Mathlib.Omega.{arith}
-use lib.ListN.{length, get_or, take, drop, length-append, length-take, length-drop}
+use lib.ListN.{length, get_or, take, drop, length-take}
 use lib.Seq.{length-take-le}
-use Rattle.limits.specs.Limits.{node_count, node_numbers, frame_numbers, cell_count}
+use Rattle.limits.specs.Limits.{node_numbers, frame_numbers, cell_count}
 use Rattle.refusal.specs.declared.Refusal.{Refusal}
 use Rattle.refusal.specs.declared.Refusal.TheVariants.{FailReached, PrunedReached}
 use Rattle.refusal.specs.declared.Answer.{Answer}
 use Rattle.refusal.specs.declared.Answer.TheVariants.{Value, Refused}
 use Rattle.report.specs.Bits.{Bit, bits_of}
 use Rattle.report.specs.Types.{Ty, width}
-use Rattle.report.specs.Values.{Val, Cells, compact, value_at}
-use Rattle.report.specs.Meaning.{Out, done, failed, pruned, stuck}
+use Rattle.report.specs.Values.{Val, compact, value_at}
+use Rattle.report.specs.Meaning.{done, failed, pruned, stuck}
 use Rattle.scope.specs.Numbers.{stream_of, zeros, bytes_for, tabulate}
 use Rattle.scope.specs.Types.{type_records, ty_at}
 use Rattle.scope.specs.Nodes.{node_records}
 use Rattle.scope.specs.Arrows.{arrow_records, source, target}
-use Rattle.scope.specs.Program.{Program, last, whole, whole_source, whole_target, source_ty, target_ty, term_at}
+use Rattle.scope.specs.Program.{Program, last, whole, whole_source, whole_target, source_ty, target_ty}
 use Rattle.scope.specs.Bounds.{whole_cells, whole_frames}
 use Rattle.scope.specs.Machine.{State, Step, machine}
 use Rattle.scope.specs.Run.{Left, program_of, cells_of, packed, cleared, written, left_with, ends, ran}
@@ -35,10 +35,10 @@ use Rattle.theory.specs.Theorems.{whole_safe, whole_same, whole_ends, bytes_left
 use Rattle.bititer.proofs.Bits.{Bytes}
 use Rattle.cells.proofs.Machine.{cells_packed}
 use Rattle.common.specs.Nodes.{length_records, length_nodes}
-use Rattle.ready.specs.Lent.{program_at, Reads, Shown}
+use Rattle.ready.specs.Lent.{program_at, Shown}
 use Rattle.bit_machine.proofs.Lent
 use Rattle.bit_machine.specs.Machine.{Within}
-use Rattle.bit_machine.specs.Whole.{End, cells_after, end_of, refusal_of, input_of, node_end, NodeOk, ready_of, RunOk}
+use Rattle.bit_machine.specs.Whole.{cells_after, end_of, refusal_of, node_end, NodeOk, ready_of, RunOk}
 use Rattle.bit_machine.specs.declared.Heights.{Heights}
 use Rattle.bit_machine.specs.declared.Reason.{Reason}
 use Rattle.bit_machine.specs.declared.Reason.TheVariants.{Failed, Pruned}

@@ -15,7 +15,6 @@ use Rattle.report.specs.Bits.{Bit, bits_of}
 use Rattle.report.specs.Types.{Ty, width, pad_l, pad_r, left_of, right_of, word_ty}
 use Rattle.report.specs.Values.{⟨⟩, padded}
 use Rattle.report.specs.Nodes.{Node}
-use Rattle.report.specs.Nodes as Node
 use Rattle.report.specs.Canonical.{children}
 use Rattle.scope.specs.Numbers.{stream_of}
 use Rattle.scope.specs.Types.{type_records, ty_at, left_at, right_at}

@@ -1,19 +1,18 @@
 -- What is done around two children, by which of the three nodes it is; and the needs of the rules there.
 -- Machines that are equal need the same, whatever cells a function is lent.
-use mathlib.Core.Path.{◌≡◌, refl, sym, ap, ◌∙◌, subst}
-use mathlib.Core.List.{List, [], ◌∷◌}
-use Prim.Native.Nat.{ℕ, ◌+◌, ◌*◌, ◌^◌, ◌≤◌, ◌<◌}
+use mathlib.Core.Path.{◌≡◌, sym, ap, ◌∙◌, subst}
+use mathlib.Core.List.{List, []}
+use Prim.Native.Nat.{ℕ, ◌+◌, ◌^◌, ◌≤◌}
 use native.Mathlib.Omega.{arith}
 use lib.ListN.{length}
-use Rattle.limits.specs.Limits.{cell_count}
 use Rattle.report.specs.Bits.{Bit, bits_of}
 use Rattle.report.specs.Types.{width, word_ty}
 use Rattle.scope.specs.Machine.{Frame}
 use Rattle.layout.specs.Mach.{Mach, mach}
-use Rattle.layout.specs.Rules.{pushed, moved, dropped, copied, forwarded, bits_written}
+use Rattle.layout.specs.Rules.{pushed, moved, dropped, copied, forwarded}
 use Rattle.layout.specs.Exec.{first_of, second_of, third_of}
 use Rattle.common.specs.Bits.{length_bits}
-use Rattle.layout.specs.Safe.{Fed, PushOk, MoveOk, DropOk, WriteOk, ReadOk, BackOk, CopyOk, HandOk, KeepOk, FirstOk, SecondOk, ThirdOk, push_over, move_over, drop_over, write_over, read_over, back_over, fed_bits}
+use Rattle.layout.specs.Safe.{Fed, PushOk, MoveOk, DropOk, WriteOk, ReadOk, BackOk, CopyOk, FirstOk, SecondOk, ThirdOk, push_over, move_over, drop_over, write_over, read_over, back_over}
 use Rattle.bit_machine.specs.Machine.{machine_of, Within}
 use Rattle.bit_machine.specs.declared.Heights.{Heights}
 use Rattle.bit_machine.specs.Engine.{around_of, handed}

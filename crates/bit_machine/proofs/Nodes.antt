@@ -2,27 +2,26 @@
 -- m is the machine before the node's own work, m' the machine after it.
 use mathlib.Core.Path.{◌≡◌, refl, sym, ap, ◌∙◌, subst}
 use mathlib.Core.Bool.{Bool, true, false}
-use mathlib.Core.List.{List, [], ◌∷◌}
-use Prim.Native.Nat.{ℕ, zero, suc, ◌+◌, ◌≤◌, ◌<◌}
+use mathlib.Core.List.{List}
+use Prim.Native.Nat.{ℕ, ◌+◌, ◌<◌}
 use native.Mathlib.Omega.{arith}
 use lib.ListN.{length, get_or}
 use Rattle.report.specs.Bits.{Bit}
 use Rattle.report.specs.Types.{Ty, width, pad_l, pad_r, left_of, right_of, word_ty}
-use Rattle.report.specs.Values.{Val, ⟨⟩, padded}
+use Rattle.report.specs.Values.{⟨⟩, padded}
 use Rattle.report.specs.Nodes.{Node}
-use Rattle.report.specs.Nodes as Node
 use Rattle.report.specs.Canonical.{children}
 use Rattle.report.specs.Terms.{Term}
-use Rattle.report.specs.Meaning.{Out, done, failed, pruned, stuck, ◌>>=◌}
+use Rattle.report.specs.Meaning.{done, failed, pruned}
 use Rattle.scope.specs.Nodes.{node_at}
 use Rattle.scope.specs.Walk.{hidden_at}
 use Rattle.scope.specs.Program.{Program, source_ty, target_ty, value_from, case_term, term_of, term_at}
 use Rattle.common.specs.Bits.{AllBelow}
 use Rattle.theory.specs.NodeTerms.{term_step}
-use Rattle.layout.specs.Mach.{Mach, mach}
-use Rattle.layout.specs.Rules.{bit_written, bits_written, skipped, copied, forwarded, backed, peeked, forwarded_zero}
+use Rattle.layout.specs.Mach.{Mach}
+use Rattle.layout.specs.Rules.{bit_written, bits_written, skipped, copied, forwarded, peeked, forwarded_zero}
 use Rattle.layout.specs.Exec.{Outcome, Around, pairing, composing, disconnecting, around, returning, under, tagged, run_term, run_case_left, run_case_right, run_assertl_left, run_assertl_right, run_assertr_left, run_assertr_right}
-use Rattle.layout.specs.Safe.{PushOk, WriteOk, ReadOk, CopyOk, ReturnOk, UnderOk, TagOk, AroundOk, BranchOk, Safe}
+use Rattle.layout.specs.Safe.{WriteOk, ReadOk, CopyOk, ReturnOk, UnderOk, TagOk, AroundOk, Safe}
 use Rattle.bit_machine.specs.Engine.{OneOk}
 
 module _ (P : Program) (below : (i : ℕ) → AllBelow i (children (node_at P.nodes i))) (i : ℕ) (m : Mach) where

@@ -8,7 +8,6 @@ use Rattle.refusal.specs.declared.Refusal.{Refusal}
 use Rattle.refusal.specs.declared.Answer.TheVariants.{Refused}
 use Rattle.report.specs.Values.{Val}
 use Rattle.report.specs.Meaning.{stuck}
-use Rattle.scope.specs.Check.{passed}
 use Rattle.scope.specs.Nodes.{node_records}
 use Rattle.scope.specs.Program.{Program, value_from, whole, whole_source, whole_target}
 use Rattle.scope.specs.Bounds.{whole_cells, whole_frames}
@@ -16,7 +15,6 @@ use Rattle.scope.specs.Machine.{machine}
 use Rattle.scope.specs.Run.{Ready, Left, cells_of, left_with, ran}
 use Rattle.scope.specs.Stages.{tables_lent, run_stage}
 use Rattle.common.specs.Nodes.{length_records}
-use Rattle.types.specs.Table.{type_widths, type_next}
 use Rattle.ready.specs.Lent.{program_at, Shown}
 use Rattle.ready.specs.declared.Prepared.{Prepared}
 use Rattle.ready.specs.declared.RunAnswer.TheVariants.{Bounds, Refused as NoRun}

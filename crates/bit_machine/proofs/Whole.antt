@@ -1,14 +1,13 @@
 -- A whole run of a node from no frame: its input's frame, its output's frame, its term; and what the run leaves in the lent stores.
-use mathlib.Core.Path.{◌≡◌, refl, sym, ap, ap₂, ◌∙◌, subst}
-use mathlib.Core.List.{List, [], ◌∷◌, ◌++◌}
-use Prim.Native.Nat.{ℕ, zero, suc, ◌+◌, ◌*◌, ◌-◌, ◌/◌, ◌^◌, ◌≤◌, ◌<◌}
+use mathlib.Core.Path.{◌≡◌, refl, sym, ap, ◌∙◌, subst}
+use mathlib.Core.List.{List}
+use Prim.Native.Nat.{ℕ, zero, suc, ◌/◌, ◌<◌}
 use native.Mathlib.Omega.{arith}
-use lib.ListN.{length, get_or, take, drop, replicate}
+use lib.ListN.{length, get_or}
 use Rattle.limits.specs.Limits.{frame_numbers}
-use Rattle.report.specs.Bits.{Bit, bits_of}
+use Rattle.report.specs.Bits.{Bit}
 use Rattle.report.specs.Types.{Ty, width}
-use Rattle.report.specs.Values.{Val, padded}
-use Rattle.report.specs.Meaning.{Out, done, failed, pruned, stuck}
+use Rattle.report.specs.Values.{padded}
 use Rattle.scope.specs.Numbers.{stream_of, zeros}
 use Rattle.scope.specs.Types.{type_records, ty_at}
 use Rattle.scope.specs.Arrows.{arrow_records, source, target}
@@ -18,14 +17,11 @@ use Rattle.scope.specs.Stages.{tables_lent}
 use Rattle.scope.specs.Machine.{Frame}
 use Rattle.layout.specs.Mach.{Mach, mach, empty, records_of, records_zero}
 use Rattle.layout.specs.Rules.{pushed, moved, bits_written}
-use Rattle.layout.specs.Exec.{Outcome, run_term, with_input, with_output, run_whole}
-use Rattle.layout.specs.Safe.{PushOk, MoveOk, WriteOk, InputOk, WholeOk, Safe}
+use Rattle.layout.specs.Exec.{run_term, with_input, with_output, run_whole}
+use Rattle.layout.specs.Safe.{PushOk, MoveOk, WriteOk, InputOk}
 use Rattle.ready.specs.Lent.{program_at, Reads, Shown}
-use Rattle.bit_machine.specs.Machine.{machine_of}
-use Rattle.bit_machine.specs.Engine.{stop_of, out_of}
-use Rattle.bit_machine.specs.Whole.{End, cells_after, end_of, input_of, node_end, NodeOk}
-use Rattle.bit_machine.specs.declared.Heights.{Heights}
-use Rattle.bit_machine.specs.declared.Reason.{Reason}
+use Rattle.bit_machine.specs.Engine.{out_of}
+use Rattle.bit_machine.specs.Whole.{cells_after, end_of, input_of, node_end, NodeOk}
 use Rattle.bit_machine.specs.declared.Reason.TheVariants.{Failed, Pruned}
 use Rattle.bit_machine.specs.declared.Ran.{Ran}
 use Rattle.bit_machine.specs.declared.Ran.TheVariants.{Done, Stopped}

@@ -1,12 +1,9 @@
 -- What the engine's answers say, with the cells and the frame records beside them; and what a node's own work promises.
-use Rattle.std.specs.Prelude.{◌≡◌, List, [], ℕ, ◌+◌, ◌<◌, ◌≤◌}
+use Rattle.std.specs.Prelude.{◌≡◌, List, ℕ, ◌+◌, ◌<◌, ◌≤◌}
 use Rattle.report.specs.Bits.{Bit}
-use Rattle.report.specs.Types.{width, left_of, word_ty}
-use Rattle.report.specs.Values.{padded}
-use Rattle.report.specs.Nodes.{Node, comp, case, pair, disconnect, injl, injr, take, drop, disconnect1, iden, unit, witness, fail, hidden, word}
-use Rattle.report.specs.Meaning.{Out, done, failed, pruned, stuck, ◌>>=◌}
-use Rattle.scope.specs.Nodes.{node_at}
-use Rattle.scope.specs.Program.{Program, source_ty, target_ty, term_at}
+use Rattle.report.specs.Types.{width, word_ty}
+use Rattle.report.specs.Meaning.{done, failed, pruned}
+use Rattle.scope.specs.Program.{Program, term_at}
 use Rattle.layout.specs.Mach.{Mach}
 use Rattle.layout.specs.Rules.{pushed, moved, copied, bits_written}
 use Rattle.layout.specs.Exec as Layout
@@ -14,7 +11,6 @@ use Rattle.layout.specs.Exec.{Outcome, returning, run_term, pairing, composing, 
 use Rattle.layout.specs.Safe.{Safe, ReturnOk}
 use Rattle.bit_machine.specs.Machine.{machine_of}
 use Rattle.lookup.specs.Lookup.{record_at}
-use Rattle.bit_machine.specs.declared.Heights.{Heights}
 use Rattle.lookup.specs.declared.Around.{Around}
 use Rattle.lookup.specs.declared.Around.TheVariants.{Pairing, Composing, Disconnecting}
 use Rattle.bit_machine.specs.declared.Reason.{Reason}

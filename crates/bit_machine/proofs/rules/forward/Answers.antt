@@ -1,0 +1,27 @@
+-- `bit_machine::rules::forward` meets its contract.
+use native.Mathlib.Omega.{arith}
+use mathlib.Core.Path.{sym, ap}
+use Rattle.layout.specs.Rules.{forwarded_zero, forwarded_some}
+use Rattle.bit_machine.proofs.rules.forward.Goals as goal
+
+pub returns-then-n-eq0 : goal.returns-then-n-eq0
+returns-then-n-eq0 c = λ b. sym (forwarded_zero _ _ c.if-n-eq0.true)
+
+pub overflow_sub-k : goal.overflow_sub-k
+overflow_sub-k c =
+    let h = c.requires (omega arith) in
+    omega (arith, c.records.ensures)
+
+pub advance-requires : goal.advance-requires
+advance-requires c =
+    let h = c.requires (omega arith) in
+    let cursor = ap (λ f. f.cursor) (rw c.records.ensures at c.record_at-f.ensures) in
+    record {
+      f_value = c.record_at-f.ensures;
+      n_bound = omega arith;
+    }
+
+pub returns : goal.returns
+returns c =
+    let some = c.if-n-eq0.false in
+    λ b. rw (c.advance.ensures, c.records.ensures, forwarded_some _ _ some)
