@@ -1,40 +1,37 @@
 -- A dossier whose header, types and program pass holds tables that pass the tests of lent tables (4, 26, 1, 2, 6 to 9).
 -- So the run stage, lent what was decoded, begins with 11, and is the run of the dossier's own tables.
 use mathlib.Core.Path.{◌≡◌, refl, sym, ap, ap₂, ◌∙◌, subst}
-use mathlib.Core.Bool.{Bool, true}
+use mathlib.Core.Bool.{true}
 use mathlib.Core.List.{List, [], ◌∷◌}
-use Prim.Native.Nat.{ℕ, zero, suc, ◌+◌, ◌*◌, ◌/◌, ◌≤◌, ◌<◌}
+use Prim.Native.Nat.{ℕ, suc, ◌*◌, ◌/◌, ◌≤◌, ◌<◌}
 use native.Mathlib.Nat.{zero-add}
 use native.Mathlib.Omega.{arith}
 use lib.Dec.{leb}
-use lib.ListN.{length, get_or, take, drop, length-drop}
+use lib.ListN.{length, drop, length-drop}
 use lib.Seq.{length-take-le}
 use borrow.Author.Tests.{le-leb, leb-true}
 use Rattle.common.specs.Nodes.{records_back}
 use Rattle.limits.specs.Limits.{node_count, type_count, type_bytes, dossier_bytes}
-use Rattle.refusal.specs.declared.Refusal.{Refusal}
-use Rattle.refusal.specs.declared.Refusal.TheVariants.{Natural, NodeRecord as BadNodeRecord, Header}
+use Rattle.refusal.specs.declared.Refusal.TheVariants.{NodeRecord as BadNodeRecord, Header}
 use Rattle.refusal.specs.declared.Answer.TheVariants.{Refused}
 use Rattle.report.specs.Bits.{Bit}
 use Rattle.report.specs.Naturals.{code_natural}
 use Rattle.report.specs.Nodes.{Node, code_nodes, code_program}
-use Rattle.scope.specs.Check.{Check, passed, refused, ◌>>=◌, require, each}
-use Rattle.scope.specs.Numbers.{every, stream_of, tabulate}
+use Rattle.scope.specs.Check.{Check, passed, refused, ◌>>=◌, require}
+use Rattle.scope.specs.Numbers.{stream_of}
 use Rattle.scope.specs.Header.{count, size, start, count_rule, type_count_rule, header_rule, check_header, section, s_types, s_program, s_arrows, s_witness, s_input, s_hashes}
 use Rattle.scope.specs.Types.{type_records, type_record, check_types}
-use Rattle.scope.specs.Nodes.{NodeRecord, node_records, nodes_of, node_numbers_of}
+use Rattle.scope.specs.Nodes.{nodes_of, node_numbers_of}
 use Rattle.scope.specs.Reading.{NodeTable}
 use Rattle.scope.specs.Walk.{check_walk}
 use Rattle.scope.specs.Closing.{decode}
 use Rattle.scope.specs.Arrows.{arrow_records}
 use Rattle.scope.specs.Run.{Tables, check_tables, tables_of, Left, left_with, run_tables}
-use Rattle.scope.specs.Stages.{counted, no_record, record_rule, check_records, lent_tables, tables_lent, hash_stage, run_stage}
-use Rattle.common.specs.Checks.{every_all, all_every, holds_require, then_passes, holds_each, counted_fine}
+use Rattle.scope.specs.Stages.{counted, record_rule, check_records, lent_tables, tables_lent, hash_stage, run_stage}
+use Rattle.common.specs.Checks.{every_all, holds_require, then_passes, holds_each, counted_fine}
 use Rattle.exactness.specs.Nodes.{records_from, hashes_of, layout}
 use Rattle.exactness.specs.Stream.{Stands, stands_split}
-use Rattle.exactness.specs.Programs.{IsProgram}
-use Rattle.exactness.specs.Canonical.{canonical_walk}
-use Rattle.exactness.specs.Decoding.{decoded_is_program, decoded_nodes, program_table}
+use Rattle.exactness.specs.Decoding.{decoded_is_program, program_table}
 use Rattle.theory.specs.Job.{decoded}
 use Rattle.common.specs.Bits.{length_within}
 use Rattle.header.proofs.Rules.{passes_all, section_end}

@@ -3,7 +3,7 @@
 --   1. Any bytes and any stores end in an output or a numbered refusal with a place, and what each end leaves in every store is fixed beforehand.
 --   2. Decoding, results and bounds are those of the report and of the table of the requirements; just the dossiers that keep the rules are run.
 --   3. The run is never stuck, the engine's own function is the meaning at every node that the run enters, and old bits change nothing.
-use mathlib.Core.Path.{◌≡◌, refl, sym, ap, ◌∙◌, subst}
+use mathlib.Core.Path.{◌≡◌, sym, ap, ◌∙◌, subst}
 use mathlib.Core.List.{List, []}
 use mathlib.Core.Logic.{◌↔◌}
 use Prim.Native.Nat.{ℕ, ◌+◌, ◌*◌, ◌/◌, ◌≤◌}
@@ -11,6 +11,7 @@ use lib.ListN.{length}
 use borrow.Fn.Kinds.{Dens, ended_of}
 use contract.Lifetimes.{Lfts}
 use denote.Ref.{Bor}
+use denote.MutBor.{MutBor}
 use denote.Triple.Clauses.{AtExit}
 use Rattle.promise.specs.Outcomes.{◌&◌}
 use Rattle.limits.specs.Limits.{node_numbers, node_cost}
@@ -49,9 +50,13 @@ use Rattle.dossier.proofs.Job.{dossier_parts, own_stage, own_tables}
 use Rattle.dossier.proofs.run.Kinds as kinds
 use Rattle.dossier.proofs.run.Reads as reads
 
--- a store or a dossier as it is lent, with these numbers in it: where it lies plays no part in the promise, nor how long it is lent
+-- a dossier as it is lent to be read, and a store as it is lent to be written, with these numbers in it: where it lies plays no part in the
+-- promise, nor what its loan is called, nor how long it is lent
 abbrev slice : List ℕ → Bor (List ℕ)
 slice numbers = record { ref_ptr = (0, 0); now = numbers }
+
+abbrev store : List ℕ → MutBor (List ℕ)
+store numbers = record { ref_ptr = (0, 0); ghost_name = 0; now = numbers }
 
 abbrev lasting : Lfts 6
 lasting = ([], ([], ([], ([], ([], ([], tt))))))
@@ -59,8 +64,8 @@ lasting = ([], ([], ([], ([], ([], ([], tt))))))
 -- the promise of the call, its own `Post`, of what was lent and of what was answered and left
 abbrev pub Promise : (d nodes hashes cells frames answer : List ℕ) → (r : Answer) → (nodes' hashes' cells' frames' answer' : List ℕ) → Type 0
 Promise d nodes hashes cells frames answer r nodes' hashes' cells' frames' answer' =
-    reads.Post lasting (slice d & slice nodes & slice hashes & slice cells & slice frames & slice answer & tt) r
-    (slice d & slice nodes' & slice hashes' & slice cells' & slice frames' & slice answer' & tt)
+    reads.Post lasting (slice d & store nodes & store hashes & store cells & store frames & store answer & tt) r
+    (slice d & store nodes' & store hashes' & store cells' & store frames' & store answer' & tt)
 
 -- every call that keeps its promise gives it, wherever its arguments lie
 pub promised : (κs : Lfts 6) (a : Dens κs kinds.ps) (r : Answer) (x : AtExit (ended_of 6 kinds.ps kinds.r) κs) → reads.Post κs a r x

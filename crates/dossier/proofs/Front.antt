@@ -1,18 +1,17 @@
 -- The checks before decoding, in the steps in which the code makes them.
-use mathlib.Core.Path.{◌≡◌, refl, sym, ap, ◌∙◌}
+use mathlib.Core.Path.{◌≡◌, sym, ap, ◌∙◌}
 use mathlib.Core.List.{List}
 use Prim.Native.Nat.{ℕ}
 use lib.ListN.{length}
 use Rattle.limits.specs.Limits.{type_count}
 use Rattle.refusal.specs.declared.Refusal.{Refusal}
-use Rattle.scope.specs.Check.{Check, passed, refused, ◌>>=◌}
+use Rattle.scope.specs.Check.{passed, refused, ◌>>=◌}
 use Rattle.scope.specs.Header.{check_header, section, s_types}
 use Rattle.scope.specs.Types.{type_records, check_types}
 use Rattle.scope.specs.Stages.{counted}
 use Rattle.common.specs.Checks.{then_passes}
 use Rattle.common.specs.Answers.{check_of}
 use Rattle.common.specs.declared.Checked.{Checked}
-use Rattle.common.specs.declared.Checked.TheVariants as Checked
 use Rattle.types.specs.Table.{counted_types}
 use Rattle.dossier.specs.Ends.{front}
 use Rattle.dossier.proofs.Decoded.{types_counted}

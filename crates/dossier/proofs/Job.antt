@@ -1,19 +1,16 @@
 -- The whole job in the steps in which the code takes them: the checks before decoding, decoding, and the run stage on what was decoded.
 -- Each step that ends the job ends it as the definition `run` does, with all five stores.
 use mathlib.Core.Path.{◌≡◌, refl, sym, ap, ap₂, ◌∙◌, subst}
-use mathlib.Core.Bool.{Bool, true, false}
-use mathlib.Core.List.{List, [], ◌∷◌, ◌++◌}
-use Prim.Native.Nat.{ℕ, ◌+◌, ◌*◌, ◌-◌, ◌/◌, ◌≤◌}
+use mathlib.Core.Bool.{true, false}
+use mathlib.Core.List.{List}
+use Prim.Native.Nat.{ℕ, ◌-◌, ◌/◌, ◌≤◌}
 use native.Mathlib.Omega.{arith}
-use lib.Dec.{leb}
 use lib.ListN.{length, length-append, length-replicate}
-use borrow.Author.Tests.{le-leb, lt-leb}
 use Rattle.common.specs.Nodes.{length_numbers}
 use Rattle.limits.specs.Limits.{node_numbers}
 use Rattle.refusal.specs.declared.Refusal.{Refusal}
 use Rattle.refusal.specs.declared.Answer.{Answer}
 use Rattle.refusal.specs.declared.Answer.TheVariants.{Value, Refused}
-use Rattle.refusal.specs.Numbers.{number_of}
 use Rattle.report.specs.Nodes.{Node}
 use Rattle.report.specs.Naturals.{code_natural}
 use Rattle.scope.specs.Check.{Check, passed, refused, ◌>>=◌}
@@ -24,7 +21,7 @@ use Rattle.scope.specs.Nodes.{node_numbers_of}
 use Rattle.scope.specs.Reading.{NodeTable}
 use Rattle.scope.specs.Closing.{decode}
 use Rattle.scope.specs.Stages.{tables_lent, hash_stage}
-use Rattle.scope.specs.Run.{Tables, check_tables, tables_of, check_dossier, Left, left_with, run_tables, Ended, ended_with, run}
+use Rattle.scope.specs.Run.{check_tables, tables_of, check_dossier, Left, left_with, run_tables, Ended, ended_with, run}
 use Rattle.common.specs.Checks.{both_passed, then_passes, then_then}
 use Rattle.exactness.specs.Nodes.{layout}
 use Rattle.exactness.specs.Decoding.{decoded_is_program}

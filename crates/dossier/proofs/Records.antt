@@ -1,21 +1,21 @@
 -- The records of a decoded program keep the rules of lent tables (26).
-use mathlib.Core.Path.{◌≡◌, refl, sym, ap, ap₂, ◌∙◌, subst}
-use mathlib.Core.Bool.{Bool, true}
+use mathlib.Core.Path.{◌≡◌, refl, subst}
+use mathlib.Core.Bool.{true}
 use mathlib.Core.List.{List, [], ◌∷◌, ◌++◌}
-use Prim.Native.Nat.{ℕ, zero, suc, ◌+◌, ◌*◌, ◌-◌, ◌/◌, ◌^◌, ◌≤◌, ◌<◌}
+use Prim.Native.Nat.{ℕ, zero, suc, ◌+◌, ◌-◌, ◌^◌, ◌≤◌, ◌<◌}
 use native.Mathlib.Nat.{not-suc-le-zero, zero-add}
 use native.Mathlib.Omega.{arith}
 use lib.Dec.{leb, ltb, eqb}
 use lib.ListN.{length, get_or, length-append}
 use borrow.Author.Tests.{le-leb, lt-ltb}
-use Rattle.limits.specs.Limits.{node_numbers, word_most, hash_bytes, fail_bytes}
+use Rattle.limits.specs.Limits.{word_most, hash_bytes, fail_bytes}
 use Rattle.report.specs.Bits.{Bit}
 use Rattle.report.specs.Naturals.{code_natural}
 use Rattle.report.specs.Nodes.{Node, comp, case, pair, disconnect, injl, injr, take, drop, disconnect1, iden, unit, witness, fail, hidden, word}
-use Rattle.report.specs.Nodes.{code_node, code_nodes, code_program}
+use Rattle.report.specs.Nodes.{code_node, code_nodes}
 use Rattle.report.specs.Canonical.{children}
-use Rattle.scope.specs.Numbers.{every, tabulate_from, tabulate}
-use Rattle.scope.specs.Nodes.{NodeRecord, kind_of, node_record, node_records, node_numbers_of}
+use Rattle.scope.specs.Numbers.{every}
+use Rattle.scope.specs.Nodes.{NodeRecord, kind_of}
 use Rattle.scope.specs.Stages.{numbers_rule, no_record, record_rule}
 use Rattle.common.specs.Checks.{all_every}
 use Rattle.exactness.specs.Nodes.{NodeFits, NodesFit, stored_by, record_of, records_from, hashes_of}

@@ -1,12 +1,9 @@
 -- A store is settled by an answer: kept as it is, or cleared.
-use mathlib.Core.Path.{◌≡◌, refl, sym, ap, ◌∙◌}
+use mathlib.Core.Path.{◌≡◌, sym}
 use mathlib.Core.Bool.{true, false}
 use mathlib.Core.List.{List}
-use Prim.Native.Nat.{ℕ, ◌-◌}
-use native.Mathlib.Omega.{arith}
-use lib.ListN.{length}
+use Prim.Native.Nat.{ℕ}
 use Rattle.refusal.specs.declared.Answer.{Answer}
-use Rattle.scope.specs.Numbers.{zeros}
 use Rattle.common.specs.Stores.{cleared, all_cleared}
 use Rattle.dossier.specs.Ends.{keeps, settled}
 

@@ -1,6 +1,6 @@
 -- The job's ends, from what the calls that it makes promise: each end of the code is the end of the definition `run`, with all five stores.
-use mathlib.Core.Path.{◌≡◌, refl, sym, ap, ap₂, ◌∙◌, subst}
-use mathlib.Core.List.{List, [], ◌∷◌, ◌++◌}
+use mathlib.Core.Path.{◌≡◌, refl, sym, ap, ap₂, ◌∙◌}
+use mathlib.Core.List.{List}
 use Prim.Native.Nat.{ℕ, ◌*◌, ◌-◌, ◌/◌, ◌≤◌}
 use native.Mathlib.Omega.{arith}
 use lib.ListN.{length, take, length-append}
@@ -18,21 +18,19 @@ use Rattle.scope.specs.Reading.{NodeTable}
 use Rattle.scope.specs.Closing as Closing
 use Rattle.scope.specs.Closing.{nodes_left, hashes_left}
 use Rattle.scope.specs.Stages.{run_stage}
-use Rattle.scope.specs.Run.{check_tables, tables_of, Left, left_with, Ended, ended_with, run}
+use Rattle.scope.specs.Run.{check_tables, tables_of, left_with, ended_with, run}
 use Rattle.common.specs.Checks.{clash, both_passed}
 use Rattle.common.specs.Answers.{check_of, answer_of}
 use Rattle.common.specs.declared.Checked.{Checked}
-use Rattle.common.specs.declared.Checked.TheVariants as Checked
 use Rattle.decode.specs.declared.Sizes.{Sizes}
 use Rattle.decode.specs.declared.Decoded.{Decoded}
-use Rattle.decode.specs.declared.Decoded.TheVariants as Decoded
 use Rattle.decode.specs.Answers.{said_of}
 use Rattle.common.specs.Stores.{cleared, all_cleared}
 use Rattle.decode.specs.Stores.{left, table_sizes, left_by}
 use Rattle.decode.specs.Stores as Stores
 use Rattle.dossier.specs.Ends.{front, settled, undecoded_of, sections_run}
 use Rattle.dossier.proofs.Decoded.{stage, stage_own}
-use Rattle.dossier.proofs.Job.{nodes_fit, hashes_fit, job_front, job_read, job_ran}
+use Rattle.dossier.proofs.Job.{job_front, job_read, job_ran}
 
 -- the run stage on slices that are the sections of a dossier
 pub sections_run_lem : (d nodes hashes cells frames answer types arrows program given witness input : List ℕ) (witness_bits input_bits : ℕ)

@@ -3,8 +3,6 @@ use Rattle.std.specs.Prelude.{Bool, true, false, List, ℕ, length}
 use Rattle.refusal.specs.declared.Answer.{Answer}
 use Rattle.refusal.specs.declared.Answer.TheVariants.{Value, Refused}
 use Rattle.refusal.specs.Numbers.{keeps_table}
-use Rattle.common.specs.declared.Checked.{Checked}
-use Rattle.common.specs.declared.Checked.TheVariants.{Passed, Refused as Stopped}
 use Rattle.decode.specs.declared.Decoded.{Decoded}
 use Rattle.decode.specs.declared.Decoded.TheVariants.{Table, Refused as Undecoded}
 use Rattle.scope.specs.Check.{Check, ◌>>=◌}

@@ -1,0 +1,7 @@
+-- `dossier::keeps` meets its contract.
+use Rattle.dossier.specs.Ends as Ends
+use mathlib.Core.Path.{sym, ap, ◌∙◌}
+use Rattle.dossier.proofs.keeps.Goals as goal
+
+pub returns-in-Refused : goal.returns-in-Refused
+returns-in-Refused c = c.keeps_table.ensures ∙ ap Ends.keeps (sym c.in-Refused.is)
