@@ -7,28 +7,23 @@ use Rattle.refusal.specs.declared.Refusal.{Refusal}
 use Rattle.refusal.specs.declared.Answer.{Answer}
 use Rattle.refusal.specs.Numbers.{number_of, place_of}
 use Rattle.scope.specs.Check.{Check, passed, refused}
-use Rattle.scope.specs.Reading.{NodeTable, Got, got, fault}
-use Rattle.scope.specs.Closing.{nodes_left, hashes_left}
+use Rattle.scope.specs.Reading.{NodeTable, Got}
 use Rattle.scope.specs.Bounds.{Bound}
 use Rattle.scope.specs.Run.{Left, left_with, Ended, ended_with}
 use Rattle.common.specs.Checks.{clash}
 use Rattle.bititer.specs.Answers.{natural_fault, got_natural}
 use Rattle.bititer.specs.declared.NaturalFault.{NaturalFault}
 use Rattle.bititer.specs.declared.NaturalRead.{NaturalRead}
-use Rattle.bititer.specs.declared.NaturalRead.TheVariants as NaturalRead
 use Rattle.common.specs.Answers.{check_of, answer_of}
 use Rattle.common.specs.declared.Checked.{Checked}
-use Rattle.common.specs.declared.Checked.TheVariants as Checked
 use Rattle.decode.specs.declared.Sizes.{Sizes}
 use Rattle.decode.specs.declared.Decoded.{Decoded}
-use Rattle.decode.specs.declared.Decoded.TheVariants as Decoded
 use Rattle.decode.specs.Answers.{said_of}
 use Rattle.decode.specs.Stores as Stores
 use Rattle.decode.specs.Stores.{table_sizes, left_by}
 use Rattle.analysis.specs.Limits.{bounded_of}
 use Rattle.analysis.specs.declared.BoundsAnswer.{BoundsAnswer}
-use Rattle.analysis.specs.declared.BoundsAnswer.TheVariants as BoundsAnswer
-use Rattle.exports.specs.Codes.{answer_code, answer_told, judged, judged_by, Decoding, decoding, decoding_by, bounding, bounding_by, staged, staged_by, finished, finished_by, read, fault_code, read_by}
+use Rattle.exports.specs.Codes.{answer_code, answer_told, judged, judged_by, decoding, decoding_by, bounding, bounding_by, staged, staged_by, finished, finished_by, read, fault_code, read_by}
 
 -- a stage that checks
 pub check_told : (x : Checked) (c : Check (Unit {0})) → check_of x ≡ c → (said : Answer) → said ≡ answer_of x → (code place : ℕ)

@@ -8,8 +8,6 @@ use Rattle.scope.specs.Reading.{NodeTable, Got, got, fault, Fault, refusal_at}
 use Rattle.scope.specs.Closing.{nodes_left, hashes_left}
 use Rattle.scope.specs.Bounds.{Bound}
 use Rattle.scope.specs.Run.{Left, Ended}
-use Rattle.common.specs.declared.Checked.{Checked}
-use Rattle.common.specs.declared.Checked.TheVariants.{Passed, Refused as Stopped}
 
 -- the number of an answer, and what it tells beside: the count of an output's bits, or a place
 abbrev pub answer_code : Answer → ℕ

@@ -1,0 +1,8 @@
+-- `exports::drevaloci_hashes` meets its contract, by what the call that it wraps promises.
+use Rattle.exports.proofs.Told.{check_told}
+use Rattle.exports.proofs.drevaloci_hashes.Goals as goal
+
+pub returns : goal.returns
+returns c =
+    check_told c.hash_stage.result _ c.hash_stage.ensures
+    c.answer_of-said.result c.answer_of-said.ensures _ _ c.answer_code.ensures c.answer_told.ensures
