@@ -1,7 +1,7 @@
 -- Which dossiers are run: just those that hold the report's code of a table in canonical order, types and hashes that keep their rules,
 -- arrows that are the report's typing, a program within the limits, bits of values of the right types, and that are lent stores which fit.
 -- So is told what each answers.
-use Rattle.std.specs.Prelude.{◌≡◌, refl, ℕ, ◌/◌, ◌≤◌, ◌<◌, length}
+use Rattle.std.specs.Prelude.{◌≡◌, refl, ℕ, ◌/◌, ◌≤◌, length}
 use Rattle.std.proofs.Math.Path.{sym, ap, subst}
 use Rattle.std.proofs.Common.{◌∙◌, arith}
 use mathlib.Core.List.{List, []}

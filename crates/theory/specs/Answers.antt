@@ -11,7 +11,7 @@ use Rattle.report.specs.Meaning.{done, failed, pruned, stuck, Means, eval}
 use Rattle.scope.specs.Machine.{Step}
 use Rattle.scope.specs.Program.{Program, whole, whole_source, whole_target}
 use Rattle.scope.specs.Bounds.{whole_cells, whole_frames}
-use Rattle.scope.specs.Run.{Ready, Left, cells_of, cleared, written, ends, ran}
+use Rattle.scope.specs.Run.{Left, cells_of, cleared, written, ends, ran}
 use Rattle.theory.specs.WholeRuns.{Ran, ran_value, ran_fail, ran_prune}
 use Rattle.theory.specs.Sound.{Sound}
 use Rattle.theory.specs.Programs.{run_of, run_ends}

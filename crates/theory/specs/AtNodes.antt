@@ -16,7 +16,7 @@ use Rattle.scope.specs.Check.{passed}
 use Rattle.scope.specs.Nodes.{node_at}
 use Rattle.scope.specs.Walk.{hidden_at, none_hidden, allowed}
 use Rattle.scope.specs.Program.{Program, source_ty, target_ty, case_term, term_of, term_at, last, whole, whole_source, whole_target}
-use Rattle.scope.specs.Bounds.{Bound, bounds, child_row, pair_row, case_row, comp_row, disconnect_row, whole_cells, whole_frames}
+use Rattle.scope.specs.Bounds.{bounds, child_row, pair_row, case_row, comp_row, disconnect_row, whole_cells, whole_frames}
 use Rattle.scope.specs.Machine.{State, state, put_bits, move_frame, write_bits, skip, copy, fwd, input, output}
 use Rattle.common.specs.Bits.{AllBelow}
 use Rattle.exactness.specs.Values.{length-padded}

@@ -1,7 +1,7 @@
 -- Laws of cells. Bits are written and copied one by one; where the ranges are apart this says just which places hold what, and that all
 -- others are as they were. A value depends on its own cells alone, and a value's padded bits, once written, hold the value.
 use Rattle.std.specs.Prelude.{◌≡◌, refl, List, [], ◌∷◌, ◌++◌, ℕ, zero, suc, ◌+◌, ◌≤◌, ◌<◌, length, get_or}
-use Rattle.std.proofs.Common.{sym, ap, ap₂, ◌∙◌, arith, add_assoc, add-zero, zero-add, not-suc-le-zero, eq-eqb, ne_eqb}
+use Rattle.std.proofs.Common.{sym, ap, ap₂, ◌∙◌, arith, add_assoc, add-zero, zero-add, not-suc-le-zero}
 use Rattle.report.specs.Bits.{Bit}
 use Rattle.report.specs.Types.{Ty, one, sum, prod, width, pad_l, pad_r}
 use Rattle.report.specs.Values.{Val, inl, inr, ◌&◌, HasTy, Cells, padded, value_at}

@@ -1,7 +1,7 @@
 -- The Bit Machine computes the meaning, at any point of a run: the value is left at the old write cursor, all frames are back, and nothing else is changed.
 -- It stops exactly where the meaning fails or is pruned, at that place. Shown within the requirements' bounds, which are just the room that a run may use.
 use Rattle.std.specs.Prelude.{◌≡◌, refl, List, ℕ, ◌+◌, ◌≤◌, length}
-use Rattle.std.proofs.Common.{ap, arith}
+use Rattle.std.proofs.Common.{ap}
 use Rattle.std.proofs.Math.Path.{subst}
 use Rattle.report.specs.Types.{Ty, width}
 use Rattle.report.specs.Values.{Val, Cells, value_at}
@@ -9,7 +9,7 @@ use Rattle.report.specs.Terms.{Term}
 use Rattle.report.specs.Typing.{Typed}
 use Rattle.report.specs.Meaning.{Out, done, failed, pruned, stuck, ◌>>=◌, Means, eval}
 use Rattle.scope.specs.Machine.{Frame, State, Step, state, exec}
-use Rattle.scope.specs.Bounds.{Bound, bounds}
+use Rattle.scope.specs.Bounds.{bounds}
 use Rattle.common.specs.Checks.{clash}
 use Rattle.theory.specs.Cells.{Apart, Kept}
 use Rattle.theory.specs.Meets.{Agrees, meets}

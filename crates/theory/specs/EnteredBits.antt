@@ -2,12 +2,12 @@
 use Rattle.std.specs.Prelude.{◌≡◌, ℕ, ◌+◌, ◌≤◌}
 use Rattle.std.proofs.Common.{subst, arith}
 use mathlib.Core.List.{[], ◌∷◌}
-use Rattle.report.specs.Types.{width, pad_l, pad_r, left_of, right_of, word_ty}
+use Rattle.report.specs.Types.{width, left_of, word_ty}
 use Rattle.report.specs.Values.{Val, Cells, padded}
-use Rattle.report.specs.Meaning.{done, ◌>>=◌}
+use Rattle.report.specs.Meaning.{done}
 use Rattle.scope.specs.Program.{Program, source_ty, target_ty, term_at, whole_source, whole_target}
 use Rattle.scope.specs.Bounds.{whole_cells, whole_frames}
-use Rattle.scope.specs.Machine.{State, Step, state, move_frame, write_bits, skip, copy, fwd, input, output}
+use Rattle.scope.specs.Machine.{State, Step, state, move_frame, write_bits, skip, copy, fwd}
 use Rattle.common.specs.Checks.{clash}
 use Rattle.theory.specs.BinaryCells.{BitCells, BitsAfter, bits_done, bits_failed, bits_pruned, bits_stuck, padded_bits, after_bind, after_new_frame, after_move_frame, after_write_bits, after_skip, after_copy, after_fwd, exec_bits, input_bits_lem, output_bits}
 use Rattle.theory.specs.Entered.{push, run_node, handed, Entered, last_node, comp_left, comp_right, pair_left, pair_right, in_injl, in_injr, case_left, case_right, in_take, in_drop, disconnect_left, disconnect_right}

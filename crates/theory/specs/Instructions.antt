@@ -6,7 +6,7 @@ use Rattle.report.specs.Bits.{Bit}
 use Rattle.report.specs.Types.{Ty, width}
 use Rattle.report.specs.Values.{Val, HasTy, Cells, padded}
 use Rattle.report.specs.Meaning.{done}
-use Rattle.scope.specs.Machine.{Frame, frame_from, State, state, need, forward, backward, in_frame, put_bits, copy_cells, new_frame, drop_frame, write_bits, skip, copy, fwd, back, peek}
+use Rattle.scope.specs.Machine.{Frame, frame_from, state, need, forward, backward, in_frame, put_bits, copy_cells, new_frame, drop_frame, write_bits, skip, copy, fwd, back, peek}
 use Rattle.exactness.specs.Values.{length-padded}
 
 -- n cells can be read or written at the cursor `at` of the active frame; where n is 0 there need be no frame

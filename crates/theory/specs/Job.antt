@@ -22,15 +22,14 @@ use Rattle.scope.specs.Nodes.{node_at, no_node, nodes_of}
 use Rattle.scope.specs.Reading.{NodeTable}
 use Rattle.scope.specs.Walk.{check_walk}
 use Rattle.scope.specs.Closing.{decode}
-use Rattle.scope.specs.Program.{Program, whole, whole_source}
+use Rattle.scope.specs.Program.{whole, whole_source}
 use Rattle.scope.specs.Bounds.{whole_cells, whole_frames}
 use Rattle.scope.specs.Stores.{check_stores}
-use Rattle.scope.specs.Run.{Tables, Ready, check_tables, check_ready, tables_of, check_dossier, left_with, run_tables, cells_of, cleared, Ended, ended_with, run}
+use Rattle.scope.specs.Run.{Tables, Ready, check_tables, check_ready, tables_of, check_dossier, left_with, run_tables, cells_of, cleared, ended_with, run}
 use Rattle.common.specs.Checks.{clash, both_passed}
 use Rattle.common.specs.Bits.{AllBelow}
-use Rattle.exactness.specs.Nodes.{ContentFits, NodeFits, WellFormed, fit_at}
+use Rattle.exactness.specs.Nodes.{ContentFits, WellFormed, fit_at}
 use Rattle.exactness.specs.Canonical.{canonical_walk}
-use Rattle.exactness.specs.Programs.{IsProgram}
 use Rattle.exactness.specs.Decoding.{decoded_is_program, decoded_nodes}
 use Rattle.theory.specs.Sound.{Sound}
 use Rattle.theory.specs.Answers.{told, output}

@@ -13,7 +13,7 @@ use Rattle.scope.specs.Numbers.{zeros, bytes_for, tabulate_from, tabulate}
 use Rattle.scope.specs.Machine.{State, Step}
 use Rattle.scope.specs.Program.{Program, whole, whole_source, whole_target}
 use Rattle.scope.specs.Bounds.{whole_cells}
-use Rattle.scope.specs.Run.{Ready, Left, cells_of, packed, written, ends, ran}
+use Rattle.scope.specs.Run.{cells_of, packed, written, ends, ran}
 use Rattle.common.specs.Bits.{AreBits, are_bits, bits_of_bytes, length_bytes}
 use Rattle.common.specs.Tables.{length-tabulate, tabulate_at}
 use Rattle.theory.specs.BinaryCells.{BitCells, BitsAfter, bits_done, bits_failed, bits_pruned, machine_bits}

@@ -1,12 +1,12 @@
 -- The run over lent tables: where its checks pass the tables are checked ones, so it says what the program of the tables means.
 -- Here the node records were tested by 26, where a dossier's come from decoding.
-use Rattle.std.specs.Prelude.{◌≡◌, ℕ, ◌*◌, ◌≤◌, ◌<◌}
+use Rattle.std.specs.Prelude.{◌≡◌, ℕ, ◌*◌, ◌<◌}
 use Rattle.std.proofs.Common.{sym, arith}
 use Rattle.std.proofs.Math.Path.{subst}
 use Rattle.std.proofs.Math.Bool.{true}
 use mathlib.Core.List.{List, [], ◌∷◌}
 use Rattle.std.proofs.Math.Dec.{leb}
-use borrow.Author.Tests.{leb-true, le-ltb}
+use borrow.Author.Tests.{leb-true}
 use Rattle.std.proofs.Math.ListN.{length}
 use Rattle.limits.specs.Limits.{node_count, type_count, dossier_bytes}
 use Rattle.refusal.specs.declared.Refusal.TheVariants.{Natural, NodeRecord as BadNodeRecord, Header}
@@ -18,10 +18,10 @@ use Rattle.scope.specs.Types.{type_records, check_types}
 use Rattle.scope.specs.Nodes.{NodeRecord, node_records, nodes_of}
 use Rattle.scope.specs.Walk.{check_walk}
 use Rattle.scope.specs.Program.{whole}
-use Rattle.scope.specs.Run.{Tables, Ready, check_tables, check_ready, Left}
+use Rattle.scope.specs.Run.{Tables, Ready, check_tables, check_ready}
 use Rattle.scope.specs.Stages.{counted, record_rule, check_records, lent_tables, tables_lent, hash_stage, run_stage}
 use Rattle.common.specs.Checks.{every_all, both_passed, require_holds, each_holds}
-use Rattle.common.specs.Bits.{length_bits, length_within}
+use Rattle.common.specs.Bits.{length_within}
 use Rattle.common.specs.Nodes.{length_nodes}
 use Rattle.theory.specs.Records.{records_below, records_word}
 use Rattle.theory.specs.Answers.{told, output}

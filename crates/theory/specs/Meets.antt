@@ -10,7 +10,7 @@ use Rattle.report.specs.Terms.{Term, iden, comp, unit, injl, injr, case, pair, t
 use Rattle.report.specs.Typing.{Typed, of_iden, of_comp, of_unit, of_injl, of_injr, of_case, of_pair, of_take, of_drop, of_assertl, of_assertr, of_fail, of_witness, of_word, of_disconnect}
 use Rattle.report.specs.Meaning.{Out, done, failed, pruned, ◌>>=◌, Means, split, branch, eval}
 use Rattle.scope.specs.Machine.{put_bits, copy_cells}
-use Rattle.scope.specs.Bounds.{Bound, bounds}
+use Rattle.scope.specs.Bounds.{bounds}
 use Rattle.exactness.specs.Values.{length-padded}
 use Rattle.theory.specs.Cursors.{on_cells}
 use Rattle.theory.specs.Cells.{Apart, Kept, bits_in, bits_out, copy_in, copy_out, same_value, value_kept, value_bits, value_copy, value_left, value_right, value_written}

@@ -14,7 +14,7 @@ use Rattle.theory.specs.Cells.{Kept}
 use Rattle.theory.specs.Instructions.{At, advance}
 use Rattle.theory.specs.Correct.{Ends, of_value, of_fails, of_prunes}
 use Rattle.theory.specs.Sound.{Sound, term_typed}
-use Rattle.theory.specs.Entry.{Entry, Stacked, ClearOf, Separate, CellsKept, cursor_of, below, clear_left, clear_right, entry_ends}
+use Rattle.theory.specs.Entry.{Entry, ClearOf, Separate, CellsKept, cursor_of, below, clear_left, clear_right, entry_ends}
 use Rattle.theory.specs.AtNodes.{AtNode}
 
 -- the cells of every frame that stands in s, but for the active write frame, are the same in t

@@ -10,7 +10,7 @@ use Rattle.report.specs.Meaning.{stuck, Means, eval, visits}
 use Rattle.scope.specs.Machine.{Frame, Step, state, exec, machine, answer}
 use Rattle.scope.specs.Walk.{hidden_at}
 use Rattle.scope.specs.Program.{Program, source_ty, target_ty, term_at, last, whole, whole_source, whole_target}
-use Rattle.scope.specs.Bounds.{Bound, bounds, whole_cells, whole_frames, whole_cost}
+use Rattle.scope.specs.Bounds.{bounds, whole_cells, whole_frames, whole_cost}
 use Rattle.common.specs.Checks.{clash}
 use Rattle.theory.specs.Safety.{Good, safe}
 use Rattle.theory.specs.Visits.{visits_bound}

@@ -1,8 +1,8 @@
 -- Node records that keep their rules stand for nodes whose children are below them, and for words that have all their bits.
 -- So a table may be read from its first record to its last, and a word's value is one of its type.
-use Rattle.std.specs.Prelude.{◌≡◌, Bool, true, false, List, [], ◌∷◌, ℕ, zero, suc, ◌+◌, ◌-◌, ◌^◌, ◌≤◌, ◌<◌, ltb, get_or, take as take_l, drop as drop_l}
+use Rattle.std.specs.Prelude.{◌≡◌, Bool, true, false, List, [], ◌∷◌, ℕ, ◌+◌, ◌-◌, ◌^◌, ◌≤◌, ◌<◌, ltb, get_or, take as take_l, drop as drop_l}
 use Rattle.std.proofs.Math.Path.{refl}
-use Rattle.std.proofs.Common.{sym, ap, ◌∙◌, arith, not-suc-le-zero, leb-true, ltb-true, length-drop, length-take-le}
+use Rattle.std.proofs.Common.{sym, ap, ◌∙◌, arith, leb-true, ltb-true, length-drop, length-take-le}
 use Rattle.std.proofs.Math.Decide.{dec_lt}
 use Rattle.std.proofs.Math.Dec.{leb, eqb}
 use Rattle.std.proofs.Math.ListN.{length, get_or-eq_default}

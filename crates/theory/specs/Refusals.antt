@@ -4,7 +4,7 @@ use Rattle.std.specs.Prelude.{◌≡◌, Bool, not, eqb, get_or, take as take_l}
 use Rattle.std.proofs.Common.{sym, subst, arith, not-suc-le-zero, get_or-take, length-take-le}
 use Rattle.std.proofs.Math.Bool.{true, false}
 use mathlib.Core.List.{List, [], ◌∷◌, ◌++◌}
-use Prim.Native.Nat.{ℕ, zero, suc, ◌*◌, ◌-◌, ◌/◌, ◌≤◌, ◌<◌}
+use Prim.Native.Nat.{ℕ, zero, suc, ◌*◌, ◌-◌, ◌/◌, ◌<◌}
 use Rattle.std.proofs.Math.Decide.{dec_lt}
 use Rattle.std.proofs.Math.Dec.{leb}
 use Rattle.std.proofs.Math.ListN.{length, get_or-eq_default}
@@ -26,13 +26,13 @@ use Rattle.scope.specs.Reading.{Fault, stream_ended, length_too_long, over_bound
 use Rattle.scope.specs.Walk.{hidden_at, hides, none_hidden, allowed, Walk, walk_each, walk_make, walk_from, check_walk}
 use Rattle.scope.specs.Closing.{closes, used_up, decode}
 use Rattle.scope.specs.Arrows.{Arrow, target, no_one_child, repeats, node_rule, node_refusal, check_arrows}
-use Rattle.scope.specs.Hashes.{count_place, rights, clash, check_hashes}
+use Rattle.scope.specs.Hashes.{count_place, rights, check_hashes}
 use Rattle.scope.specs.Program.{Program, whole_source, whole_target}
 use Rattle.scope.specs.Bounds.{whole_cells, whole_frames, whole_cost, check_limits, check_bounds}
 use Rattle.scope.specs.Witness.{Values, values_from, check_witness}
 use Rattle.scope.specs.Input.{check_input}
 use Rattle.scope.specs.Stores.{check_stores}
-use Rattle.scope.specs.Run.{Tables, Ready, program_of, check_tables, check_ready, tables_of, check_dossier}
+use Rattle.scope.specs.Run.{Tables, program_of, check_tables, check_ready, tables_of, check_dossier}
 use Rattle.common.specs.Checks as Checks
 use Rattle.common.specs.Tables.{entries_at, entries_past, length-entries}
 

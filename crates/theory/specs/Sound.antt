@@ -13,7 +13,7 @@ use Rattle.report.specs.Nodes.{Node, disconnect, witness, word}
 use Rattle.report.specs.Canonical.{children}
 use Rattle.report.specs.Terms.{Term}
 use Rattle.report.specs.Typing.{Typed, of_iden, of_comp, of_unit, of_injl, of_injr, of_case, of_pair, of_take, of_drop, of_assertl, of_assertr, of_fail, of_witness, of_word, of_disconnect}
-use Rattle.scope.specs.Check.{passed, ◌>>=◌, require}
+use Rattle.scope.specs.Check.{passed, require}
 use Rattle.scope.specs.Numbers.{every}
 use Rattle.scope.specs.Nodes.{node_at}
 use Rattle.scope.specs.Walk.{hidden_at, none_hidden, allowed}
@@ -22,7 +22,7 @@ use Rattle.scope.specs.Program.{Program, source_ty, target_ty, case_term, term_o
 use Rattle.common.specs.Checks.{not_both, both_passed, require_holds}
 use Rattle.common.specs.Bits.{AllBelow}
 use Rattle.exactness.specs.Types.{TypesPass}
-use Rattle.exactness.specs.NodeTyping.{Goes, Branch, NodeTyped, from_ty, to_ty}
+use Rattle.exactness.specs.NodeTyping.{Branch, NodeTyped, from_ty, to_ty}
 use Rattle.exactness.specs.Arrows.{arrow_typed}
 use Rattle.theory.specs.Values.{word_from}
 use Rattle.theory.specs.NodeTerms.{term_step}

@@ -23,7 +23,7 @@ use Rattle.theory.specs.NodeTerms.{term_step}
 use Rattle.theory.specs.Sound.{Sound}
 use Rattle.theory.specs.Programs.{run_of}
 use Rattle.theory.specs.Entered.{push, run_node, handed, Entered, last_node, comp_left, comp_right, pair_left, pair_right, in_injl, in_injr, case_left, case_right, in_take, in_drop, disconnect_left, disconnect_right}
-use Rattle.theory.specs.AtNodes.{AtNode, entered_at}
+use Rattle.theory.specs.AtNodes.{entered_at}
 
 -- where an outcome is a stop, the place and the state there are such
 pub data StopsIn {X : Type 0} (Q : ℕ → State → Type 0) : Out State X → Type 0 where

@@ -1,6 +1,6 @@
 -- What the supplied values and hashes are, once their checks have passed: each witness has a value of its target, the input is a value of the source,
 -- and the right child of each disconnect has a hash of 256 bits.
-use Rattle.std.specs.Prelude.{◌≡◌, length, take, drop}
+use Rattle.std.specs.Prelude.{◌≡◌, length, take}
 use Rattle.std.proofs.Math.Path.{refl, sym, ap, subst}
 use Rattle.std.proofs.Common.{◌∙◌, arith, add-zero, zero-add}
 use mathlib.Core.List.{List, [], ◌∷◌, ◌++◌}
@@ -12,7 +12,6 @@ use Rattle.report.specs.Bits.{Bit}
 use Rattle.report.specs.Types.{Ty}
 use Rattle.report.specs.Values.{Val, ⟨⟩, HasTy, Read, value, short, read_value}
 use Rattle.report.specs.Nodes.{Node, comp, case, pair, disconnect, injl, injr, disconnect1, iden, unit, witness, fail, hidden, word}
-use Rattle.report.specs.Nodes as Node
 use Rattle.scope.specs.Check.{passed, refused, ◌>>=◌, require}
 use Rattle.scope.specs.Numbers.{held_bits}
 use Rattle.scope.specs.Types.{TypeRecord, ty_at}

@@ -17,7 +17,6 @@ use Rattle.report.specs.Bits.{Bit}
 use Rattle.report.specs.Types.{Ty, width}
 use Rattle.report.specs.Values.{Val, ⟨⟩, HasTy, compact, Read, value, short, read_value}
 use Rattle.report.specs.Nodes.{Node}
-use Rattle.report.specs.Nodes as Node
 use Rattle.scope.specs.Check.{passed, refused, ◌>>=◌, require, each}
 use Rattle.scope.specs.Numbers.{stream_of, held_bits, bytes_for, every, same, all_zero}
 use Rattle.scope.specs.Header.{header_rule, check_header}

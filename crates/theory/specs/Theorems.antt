@@ -6,7 +6,7 @@
 -- (NodeEnds), StopsIn (Stops), told and output (Answers), CellsLeft and output_bytes (Left), HeaderFits to StoresFit (Supply), RulesKept,
 -- Acceptable and FromRun (Acceptance), BitCells and BitsAfter (BinaryCells); those of `layout` and `exactness` stand in the modules that
 -- the names begin with, or that they are taken from.
-use Rattle.std.specs.Prelude.{◌≡◌, refl, ◌↔◌, true, false, List, ◌++◌, ℕ, ◌+◌, ◌*◌, ◌/◌, ◌^◌, ◌≤◌, ◌<◌, ltb, length, get_or, take, drop}
+use Rattle.std.specs.Prelude.{◌≡◌, ◌↔◌, true, false, List, ◌++◌, ℕ, ◌+◌, ◌*◌, ◌/◌, ◌^◌, ◌≤◌, ◌<◌, ltb, length, get_or, take, drop}
 use Rattle.std.proofs.Common.{sym, ap, ◌∙◌, subst}
 use Rattle.limits.specs.Limits.{node_cost, type_width}
 use Rattle.report.specs.Bits.{Bit, bits_of}
@@ -16,7 +16,7 @@ use Rattle.report.specs.Values.{Val, HasTy, Cells, value_at, compact, padded, va
 use Rattle.report.specs.Naturals.{code_natural}
 use Rattle.report.specs.Nodes.{Node}
 use Rattle.report.specs.Canonical.{children, is_done, up_from, Canonical}
-use Rattle.report.specs.Terms.{Term, witness}
+use Rattle.report.specs.Terms.{Term}
 use Rattle.report.specs.Typing.{Typed}
 use Rattle.report.specs.Meaning.{Means, done, stuck, eval, visits}
 use Rattle.scope.specs.Check.{passed}
@@ -29,13 +29,13 @@ use Rattle.scope.specs.Walk.{hidden_at, walk_from, check_walk}
 use Rattle.scope.specs.Closing.{decode}
 use Rattle.scope.specs.Arrows.{Arrow, arrow_rule, equal_nodes, check_arrows}
 use Rattle.scope.specs.Program.{Program, source_ty, target_ty, term_of, term_at, whole, whole_source, whole_target}
-use Rattle.scope.specs.Bounds.{Bound, bounds, whole_cells, whole_frames, whole_cost, check_bounds}
+use Rattle.scope.specs.Bounds.{bounds, whole_cells, whole_frames, whole_cost, check_bounds}
 use Rattle.scope.specs.Header.{check_header}
 use Rattle.scope.specs.Hashes.{check_hashes}
 use Rattle.scope.specs.Witness.{check_witness}
 use Rattle.scope.specs.Input.{check_input}
 use Rattle.scope.specs.Stores.{check_stores}
-use Rattle.scope.specs.Run.{Ready, Left, Ended, check_dossier, tables_of, check_ready, run, cells_of, cleared}
+use Rattle.scope.specs.Run.{Ready, check_dossier, tables_of, check_ready, run, cells_of, cleared}
 use Rattle.scope.specs.Stages.{tables_lent, hash_stage, run_stage}
 use Rattle.scope.specs.Machine.{Frame, State, Step, state, exec, machine, answer}
 use Rattle.common.specs.Tables.{length-entries, entries_at}

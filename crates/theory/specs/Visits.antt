@@ -6,7 +6,7 @@ use Rattle.limits.specs.Limits.{node_cost}
 use Rattle.report.specs.Values.{Val, ⟨⟩, inl, inr, ◌&◌}
 use Rattle.report.specs.Terms.{Term, iden, comp, unit, injl, injr, case, pair, take, drop, assertl, assertr, fail, witness, word, disconnect, bad}
 use Rattle.report.specs.Meaning.{done, failed, pruned, stuck, ◌>>=◌, Means, split, branch, eval, after, in_pair, in_sum, visits}
-use Rattle.scope.specs.Bounds.{Bound, bounds}
+use Rattle.scope.specs.Bounds.{bounds}
 
 -- what a part that stopped may owe
 unfoldable pub owed : Means → ℕ

@@ -9,7 +9,7 @@ use Rattle.report.specs.Terms.{Term}
 use Rattle.report.specs.Typing.{Typed}
 use Rattle.report.specs.Meaning.{done, failed, pruned, ◌>>=◌, Means, eval}
 use Rattle.scope.specs.Machine.{Frame, frame_from, State, Step, state, forward, reset, put_bits, write_bits, move_frame, exec, input, output, machine, answer}
-use Rattle.scope.specs.Bounds.{Bound, bounds}
+use Rattle.scope.specs.Bounds.{bounds}
 use Rattle.exactness.specs.Values.{length-padded}
 use Rattle.theory.specs.Cells.{Kept, bits_out, value_written}
 use Rattle.theory.specs.Instructions.{At, advance, new_frame_does, write_bits_does}

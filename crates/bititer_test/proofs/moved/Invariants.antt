@@ -1,7 +1,6 @@
 -- The loop that moves a stream stays within its array, and each byte is below 256.
 use mathlib.Core.Path.{◌≡◌}
 use Prim.Native.Nat.{◌-◌, ◌≤◌, ◌<◌}
-use borrow.Author.Rules.{rules}
 use lib.ListN.{length}
 use Rattle.bititer_test.proofs.moved.Given as goal
 

@@ -1,7 +1,5 @@
 -- Each turn takes a record off the file.
 use lib.ListN.{length}
-use borrow.Author.Rules.{rules}
-use Rattle.packed.proofs.Records.{shorter}
 use Rattle.bititer_test.proofs.replay.Given as goal
 
 abbrev pub invariant-loop-rest : goal.invariant-loop-rest

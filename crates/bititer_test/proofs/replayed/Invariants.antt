@@ -1,6 +1,5 @@
 -- The offsets of a read are below 8.
 use Prim.Native.Nat.{◌-◌, ◌≤◌}
-use borrow.Author.Rules.{rules}
 use Rattle.bititer_test.proofs.replayed.Given as goal
 
 abbrev pub invariant-loop-offset : goal.invariant-loop-offset

@@ -1,7 +1,6 @@
 -- The loop that takes the cells from a record stays within their array.
 use mathlib.Core.Path.{◌≡◌}
 use Prim.Native.Nat.{◌-◌, ◌≤◌}
-use borrow.Author.Rules.{rules}
 use lib.ListN.{length}
 use Rattle.cells_test.proofs.before.Given as goal
 

@@ -1,6 +1,5 @@
 -- The loop over the entries stays within the count of types, so that no place wraps.
 use Prim.Native.Nat.{◌≤◌, ◌-◌}
-use borrow.Author.Rules.{rules}
 use Rattle.limits.specs.Limits.{type_count}
 use Rattle.value_test.proofs.entries_right.Given as goal
 
