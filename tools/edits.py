@@ -6,9 +6,9 @@
 import re
 
 # sides that may be changed about, and tests that all have to hold, in any order
-EITHER_WAY = {"max", "min", "eqb", "same", "+", "*", "pairRow", "caseRow", "compRow"}
-ALL_HOLD = {"every", "noneHidden"}
-LIBRARY_PAIRS = {"leb": "ltb", "ltb": "leb", "take": "drop", "drop": "take", "takeL": "drop", "dropL": "take"}
+EITHER_WAY = {"max", "min", "eqb", "same", "+", "*", "pair_row", "case_row", "comp_row"}
+ALL_HOLD = {"every", "none_hidden"}
+LIBRARY_PAIRS = {"leb": "ltb", "ltb": "leb", "take": "drop", "drop": "take", "take_l": "drop", "drop_l": "take"}
 TOKEN = re.compile(r"--[^\n]*|[(){};]|[^\s(){};]+")
 SIGNATURE = re.compile(r"(\s*)(?:(?:unfoldable|abbrev|pub) )*([^\s:]+) : (.*)$")
 # what opens a block whose lines are items of their own: a section, a data type of rules

@@ -4,7 +4,7 @@
     python3 tools/pins.py        from the repository's root
 
 For each crate: its `pub fn`, and which of them have a pin, `pub NAME : ..` in proofs/Pins.antt, and a row in docs/PROMISES.md.
-A pin has the call's name, with - or _ in it; its type's name may stand before it.
+A pin has the call's name, with - or _ in it, and `_lem` after it where a definition has that name; its type's name may stand before it.
 It is stated over its call's own promise, the generated `Post`, and by `OneOutcome` where the call is lent anything to write.
 Of a call that is proved by hand there is no `Post`: its pin names the generated `clauses` and what they ensure.
 Exits 1 if a call lacks its pin or its row, if the call of a pin or of a row is gone, or if a pin does not name its call's promise.
@@ -20,7 +20,7 @@ USE = re.compile(r"^use Rattle\.\w+\.(?:proofs|specs\.contracts)\.(\S+) as (\S+)
 ROW = re.compile(r"^\| `(\w+(?:::\w+)+)", re.M)
 IMPL = re.compile(r"^impl (\w+)", re.M)
 # Lines of Pins.antt that are no call's pin: what tells two answers apart.
-TELLS = re.compile(r"-tells$")
+TELLS = re.compile(r"[-_]tells$")
 # Calls that promise nothing of what they print or read: what is printed is no result, and no promise can say what a file holds.
 SILENT = ("packed::print_wrong", "packed::print_tally", "packed::read_file")
 # A static library, and the library whose calls it exports. An export has the parameters and the clauses of its call, so that call's pin and row are its own.
@@ -57,7 +57,7 @@ def pins(crate):
 def pin_of(call, held):
     """The pin of a call among those that are held, or None."""
     name, owned = call.split("::")[-1], call.lower().replace("::", "_")
-    return next((pin for wanted in (owned, name) for pin in held if pin.replace("-", "_") == wanted), None)
+    return next((pin for wanted in (owned, name) for pin in held if pin.replace("-", "_") in (wanted, wanted + "_lem")), None)
 
 
 def says(call, by_hand, stated, modules):

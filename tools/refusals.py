@@ -58,7 +58,7 @@ def exists(token):
 def main():
     rows = [line for line in text(PAGE).splitlines() if re.match(r"\| \d", line)]
     faults = [f"there is no {token}" for row in rows for token in TOKEN.findall(row) if not exists(token)]
-    known = set(re.findall(r"^numberOf \(.*\) = (\d+)", text(NUMBERS), re.M))
+    known = set(re.findall(r"^number_of \(.*\) = (\d+)", text(NUMBERS), re.M))
     told = {re.match(r"\| (\d+)", row).group(1) for row in rows}
     faults += [f"no row for {number}" for number in sorted(known - told, key=int)]
     faults += [f"a row for {number}, which is no refusal" for number in sorted(told - known, key=int)]
