@@ -2,16 +2,10 @@ pub mod Naturals
 pub mod Values
 pub mod Walk
 pub mod Hidden
-pub mod Canonical
 pub mod Types
 pub mod TypeTests
 pub mod NodeTyping
 pub mod Equal
 pub mod Arrows
 pub mod Nodes
-pub mod Stream
-pub mod Coding
-pub mod Reading
 pub mod Programs
-pub mod Decoding
-pub mod Pins

@@ -1,16 +1,16 @@
--- The tests of a record of the type table tell types: a unit, a sum or a product of two types, the type of words.
+-- The tests of a record of the type table tell types: a unit, a sum or a product of two types.
 -- Each holds of a record exactly if the record stands for such a type; what holds of it is in the table.
 use Rattle.std.specs.Prelude.{◌≡◌, Bool, true, List, [], ◌∷◌, eqb}
-use Rattle.std.proofs.Math.Path.{refl, ap, ap₂}
+use Rattle.std.proofs.Math.Path.{refl, ap}
 use Rattle.std.proofs.Common.{sym, ◌∙◌}
 use Prim.Native.Nat.{ℕ, zero, suc, ◌<◌}
 use native.Mathlib.Omega.{arith}
 use Rattle.std.proofs.Math.Decide.{dec_lt}
 use Rattle.std.proofs.Math.ListN.{length, get_or-eq_default}
 use borrow.Author.Tests.{eqb-true, eq-eqb}
-use Rattle.report.specs.Types.{Ty, one, sum, prod, word_ty}
+use Rattle.report.specs.Types.{Ty, one}
 use Rattle.scope.specs.Numbers.{every}
-use Rattle.scope.specs.Types.{TypeRecord, type_from, no_type, ty_at, type_at, is_unit, is_sum, is_product, left_at, right_at, is_word}
+use Rattle.scope.specs.Types.{TypeRecord, type_from, no_type, ty_at, type_at, is_unit, left_at, right_at}
 use Rattle.common.specs.Checks.{clash, every_all, all_every}
 use Rattle.exactness.specs.Types.{TypesPass, Parts, of_unit, of_sum, of_product, tag_at, parts_at, type_step, same_index}
 
@@ -94,32 +94,4 @@ module _ (types : List TypeRecord) where
             same_test (left_at types j) l h.left_in m (h.left_is ∙ sym p),
             (same_test (right_at types j) r h.right_in n (h.right_is ∙ sym q), tt),
           ),
-        )
-
-    -- the test of a word type holds of that very type
-    pub word_type : (k j : ℕ) → is_word types k j ≡ true → ty_at types j ≡ word_ty k
-    unfolding is_word word_ty is_sum is_product left_at right_at type_from
-    word_type zero j e =
-        let p = every_all (is_sum types j (left_at types j) (right_at types j)
-        ∷ is_unit types (left_at types j) ∷ is_unit types (right_at types j) ∷ []) e in
-        joins_type 1 j (left_at types j) (right_at types j) (omega arith) p.0
-        ∙ ap₂ sum (unit_type_lem (left_at types j) p.1.0) (unit_type_lem (right_at types j) p.1.1.0)
-    word_type (suc k) j e =
-        let p = every_all (is_product types j (left_at types j) (left_at types j) ∷ is_word types k (left_at types j) ∷ []) e in
-        let w = word_type k (left_at types j) p.1.0 in
-        joins_type 2 j (left_at types j) (left_at types j) (omega arith) p.0 ∙ ap₂ prod w w
-
-    pub type_word : (k j : ℕ) → j < length types → ty_at types j ≡ word_ty k → is_word types k j ≡ true
-    unfolding is_word word_ty is_sum is_product left_at right_at type_from
-    type_word zero j h e =
-        let p = type_joins 0 j one one (omega arith) h e in
-        all_every (is_sum types j (left_at types j) (right_at types j) ∷ is_unit types (left_at types j) ∷ is_unit types (right_at types j) ∷ []) (
-          joined_test 1 j (left_at types j) (right_at types j) one one p p.left_in p.right_in p.left_is p.right_is,
-          (type_unit (left_at types j) p.left_in p.left_is, (type_unit (right_at types j) p.right_in p.right_is, tt)),
-        )
-    type_word (suc k) j h e =
-        let p = type_joins 1 j (word_ty k) (word_ty k) (omega arith) h e in
-        all_every (is_product types j (left_at types j) (left_at types j) ∷ is_word types k (left_at types j) ∷ []) (
-          joined_test 2 j (left_at types j) (left_at types j) (word_ty k) (word_ty k) p p.left_in p.left_in p.left_is p.left_is,
-          (type_word k (left_at types j) p.left_in p.left_is, tt),
         )

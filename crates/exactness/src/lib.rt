@@ -1,2 +1,2 @@
-// The theorems that the checks accept exactly what the report says stand in specs/; this crate has no code.
+// The theorems that the checks accept exactly what the report says stand in proofs/, what they speak of in specs/; this crate has no code.
 #![tactic(auto)]

@@ -17,9 +17,9 @@ use Rattle.common.specs.Checks.{clash}
 use Rattle.common.specs.Bits.{AllBelow, AreBits, AreBytes}
 use Rattle.exactness.specs.Naturals.{natural_bound}
 use Rattle.exactness.specs.Nodes.{ContentFits, NodeFits, stored_by, record_with, record_of}
-use Rattle.exactness.specs.Stream.{both_got, then_reads, Stands, stands_none, stands_then, stands_split, stands_bits}
-use Rattle.exactness.specs.Stream.{next_stands, natural_stands, child_stands, octets_stand, one_stands, two_stand}
-use Rattle.exactness.specs.Stream.{stands_next, stands_natural, stands_child, stand_octets, stands_code}
+use Rattle.exactness.proofs.Stream.{both_got, then_reads, Stands, stands_none, stands_then, stands_split, stands_bits}
+use Rattle.exactness.proofs.Stream.{next_stands, natural_stands, child_stands, octets_stand, one_stands, two_stand}
+use Rattle.exactness.proofs.Stream.{stands_next, stands_natural, stands_child, stand_octets, stands_code}
 
 abbrev pub item_with : (kind first second : ℕ) → List ℕ → Item
 item_with kind first second stored = record { node = record_with kind first second; stored = stored }

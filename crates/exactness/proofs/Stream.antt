@@ -16,7 +16,8 @@ use Rattle.scope.specs.Naturals.{Natural, natural, ended, too_long, read_natural
 use Rattle.scope.specs.Reading.{stream_ended, over_bound, Got, got, fault, Reader, ◌>>=◌, give, next, code, bounded, natural_up_to, child, octets}
 use Rattle.common.specs.Checks.{clash}
 use Rattle.common.specs.Bits.{AreBits, AreBytes, below_drop, below_front, length_bits, length_bytes, bits_of_bytes, bytes_of_bits}
-use Rattle.exactness.specs.Naturals.{natural_bound, code_some, reads_code, read_is_code}
+use Rattle.exactness.specs.Naturals.{natural_bound}
+use Rattle.exactness.proofs.Naturals.{code_some, reads_code, read_is_code}
 
 -- two readers in a row: the second goes on where the first ends
 pub both_got : {X Y : Type 0} (m : Reader X) (f : X → Reader Y) (at : ℕ) (y : Y) (p : ℕ) → (m >>= f) at ≡ got y p

@@ -23,8 +23,10 @@ use Rattle.scope.specs.Walk.{hidden_at, allowed, walk_each, walk_make, walk_from
 use Rattle.common.specs.Tables.{length-entries, entries_at, before_none}
 use Rattle.common.specs.Checks.{clash, require_holds, holds_require, both_passed, then_passes}
 use Rattle.exactness.specs.Walk.{Counted, of_upto, arrive, Walks, walk_in, walk_node, walks_before}
-use Rattle.exactness.specs.Walk.{length-up_from, up_from_more, upto_count, arrive-passed, arrive_passes, each_counted, walk_node_counted, walk_at, walk_past, walk_counted, walk_passed}
-use Rattle.exactness.specs.Hidden.{HiddenPlaces, allowed_places, places_allowed, places_last}
+use Rattle.exactness.specs.Walk.{length-up_from, up_from_more}
+use Rattle.exactness.proofs.Walk.{upto_count, arrive-passed, arrive_passes, each_counted, walk_node_counted, walk_at, walk_past, walk_counted, walk_passed}
+use Rattle.exactness.specs.Hidden.{HiddenPlaces}
+use Rattle.exactness.proofs.Places.{allowed_places, places_allowed, places_last}
 
 -- a part of 0, 1, .. from the front is one itself
 front_up_from : (a m : ℕ) (d more : List ℕ) → d ++ more ≡ up_from a m → (d ≡ up_from a (length d)) × (length d ≤ m)

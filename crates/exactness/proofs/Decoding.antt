@@ -26,12 +26,12 @@ use Rattle.scope.specs.Walk.{check_walk}
 use Rattle.scope.specs.Closing.{closes, decode}
 use Rattle.common.specs.Checks.{clash, every_all, all_every, require_holds, holds_require, both_passed, then_passes}
 use Rattle.common.specs.Bits.{AreBits, are_bits}
-use Rattle.exactness.specs.Naturals.{code_some}
+use Rattle.exactness.proofs.Naturals.{code_some}
 use Rattle.exactness.specs.Nodes.{NodeFits, NodesFit, stored_by, record_of, records_from, hashes_of, layout}
-use Rattle.exactness.specs.Stream.{Stands, stands_split, front_stands}
+use Rattle.exactness.proofs.Stream.{Stands, stands_split, front_stands}
 use Rattle.exactness.specs.Programs.{Closed, IsProgram}
-use Rattle.exactness.specs.Canonical.{walk_canonical, canonical_walk}
-use Rattle.exactness.specs.Reading.{IsTable, read_is_table, table_is_read}
+use Rattle.exactness.proofs.Canonical.{walk_canonical, canonical_walk}
+use Rattle.exactness.proofs.Reading.{IsTable, read_is_table, table_is_read}
 
 module _ (bits : List Bit) (hashes : List ℕ) where
   -- the node that a record stands for

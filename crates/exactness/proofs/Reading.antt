@@ -21,8 +21,8 @@ use Rattle.common.specs.Checks.{clash}
 use Rattle.common.specs.Bits.{AreBits}
 use Rattle.exactness.specs.Naturals.{natural_bound}
 use Rattle.exactness.specs.Nodes.{NodesFit, WellFormed, stored_by, record_of, records_from, hashes_of, layout}
-use Rattle.exactness.specs.Stream.{both_got, then_reads, Stands, stands_none, stands_then, stands_split, natural_stands, stands_natural}
-use Rattle.exactness.specs.Coding.{item_of, IsNode, node_is_code, code_is_node}
+use Rattle.exactness.proofs.Stream.{both_got, then_reads, Stands, stands_none, stands_then, stands_split, natural_stands, stands_natural}
+use Rattle.exactness.proofs.Coding.{item_of, IsNode, node_is_code, code_is_node}
 
 abbrev table_with : List NodeRecord → List ℕ → (end : ℕ) → NodeTable
 table_with records hashes end = record { records = records; hashes = hashes; end = end }

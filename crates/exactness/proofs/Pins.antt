@@ -11,7 +11,7 @@ use Rattle.scope.specs.Reading.{NodeTable}
 use Rattle.scope.specs.Closing.{decode}
 use Rattle.exactness.specs.Nodes.{layout}
 use Rattle.exactness.specs.Programs.{IsProgram}
-use Rattle.exactness.specs.Decoding.{decoded_is_program, decoded_nodes}
+use Rattle.exactness.proofs.Decoding.{decoded_is_program, decoded_nodes}
 
 abbrev program : List ℕ
 program = 0x89 ∷ 0x20 ∷ []
