@@ -12,7 +12,7 @@ use Rattle.scope.specs.Nodes.{NodeRecord, node_records, nodes_of}
 use Rattle.scope.specs.Closing.{decode}
 use Rattle.exactness.specs.Nodes.{layout}
 use Rattle.exactness.specs.Programs.{IsProgram}
-use Rattle.exactness.specs.Decoding.{decoded_is_program, program_is_decoded, decoded_nodes}
+use Rattle.exactness.proofs.Decoding.{decoded_is_program, program_is_decoded, decoded_nodes}
 use Rattle.decode.specs.declared.Sizes.{Sizes}
 use Rattle.decode.specs.declared.Decoded.{Decoded}
 use Rattle.decode.specs.Answers.{said_of}

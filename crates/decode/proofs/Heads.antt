@@ -20,7 +20,7 @@ use Rattle.common.specs.Bits.{length_within}
 use Rattle.bititer.specs.Windows.{window_bits}
 use Rattle.bititer.proofs.Streams.{next_within, next_past}
 use Rattle.bititer.proofs.Windows.{window_code}
-use Rattle.exactness.specs.Stream.{then_reads}
+use Rattle.exactness.proofs.Stream.{then_reads}
 use Rattle.decode.specs.declared.NumberRead.{NumberRead}
 use Rattle.decode.specs.declared.Follows.{Follows}
 use Rattle.decode.specs.Answers.{number_of}

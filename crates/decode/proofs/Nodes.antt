@@ -21,7 +21,7 @@ use Rattle.bititer.specs.declared.BytesRead.{BytesRead}
 use Rattle.bititer.proofs.Streams.{octets-got}
 use Rattle.common.specs.Bits.{length_bytes}
 use Rattle.table.specs.Answers.{record_of}
-use Rattle.exactness.specs.Stream.{then_reads}
+use Rattle.exactness.proofs.Stream.{then_reads}
 use Rattle.decode.specs.declared.Follows.{Follows}
 use Rattle.decode.specs.declared.NodeHead.{NodeHead}
 use Rattle.decode.specs.declared.HeadRead.{HeadRead}

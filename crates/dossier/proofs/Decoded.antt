@@ -30,8 +30,8 @@ use Rattle.scope.specs.Run.{Tables, check_tables, tables_of, Left, left_with, ru
 use Rattle.scope.specs.Stages.{counted, record_rule, check_records, lent_tables, tables_lent, hash_stage, run_stage}
 use Rattle.common.specs.Checks.{every_all, holds_require, then_passes, holds_each, counted_fine}
 use Rattle.exactness.specs.Nodes.{records_from, hashes_of, layout}
-use Rattle.exactness.specs.Stream.{Stands, stands_split}
-use Rattle.exactness.specs.Decoding.{decoded_is_program, program_table}
+use Rattle.exactness.proofs.Stream.{Stands, stands_split}
+use Rattle.exactness.proofs.Decoding.{decoded_is_program, program_table}
 use Rattle.theory.specs.Job.{decoded}
 use Rattle.common.specs.Bits.{length_within}
 use Rattle.header.proofs.Rules.{passes_all, section_end}

@@ -34,7 +34,7 @@ use Rattle.scope.specs.Stages.{tables_lent}
 use Rattle.scope.specs.Run.{Tables, Ready, check_ready, tables_of, check_dossier, left_with, run_tables, cells_of, cleared, Ended, ended_with, run}
 use Rattle.exactness.specs.Nodes as Nodes
 use Rattle.exactness.specs.Programs.{IsProgram}
-use Rattle.exactness.specs.Decoding.{decoded_is_program}
+use Rattle.exactness.proofs.Decoding.{decoded_is_program}
 use Rattle.layout.specs.Layout.{layout}
 use Rattle.layout.specs.Match.{laid_out}
 use Rattle.theory.specs.Answers.{told, output}

@@ -24,7 +24,7 @@ use Rattle.scope.specs.Stages.{tables_lent, hash_stage}
 use Rattle.scope.specs.Run.{check_tables, tables_of, check_dossier, Left, left_with, run_tables, Ended, ended_with, run}
 use Rattle.common.specs.Checks.{both_passed, then_passes, then_then}
 use Rattle.exactness.specs.Nodes.{layout}
-use Rattle.exactness.specs.Decoding.{decoded_is_program}
+use Rattle.exactness.proofs.Decoding.{decoded_is_program}
 use Rattle.dossier.specs.Ends.{front, keeps, settled}
 use Rattle.dossier.proofs.Refusing.{LateAnswer, tables_refuse, tables_late}
 use Rattle.dossier.proofs.Decoded.{length_records, stage, stage_hashes, lent_own}

@@ -19,7 +19,7 @@ use Rattle.scope.specs.Nodes.{NodeRecord, kind_of}
 use Rattle.scope.specs.Stages.{numbers_rule, no_record, record_rule}
 use Rattle.common.specs.Checks.{all_every}
 use Rattle.exactness.specs.Nodes.{NodeFits, NodesFit, stored_by, record_of, records_from, hashes_of}
-use Rattle.exactness.specs.Stream.{Stands, stands_split}
+use Rattle.exactness.proofs.Stream.{Stands, stands_split}
 
 -- a record keeps the rule of its kind at index i
 abbrev Kept : (bits bytes i : ℕ) → NodeRecord → Type 0

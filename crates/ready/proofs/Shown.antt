@@ -32,7 +32,7 @@ use Rattle.common.specs.Checks.{clash, both_passed, then_passes, counted-passed}
 use Rattle.common.specs.Bits.{AllBelow, held_within}
 use Rattle.exactness.specs.NodeTyping.{NodeTyped, of_word, from_ty, to_ty}
 use Rattle.exactness.specs.Types.{types_pass}
-use Rattle.exactness.specs.Arrows.{arrow_typed}
+use Rattle.exactness.proofs.Arrows.{arrow_typed}
 use Rattle.layout.specs.Mach.{empty}
 use Rattle.layout.specs.Safe.{WholeOk}
 use Rattle.theory.specs.Accepted.{Checked, ready_sound, ready_input}

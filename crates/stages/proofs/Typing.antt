@@ -18,7 +18,7 @@ use Rattle.common.specs.Bits.{AllBelow}
 use Rattle.exactness.specs.Types.{types_pass}
 use Rattle.exactness.specs.NodeTyping.{ArrowsTyped}
 use Rattle.exactness.specs.Equal.{NoneEqual}
-use Rattle.exactness.specs.Arrows.{arrows_typed, typed_arrows}
+use Rattle.exactness.proofs.Arrows.{arrows_typed, typed_arrows}
 use Rattle.common.specs.Nodes.{length_nodes}
 use Rattle.stages.proofs.Passed.{nodes_in, LentPassed, lent_passed, lent_below, stage_passed}
 

@@ -16,7 +16,8 @@ use Rattle.scope.specs.Numbers.{every, any_below}
 use Rattle.scope.specs.Nodes.{Kind, k_comp, k_case, k_pair, k_disconnect, k_injl, k_injr, k_take, k_drop, k_iden, k_unit, k_fail, k_disconnect1, k_witness, k_hidden, k_word, k_unknown, kind_of, NodeRecord, node_of, nodes_of}
 use Rattle.scope.specs.Walk.{hidden_at, none_hidden, allowed, check_walk}
 use Rattle.scope.specs.Stages.{no_record}
-use Rattle.exactness.specs.Walk.{count, arrive_count, walk_count, walk_past, check_walk_count}
+use Rattle.exactness.specs.Walk.{count, arrive_count, walk_count}
+use Rattle.exactness.proofs.Walk.{walk_past, check_walk_count}
 use Rattle.table.specs.Lent.{left_of, right_of}
 use Rattle.table.specs.Walking.{child_walk}
 use Rattle.common.specs.Nodes.{length_nodes, node_at_lem}

@@ -16,7 +16,8 @@ use Rattle.scope.specs.Nodes.{kind_of, NodeRecord, node_records, nodes_of}
 use Rattle.scope.specs.Walk.{hidden_at, check_walk}
 use Rattle.scope.specs.Stages.{counted, numbers_rule, no_record, record_rule, check_records, walk_stage}
 use Rattle.common.specs.Checks.{both_passed, then_then, then_passes, then_refuses}
-use Rattle.exactness.specs.Walk.{walk_count, check_walk_count}
+use Rattle.exactness.specs.Walk.{walk_count}
+use Rattle.exactness.proofs.Walk.{check_walk_count}
 use Rattle.common.specs.declared.Checked.{Checked}
 use Rattle.common.specs.declared.Checked.TheVariants.{Refused}
 use Rattle.common.specs.Answers.{check_of}

@@ -23,7 +23,8 @@ use Rattle.scope.specs.Walk.{hidden_at, none_hidden, allowed, walk_each, walk_ma
 use Rattle.scope.specs.Stages.{no_record}
 use Rattle.common.specs.Checks.{clash, require_holds, both_passed, then_same, then_then, then_nothing}
 use Rattle.common.specs.Tables.{before_none}
-use Rattle.exactness.specs.Walk.{length-up_from, up_from_more, done_below, arrive, arrive_count, count, walk_count, walks_before, walk_node, walk_at, walk_is_count}
+use Rattle.exactness.specs.Walk.{length-up_from, up_from_more, done_below, arrive, arrive_count, count, walk_count, walks_before, walk_node}
+use Rattle.exactness.proofs.Walk.{walk_at, walk_is_count}
 use Rattle.table.specs.Lent.{lent_nodes, node_is, hidden_kind, left_of, right_of}
 use Rattle.table.specs.Walking.{children_rule, repeat_rule, child_walk}
 use Rattle.common.specs.Nodes.{length_nodes, node_at_lem}

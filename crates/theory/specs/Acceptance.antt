@@ -34,9 +34,9 @@ use Rattle.exactness.specs.Types.{TypesPass, types_pass, pass_types}
 use Rattle.exactness.specs.Nodes.{layout, fit_at}
 use Rattle.exactness.specs.NodeTyping.{ArrowsTyped}
 use Rattle.exactness.specs.Equal.{NoneEqual}
-use Rattle.exactness.specs.Arrows.{arrows_typed, typed_arrows}
+use Rattle.exactness.proofs.Arrows.{arrows_typed, typed_arrows}
 use Rattle.exactness.specs.Programs.{IsProgram}
-use Rattle.exactness.specs.Decoding.{decoded_is_program, program_is_decoded, decoded_nodes}
+use Rattle.exactness.proofs.Decoding.{decoded_is_program, program_is_decoded, decoded_nodes}
 use Rattle.theory.specs.Safety.{Good, good_value, good_fail, good_prune}
 use Rattle.theory.specs.Programs.{value_of_target}
 use Rattle.theory.specs.Answers.{told, output}

@@ -27,9 +27,10 @@ use Rattle.scope.specs.Run.{Tables, program_of, Ready, check_tables, check_ready
 use Rattle.common.specs.Checks.{clash, both_passed}
 use Rattle.common.specs.Bits.{AllBelow}
 use Rattle.exactness.specs.Types.{types_pass}
-use Rattle.exactness.specs.Arrows.{arrows_pass}
-use Rattle.exactness.specs.Hidden.{HiddenPlaces, places_allowed, places_last}
-use Rattle.exactness.specs.Canonical.{walk_canonical}
+use Rattle.exactness.proofs.Arrows.{arrows_pass}
+use Rattle.exactness.specs.Hidden.{HiddenPlaces}
+use Rattle.exactness.proofs.Places.{places_allowed, places_last}
+use Rattle.exactness.proofs.Canonical.{walk_canonical}
 use Rattle.theory.specs.Supplied.{witness_typed, input_typed}
 use Rattle.theory.specs.Hashes.{hash_typed}
 use Rattle.theory.specs.Sound.{Sound, none_hidden_lem}

@@ -29,8 +29,8 @@ use Rattle.scope.specs.Run.{Tables, Ready, check_tables, check_ready, tables_of,
 use Rattle.common.specs.Checks.{clash, both_passed}
 use Rattle.common.specs.Bits.{AllBelow}
 use Rattle.exactness.specs.Nodes.{ContentFits, WellFormed, fit_at}
-use Rattle.exactness.specs.Canonical.{canonical_walk}
-use Rattle.exactness.specs.Decoding.{decoded_is_program, decoded_nodes}
+use Rattle.exactness.proofs.Canonical.{canonical_walk}
+use Rattle.exactness.proofs.Decoding.{decoded_is_program, decoded_nodes}
 use Rattle.theory.specs.Sound.{Sound}
 use Rattle.theory.specs.Answers.{told, output}
 use Rattle.theory.specs.Programs.{run_of}

@@ -23,7 +23,7 @@ use Rattle.common.specs.Checks.{not_both, both_passed, require_holds}
 use Rattle.common.specs.Bits.{AllBelow}
 use Rattle.exactness.specs.Types.{TypesPass}
 use Rattle.exactness.specs.NodeTyping.{Branch, NodeTyped, from_ty, to_ty}
-use Rattle.exactness.specs.Arrows.{arrow_typed}
+use Rattle.exactness.proofs.Arrows.{arrow_typed}
 use Rattle.theory.specs.Values.{word_from}
 use Rattle.theory.specs.NodeTerms.{term_step}
 

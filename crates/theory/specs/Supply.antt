@@ -35,7 +35,7 @@ use Rattle.common.specs.Checks.{every_all, all_every, none_below, below_none, sa
 use Rattle.common.specs.Bits.{AreBits, below_take, held_within}
 use Rattle.exactness.specs.Values.{reads_compact, read_is_compact}
 use Rattle.exactness.specs.Programs.{Closed}
-use Rattle.exactness.specs.Decoding.{closed_stands, closed_closes, stream_bits}
+use Rattle.exactness.proofs.Decoding.{closed_stands, closed_closes, stream_bits}
 
 -- THE HEADER keeps its rules
 pub record HeaderFits (d : List ℕ) : Type 0 where

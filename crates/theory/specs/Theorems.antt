@@ -40,19 +40,22 @@ use Rattle.scope.specs.Stages.{tables_lent, hash_stage, run_stage}
 use Rattle.scope.specs.Machine.{Frame, State, Step, state, exec, machine, answer}
 use Rattle.common.specs.Tables.{length-entries, entries_at}
 use Rattle.common.specs.Bits.{AllBelow, AreBits}
-use Rattle.exactness.specs.Naturals.{natural_bound, reads_code, read_is_code}
+use Rattle.exactness.specs.Naturals.{natural_bound}
+use Rattle.exactness.proofs.Naturals.{reads_code, read_is_code}
 use Rattle.exactness.specs.Values.{reads_compact, read_is_compact, Hold, value_held, length-padded, compact_fits, width_word, word_unpadded}
 use Rattle.exactness.specs.Types.{TypesPass, types_pass, pass_types, tag_at, type_step, type_fits, same_index}
-use Rattle.exactness.specs.TypeTests.{word_type, type_word}
+use Rattle.exactness.proofs.TypeTests.{word_type, type_word}
 use Rattle.exactness.specs.NodeTyping.{NodeTyped, from_ty, to_ty, InRange, ArrowsTyped}
 use Rattle.exactness.specs.Equal.{EqualNodes, NoneEqual, test_equal, equal_test}
-use Rattle.exactness.specs.Arrows.{arrow_range, arrow_typed, typed_arrow, RulesHold, rules_typed, typed_rules, arrows_typed, typed_arrows}
-use Rattle.exactness.specs.Walk.{Counted, walk_counted, done_below, walk_count, walk_step, count_step}
+use Rattle.exactness.proofs.Arrows.{arrow_range, arrow_typed, typed_arrow, rules_typed, typed_rules, arrows_typed, typed_arrows}
+use Rattle.exactness.specs.Arrows.{RulesHold}
+use Rattle.exactness.specs.Walk.{Counted, done_below, walk_count, walk_step}
+use Rattle.exactness.proofs.Walk.{walk_counted, count_step}
 use Rattle.exactness.specs.Hidden.{HiddenPlaces}
-use Rattle.exactness.specs.Canonical.{walk_canonical, canonical_walk}
+use Rattle.exactness.proofs.Canonical.{walk_canonical, canonical_walk}
 use Rattle.exactness.specs.Nodes as Nodes
 use Rattle.exactness.specs.Programs.{IsProgram}
-use Rattle.exactness.specs.Decoding.{decoded_is_program, program_is_decoded, decoded_nodes, one_table}
+use Rattle.exactness.proofs.Decoding.{decoded_is_program, program_is_decoded, decoded_nodes, one_table}
 use Rattle.layout.specs.Mach.{Mach, no_frame, empty}
 use Rattle.layout.specs.Rules.{all_free}
 use Rattle.layout.specs.Exec.{run_term, run_whole}
