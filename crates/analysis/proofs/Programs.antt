@@ -22,7 +22,7 @@ use Rattle.scope.specs.Bounds.{Bound, bounds, comp_row, pair_row, child_row, dis
 use Rattle.scope.specs.Stages.{no_record}
 use Rattle.common.specs.Tables.{entries_past}
 use Rattle.common.specs.Bits.{AllBelow}
-use Rattle.theory.specs.NodeTerms.{with_values, term_step}
+use Rattle.theory.proofs.NodeTerms.{with_values, term_step}
 use Rattle.common.specs.Nodes.{length_nodes, node_at_lem}
 use Rattle.table.proofs.Hashes.{hidden_alike}
 use Rattle.lookup.specs.Lookup.{source_width, target_width, kept_width}

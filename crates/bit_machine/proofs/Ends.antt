@@ -30,8 +30,8 @@ use Rattle.common.specs.Bits.{length_bits}
 use Rattle.layout.specs.Safe.{WholeOk}
 use Rattle.common.specs.Tables.{tabulate_at, length-tabulate}
 use Rattle.layout.specs.Match.{laid_out, Reached, Ends}
-use Rattle.theory.specs.Cells.{same_value}
-use Rattle.theory.specs.Theorems.{whole_safe, whole_same, whole_ends, bytes_left}
+use Rattle.theory.proofs.Cells.{same_value}
+use Rattle.theory.proofs.Theorems.{whole_safe, whole_same, whole_ends, bytes_left}
 use Rattle.bititer.proofs.Bits.{Bytes}
 use Rattle.cells.proofs.Machine.{cells_packed}
 use Rattle.common.specs.Nodes.{length_records, length_nodes}

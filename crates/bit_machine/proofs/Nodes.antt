@@ -17,7 +17,7 @@ use Rattle.scope.specs.Nodes.{node_at}
 use Rattle.scope.specs.Walk.{hidden_at}
 use Rattle.scope.specs.Program.{Program, source_ty, target_ty, value_from, case_term, term_of, term_at}
 use Rattle.common.specs.Bits.{AllBelow}
-use Rattle.theory.specs.NodeTerms.{term_step}
+use Rattle.theory.proofs.NodeTerms.{term_step}
 use Rattle.layout.specs.Mach.{Mach}
 use Rattle.layout.specs.Rules.{bit_written, bits_written, skipped, copied, forwarded, peeked, forwarded_zero}
 use Rattle.layout.specs.Exec.{Outcome, Around, pairing, composing, disconnecting, around, returning, under, tagged, run_term, run_case_left, run_case_right, run_assertl_left, run_assertl_right, run_assertr_left, run_assertr_right}

@@ -32,13 +32,15 @@ use Rattle.layout.specs.Layout.{layout}
 use Rattle.layout.specs.Follow.{Fits}
 use Rattle.layout.specs.Match.{laid_out}
 use Rattle.theory.specs.Sound.{Sound}
-use Rattle.theory.specs.Accepted.{Checked, ready_sound, ready_input}
-use Rattle.theory.specs.LentTables.{lent_checked}
+use Rattle.theory.proofs.Accepted.{Checked, ready_sound, ready_input}
+use Rattle.theory.proofs.LentTables.{lent_checked}
 use Rattle.theory.specs.Entered.{Entered}
-use Rattle.theory.specs.Entry.{cursor_of, entry_fits}
-use Rattle.theory.specs.AtNodes.{AtNode, entered_at}
-use Rattle.theory.specs.NodeEnds.{NodeEnds, node_means, node_goes}
-use Rattle.theory.specs.Theorems as Theorems
+use Rattle.theory.specs.Entry.{cursor_of}
+use Rattle.theory.proofs.Entry.{entry_fits}
+use Rattle.theory.proofs.AtNodes.{AtNode, entered_at}
+use Rattle.theory.specs.NodeEnds.{NodeEnds}
+use Rattle.theory.proofs.NodeEnds.{node_means, node_goes}
+use Rattle.theory.proofs.Theorems as Theorems
 use Rattle.types.specs.Table.{type_widths, type_next}
 use Rattle.ready.specs.Lent.{program_nodes, program_at, Shown}
 use Rattle.ready.specs.Positions.{positions_of}

@@ -32,7 +32,7 @@ use Rattle.common.specs.Checks.{every_all, holds_require, then_passes, holds_eac
 use Rattle.exactness.specs.Nodes.{records_from, hashes_of, layout}
 use Rattle.exactness.proofs.Stream.{Stands, stands_split}
 use Rattle.exactness.proofs.Decoding.{decoded_is_program, program_table}
-use Rattle.theory.specs.Job.{decoded}
+use Rattle.theory.proofs.Job.{decoded}
 use Rattle.common.specs.Bits.{length_within}
 use Rattle.header.proofs.Rules.{passes_all, section_end}
 use Rattle.common.specs.Tables.{length-tabulate}

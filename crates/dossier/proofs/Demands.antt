@@ -44,7 +44,7 @@ use Rattle.theory.specs.Acceptance.{program_with, RulesKept, Acceptable, FromRun
 use Rattle.theory.specs.Entered.{Entered}
 use Rattle.theory.specs.Entry.{cursor_of}
 use Rattle.theory.specs.NodeEnds.{NodeEnds}
-use Rattle.theory.specs.Theorems as Theorems
+use Rattle.theory.proofs.Theorems as Theorems
 use Rattle.bit_machine.proofs.Visits as Visits
 use Rattle.dossier.proofs.Job.{dossier_parts, own_stage, own_tables}
 use Rattle.dossier.proofs.run.Kinds as kinds

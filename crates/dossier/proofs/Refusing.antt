@@ -13,8 +13,8 @@ use Rattle.scope.specs.Program.{Program, whole, whole_source, whole_target}
 use Rattle.scope.specs.Bounds.{whole_cells, whole_frames}
 use Rattle.scope.specs.Machine.{Step, machine}
 use Rattle.scope.specs.Run.{Tables, Ready, check_tables, check_ready, Left, left_with, cells_of, ends, ran, run_tables}
-use Rattle.theory.specs.Refusals as Refusals
-use Rattle.theory.specs.Refusals.{Refuses, OfTables, OfReady, ready_refuses}
+use Rattle.theory.proofs.Refusals as Refusals
+use Rattle.theory.proofs.Refusals.{Refuses, OfTables, OfReady, ready_refuses}
 
 -- while the tables are checked, and after
 abbrev pub Early : Refusal → Type 0

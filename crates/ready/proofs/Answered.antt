@@ -19,7 +19,7 @@ use Rattle.scope.specs.Stores.{check_stores}
 use Rattle.scope.specs.Run.{Tables, program_of, Ready, check_ready}
 use Rattle.scope.specs.Stages.{tables_lent, arrow_stage, hash_stage}
 use Rattle.common.specs.Checks.{clash, then_passes, then_refuses}
-use Rattle.theory.specs.NodeTerms.{cells_alike, frames_alike}
+use Rattle.theory.proofs.NodeTerms.{cells_alike, frames_alike}
 use Rattle.common.specs.declared.Checked.TheVariants.{Passed, Refused}
 use Rattle.stages.proofs.Passed.{hashes_passed}
 use Rattle.analysis.specs.Limits.{bounded_of, counted_bounds}

@@ -20,7 +20,7 @@ use Rattle.scope.specs.Input.{check_input}
 use Rattle.scope.specs.Stores.{check_stores}
 use Rattle.common.specs.Bits.{held_within}
 use Rattle.common.specs.Checks.{clash, both_passed, require_holds}
-use Rattle.theory.specs.Supply.{input_fits}
+use Rattle.theory.proofs.Supply.{input_fits}
 use Rattle.ready.proofs.FirstBits.{in_all_lem}
 
 pub limits_kept : (cells frames cost : ℕ) → check_limits cells frames cost ≡ passed tt → (cells ≤ cell_count) × (frames ≤ frame_count) × (cost ≤ cost_limit)

@@ -35,11 +35,11 @@ use Rattle.exactness.specs.Types.{types_pass}
 use Rattle.exactness.proofs.Arrows.{arrow_typed}
 use Rattle.layout.specs.Mach.{empty}
 use Rattle.layout.specs.Safe.{WholeOk}
-use Rattle.theory.specs.Accepted.{Checked, ready_sound, ready_input}
-use Rattle.theory.specs.LentTables.{lent_checked}
-use Rattle.theory.specs.NodeTerms.{cells_alike, frames_alike, target_alike, source_alike}
-use Rattle.theory.specs.Supply.{witness_fits}
-use Rattle.theory.specs.Theorems.{never_stuck, whole_safe}
+use Rattle.theory.proofs.Accepted.{Checked, ready_sound, ready_input}
+use Rattle.theory.proofs.LentTables.{lent_checked}
+use Rattle.theory.proofs.NodeTerms.{cells_alike, frames_alike, target_alike, source_alike}
+use Rattle.theory.proofs.Supply.{witness_fits}
+use Rattle.theory.proofs.Theorems.{never_stuck, whole_safe}
 use Rattle.common.specs.Nodes.{length_nodes}
 use Rattle.stages.proofs.Passed.{LentPassed, lent_passed, stage_passed, stage_arrows, hashes_passed}
 use Rattle.types.specs.Table.{check_table, type_widths, type_next}

@@ -23,7 +23,7 @@ use Rattle.scope.specs.Stages.{counted, record_rule, check_records, lent_tables,
 use Rattle.common.specs.Checks.{both_passed, require_holds, each_holds}
 use Rattle.common.specs.Bits.{AllBelow, length_within}
 use Rattle.exactness.proofs.Arrows.{arrows_pass}
-use Rattle.theory.specs.Records.{records_below}
+use Rattle.theory.proofs.Records.{records_below}
 use Rattle.common.specs.Nodes.{length_nodes}
 use Rattle.stages.proofs.Lent.{hash_stage_by}
 

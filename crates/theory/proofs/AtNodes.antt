@@ -22,12 +22,14 @@ use Rattle.common.specs.Bits.{AllBelow}
 use Rattle.exactness.specs.Values.{length-padded}
 use Rattle.exactness.specs.NodeTyping.{Goes, Branch, NodeTyped}
 use Rattle.common.specs.Checks.{not_both}
-use Rattle.theory.specs.NodeTerms.{term_step}
-use Rattle.theory.specs.Sound.{Sound, none_hidden_lem, arrow_typed_in, term_typed}
-use Rattle.theory.specs.WholeRuns.{input_does, output_does}
+use Rattle.theory.proofs.NodeTerms.{term_step}
+use Rattle.theory.specs.Sound.{Sound}
+use Rattle.theory.proofs.Sound.{none_hidden_lem, arrow_typed_in, term_typed}
+use Rattle.theory.proofs.WholeRuns.{input_does, output_does}
 use Rattle.theory.specs.Entered.{push, run_node, handed, Entered, last_node, comp_left, comp_right, pair_left, pair_right, in_injl, in_injr, case_left, case_right, in_take, in_drop, disconnect_left, disconnect_right}
-use Rattle.theory.specs.Entry.{Entry, at_cursor}
-use Rattle.theory.specs.Ways.{Beside, same_way, behind_way, tag_way, pair_way, comp_left_lem, comp_right_lem, disconnect_left_lem, disconnect_right_lem}
+use Rattle.theory.specs.Entry.{Entry}
+use Rattle.theory.proofs.Entry.{at_cursor}
+use Rattle.theory.proofs.Ways.{Beside, same_way, behind_way, tag_way, pair_way, comp_left_lem, comp_right_lem, disconnect_left_lem, disconnect_right_lem}
 
 -- node i can be entered in state s: it is a node of the table that is not hidden, and the state is one for its arrow and its bounds
 pub record AtNode (P : Program) (i : ℕ) (s : State) : Type 0 where

@@ -1,5 +1,5 @@
 -- The whole job, from a dossier's bytes: where all checks pass, what is said and what is left in the answer store is told by the meaning of
--- the dossier's program. And the old contents of all five stores change nothing of what is said.
+-- the dossier's program. And the checks look at no more of the five stores than their sizes (what follows of old contents: OldStores).
 use Rattle.std.specs.Prelude.{◌≡◌, List, [], ◌++◌, ℕ, ◌-◌, ◌/◌, ◌^◌, ◌<◌, length}
 use Rattle.std.proofs.Math.Path.{refl, sym, ap, subst}
 use Rattle.std.proofs.Common.{ap₂, ◌∙◌, arith}
@@ -7,7 +7,6 @@ use Rattle.std.proofs.Math.Decide.{dec_lt}
 use Rattle.std.proofs.Math.ListN.{get_or-eq_default}
 use Rattle.limits.specs.Limits.{node_numbers}
 use Rattle.refusal.specs.declared.Refusal.{Refusal}
-use Rattle.refusal.specs.declared.Answer.{Answer}
 use Rattle.refusal.specs.declared.Answer.TheVariants.{Refused}
 use Rattle.report.specs.Bits.{Bit, bytes_of}
 use Rattle.report.specs.Values.{HasTy, compact}
@@ -34,8 +33,9 @@ use Rattle.exactness.proofs.Decoding.{decoded_is_program, decoded_nodes}
 use Rattle.theory.specs.Sound.{Sound}
 use Rattle.theory.specs.Answers.{told, output}
 use Rattle.theory.specs.Programs.{run_of}
-use Rattle.theory.specs.Left.{CellsLeft, output_bytes, written_bytes}
-use Rattle.theory.specs.Accepted.{Checked, ready_sound, ready_input, tables_say, tables_output, tables_frames, tables_cells}
+use Rattle.theory.specs.Left.{CellsLeft, output_bytes}
+use Rattle.theory.proofs.Left.{written_bytes}
+use Rattle.theory.proofs.Accepted.{Checked, ready_sound, ready_input, tables_say, tables_output, tables_frames, tables_cells}
 
 -- nodes that stand above their children, with words of the right length, and that pass the walk
 abbrev pub Stand : List Node → Type 0
@@ -154,57 +154,11 @@ module _ (d nodes nodes' hashes hashes' cells cells' frames frames' answer answe
     (n : length nodes ≡ length nodes') (h : length hashes ≡ length hashes')
     (c : length cells ≡ length cells') (f : length frames ≡ length frames') (a : length answer ≡ length answer') where
   -- the checks look at the sizes alone
-  same_dossier : check_dossier d nodes hashes ≡ check_dossier d nodes' hashes'
+  pub same_dossier : check_dossier d nodes hashes ≡ check_dossier d nodes' hashes'
   unfolding check_dossier
   same_dossier = rw (n, h)
 
   -- also those of the stores
-  same_ready : (T : Tables) → check_ready T cells frames answer ≡ check_ready T cells' frames' answer'
+  pub same_ready : (T : Tables) → check_ready T cells frames answer ≡ check_ready T cells' frames' answer'
   unfolding check_ready check_stores
   same_ready T = rw (c, f, a)
-
-  -- what is said, and the bytes that hold the output
-  abbrev Alike : Type 0
-  Alike =
-      let x = run d nodes hashes cells frames answer in
-      let y = run d nodes' hashes' cells' frames' answer' in
-      (x.says ≡ y.says) × (output_bytes x.says x.answer ≡ output_bytes y.says y.answer)
-
-  alike : Alike
-  unfolding output_bytes
-  alike = go (check_dossier d nodes hashes) refl
-    where
-      -- two refusals for one reason
-      alike_refused : (r : Refusal) → (run d nodes hashes cells frames answer).says ≡ Refused r
-          → (run d nodes' hashes' cells' frames' answer').says ≡ Refused r → Alike
-      alike_refused r p q = (
-        p ∙ sym q,
-        ap (λ (a : Answer). output_bytes a (run d nodes hashes cells frames answer).answer) p
-            ∙ sym (ap (λ (a : Answer). output_bytes a (run d nodes' hashes' cells' frames' answer').answer) q),
-      )
-
-      tables : (t : NodeTable) → check_dossier d nodes hashes ≡ passed t → (x : Check Ready) → check_ready (tables_of d t) cells frames answer ≡ x → Alike
-      tables t e (passed R) p =
-          let e' = sym same_dossier ∙ e in
-          let p' = sym (same_ready (tables_of d t)) ∙ p in (
-            job_says d nodes hashes t e cells frames answer R p ∙ sym (job_says d nodes' hashes' t e' cells' frames' answer' R p'),
-            job_bytes d nodes hashes t e cells frames answer R p ∙ sym (job_bytes d nodes' hashes' t e' cells' frames' answer' R p'),
-          )
-      tables t e (refused r) p =
-          alike_refused r (job_unready d nodes hashes cells frames answer t r e p)
-          (job_unready d nodes' hashes' cells' frames' answer' t r (sym same_dossier ∙ e) (sym (same_ready (tables_of d t)) ∙ p))
-
-      go : (x : Check NodeTable) → check_dossier d nodes hashes ≡ x → Alike
-      go (passed t) e = tables t e (check_ready (tables_of d t) cells frames answer) refl
-      go (refused r) e =
-          alike_refused r (job_refused d nodes hashes cells frames answer r e)
-          (job_refused d nodes' hashes' cells' frames' answer' r (sym same_dossier ∙ e))
-
-  -- OLD CONTENTS OF THE FIVE STORES CHANGE NO OUTPUT, NO REFUSAL AND NO PLACE: nothing that is said
-  pub old_stores : (run d nodes hashes cells frames answer).says ≡ (run d nodes' hashes' cells' frames' answer').says
-  old_stores = alike.0
-
-  -- and no bit of the output
-  pub old_output : output_bytes (run d nodes hashes cells frames answer).says (run d nodes hashes cells frames answer).answer
-      ≡ output_bytes (run d nodes' hashes' cells' frames' answer').says (run d nodes' hashes' cells' frames' answer').answer
-  old_output = alike.1

@@ -9,7 +9,8 @@ use Rattle.scope.specs.Program.{Program, source_ty, target_ty, term_at, whole_so
 use Rattle.scope.specs.Bounds.{whole_cells, whole_frames}
 use Rattle.scope.specs.Machine.{State, Step, state, move_frame, write_bits, skip, copy, fwd}
 use Rattle.common.specs.Checks.{clash}
-use Rattle.theory.specs.BinaryCells.{BitCells, BitsAfter, bits_done, bits_failed, bits_pruned, bits_stuck, padded_bits, after_bind, after_new_frame, after_move_frame, after_write_bits, after_skip, after_copy, after_fwd, exec_bits, input_bits_lem, output_bits}
+use Rattle.theory.specs.BinaryCells.{BitCells, BitsAfter, bits_done, bits_failed, bits_pruned, bits_stuck}
+use Rattle.theory.proofs.BinaryCells.{padded_bits, after_bind, after_new_frame, after_move_frame, after_write_bits, after_skip, after_copy, after_fwd, exec_bits, input_bits_lem, output_bits}
 use Rattle.theory.specs.Entered.{push, run_node, handed, Entered, last_node, comp_left, comp_right, pair_left, pair_right, in_injl, in_injr, case_left, case_right, in_take, in_drop, disconnect_left, disconnect_right}
 
 -- the cells after a step that is done

@@ -13,7 +13,8 @@ use Rattle.scope.specs.Machine.{put_bits, copy_cells}
 use Rattle.scope.specs.Bounds.{bounds}
 use Rattle.exactness.specs.Values.{length-padded}
 use Rattle.theory.specs.Cursors.{on_cells}
-use Rattle.theory.specs.Cells.{Apart, Kept, bits_in, bits_out, copy_in, copy_out, same_value, value_kept, value_bits, value_copy, value_left, value_right, value_written}
+use Rattle.theory.specs.Cells.{Apart, Kept}
+use Rattle.theory.proofs.Cells.{bits_in, bits_out, copy_in, copy_out, same_value, value_kept, value_bits, value_copy, value_left, value_right, value_written}
 
 -- A meaning and a run from the cells c agree: the value is left at `wr`, or both stop, in the same way and place;
 -- and nothing but the write range and x free cells is changed.

@@ -31,12 +31,15 @@ use Rattle.exactness.proofs.Arrows.{arrows_pass}
 use Rattle.exactness.specs.Hidden.{HiddenPlaces}
 use Rattle.exactness.proofs.Places.{places_allowed, places_last}
 use Rattle.exactness.proofs.Canonical.{walk_canonical}
-use Rattle.theory.specs.Supplied.{witness_typed, input_typed}
-use Rattle.theory.specs.Hashes.{hash_typed}
-use Rattle.theory.specs.Sound.{Sound, none_hidden_lem}
+use Rattle.theory.proofs.Supplied.{witness_typed, input_typed}
+use Rattle.theory.proofs.HashTyped.{hash_typed}
+use Rattle.theory.specs.Sound.{Sound}
+use Rattle.theory.proofs.Sound.{none_hidden_lem}
 use Rattle.theory.specs.Programs.{run_of}
-use Rattle.theory.specs.Answers.{told, output, run_says, run_output, run_frames}
-use Rattle.theory.specs.Left.{CellsLeft, run_cells}
+use Rattle.theory.specs.Answers.{told, output}
+use Rattle.theory.proofs.Answers.{run_says, run_output, run_frames}
+use Rattle.theory.specs.Left.{CellsLeft}
+use Rattle.theory.proofs.Left.{run_cells}
 
 -- tables that passed 2 to 13: types, node records, walk, arrows and hashes
 pub record Checked (T : Tables) : Type 0 where

@@ -22,7 +22,7 @@ use Rattle.scope.specs.Witness.{Values, values_from, check_witness}
 use Rattle.scope.specs.Input.{check_input}
 use Rattle.common.specs.Lists.{length_snoc}
 use Rattle.common.specs.Checks.{clash, both_passed}
-use Rattle.theory.specs.Values.{ReadTyped, a_value, too_few, read_typed}
+use Rattle.theory.proofs.Values.{ReadTyped, a_value, too_few, read_typed}
 
 module _ (types : List TypeRecord) (arrows : List Arrow) where
   -- the target of node i

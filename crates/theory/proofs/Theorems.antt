@@ -67,29 +67,41 @@ use Rattle.layout.specs.Join.{join}
 use Rattle.layout.specs.Heights.{Keeps, Leaves, LeftBy, run_keeps, whole_leaves, all_free-empty}
 use Rattle.layout.specs.Whole.{whole_join, done_frees}
 use Rattle.layout.specs.Stores.{cells_lent, cells_left}
-use Rattle.theory.specs.Safety.{Good, safe}
-use Rattle.theory.specs.Denotation.{El, plain, plainly, den, eval-den}
-use Rattle.theory.specs.Visits.{visits_bound}
+use Rattle.theory.specs.Safety.{Good}
+use Rattle.theory.proofs.Safety.{safe}
+use Rattle.theory.specs.Denotation.{El, plain, plainly, den}
+use Rattle.theory.proofs.Denotation.{eval-den}
+use Rattle.theory.proofs.Visits.{visits_bound}
 use Rattle.theory.specs.Cells.{Apart}
 use Rattle.theory.specs.Instructions.{At}
-use Rattle.theory.specs.Correct.{Ends, end_at, exec_within, ends_as}
+use Rattle.theory.specs.Correct.{Ends, end_at}
+use Rattle.theory.proofs.Correct.{exec_within, ends_as}
 use Rattle.theory.specs.WholeRuns.{Ran}
-use Rattle.theory.specs.NodeTerms.{term_step, bounds_alike}
-use Rattle.theory.specs.Sound.{Sound, term_typed}
-use Rattle.theory.specs.Programs as Programs
+use Rattle.theory.proofs.NodeTerms.{term_step, bounds_alike}
+use Rattle.theory.specs.Sound.{Sound}
+use Rattle.theory.proofs.Sound.{term_typed}
+use Rattle.theory.specs.Programs.{run_of, answer_of}
+use Rattle.theory.proofs.Programs as Programs
 use Rattle.theory.specs.Entered.{Entered}
-use Rattle.theory.specs.Entry.{cursor_of, Stacked, read_below, write_below, read_apart}
-use Rattle.theory.specs.AtNodes.{entered_at}
-use Rattle.theory.specs.NodeEnds.{NodeEnds, node_means}
-use Rattle.theory.specs.Stops.{StopsIn, run_stops}
-use Rattle.theory.specs.EnteredBits.{entered_bits}
+use Rattle.theory.specs.Entry.{cursor_of, Stacked}
+use Rattle.theory.proofs.Entry.{read_below, write_below, read_apart}
+use Rattle.theory.proofs.AtNodes.{entered_at}
+use Rattle.theory.specs.NodeEnds.{NodeEnds}
+use Rattle.theory.proofs.NodeEnds.{node_means}
+use Rattle.theory.specs.Stops.{StopsIn}
+use Rattle.theory.proofs.Stops.{run_stops}
+use Rattle.theory.proofs.EnteredBits.{entered_bits}
 use Rattle.theory.specs.Answers.{told, output}
 use Rattle.theory.specs.Left.{CellsLeft, output_bytes}
-use Rattle.theory.specs.Job as Job
-use Rattle.theory.specs.Supply.{HeaderFits, header_fits, fits_header, HashesFit, hashes_fit, fit_hashes, LimitsFit, limits_fit, fit_limits, WitnessFits, witness_fits, fits_witness, InputFits, input_fits, fits_input, StoresFit, stores_fit, fit_stores}
-use Rattle.theory.specs.Acceptance.{program_with, RulesKept, Acceptable, FromRun, kept_says, kept_output, kept_runs, run_kept}
-use Rattle.theory.specs.LentTables.{stage_says}
-use Rattle.theory.specs.BinaryCells.{BitCells, BitsAfter, exec_bits}
+use Rattle.theory.proofs.Job as Job
+use Rattle.theory.proofs.OldStores.{old_stores, old_output}
+use Rattle.theory.specs.Supply.{HeaderFits, HashesFit, LimitsFit, WitnessFits, InputFits, StoresFit}
+use Rattle.theory.proofs.Supply.{header_fits, fits_header, hashes_fit, fit_hashes, limits_fit, fit_limits, witness_fits, fits_witness, input_fits, fits_input, stores_fit, fit_stores}
+use Rattle.theory.specs.Acceptance.{program_with, RulesKept, Acceptable, FromRun}
+use Rattle.theory.proofs.Acceptance.{kept_says, kept_output, kept_runs, run_kept}
+use Rattle.theory.proofs.LentTables.{stage_says}
+use Rattle.theory.specs.BinaryCells.{BitCells, BitsAfter}
+use Rattle.theory.proofs.BinaryCells.{exec_bits}
 
 -- MEANING. A typed term on a value of its source gives a value of its target, fails or is pruned; it is never stuck.
 pub type_safety : {t : Term} {A B : Ty} → Typed t A B → (v : Val) → HasTy v A → Good B (eval t v)
@@ -150,22 +162,22 @@ module _ (P : Program) (ok : Sound P) (v : Val) (hv : HasTy v (whole_source P)) 
 
   -- It answers the program's meaning: the output's value, or the place of the fail node (18) or the pruned branch (19) where it stops.
   pub answer_is_meaning : (c : Cells) → answer (whole_source P) (whole_target P) (runs c) ≡ eval (whole P) v
-  unfolding Programs.answer_of Programs.run_of
+  unfolding answer_of run_of
   answer_is_meaning c = Programs.run_means P ok v hv c
 
   -- It is never stuck.
   pub never_stuck : (c : Cells) → runs c ≡ stuck → ⊥
-  unfolding Programs.run_of
+  unfolding run_of
   never_stuck c = Programs.never_stuck P ok v hv c
 
   -- Old cells change no output, no refusal and no place.
   pub old_cells_change_nothing : (c d : Cells) → answer (whole_source P) (whole_target P) (runs c) ≡ answer (whole_source P) (whole_target P) (runs d)
-  unfolding Programs.answer_of Programs.run_of
+  unfolding answer_of run_of
   old_cells_change_nothing c d = Programs.old_cells P ok v hv c d
 
   -- It ends as the meaning does, and every cell at or past the bound keeps its old bit.
   pub cells_past_the_bound_kept : (c : Cells) → Ran (whole_target P) (width (whole_source P)) (whole_cells P) c (eval (whole P) v) (runs c)
-  unfolding Programs.run_of
+  unfolding run_of
   cells_past_the_bound_kept c = Programs.run_ends P ok v hv c
 
   -- The meaning is a value of the target, or stops at a fail node or a pruned branch.
@@ -209,7 +221,7 @@ module _ (P : Program) (ok : Sound P) (v : Val) (hv : HasTy v (whole_source P)) 
 -- A run that stops has entered the node at which it stops, and its last state is the one in which it entered that node.
 pub stops_where_entered : (P : Program) → Sound P → (v : Val) → HasTy v (whole_source P) → (c : Cells)
     → StopsIn (Entered P v c) (machine (whole_cells P) (whole_frames P) (whole P) (whole_source P) (whole_target P) v c)
-unfolding Programs.run_of
+unfolding run_of
 stops_where_entered P ok v hv c = run_stops P ok v hv c
 
 -- THE JOB. A dossier that passes the checks 1 to 13 with stores of these sizes, and whose values and stores pass 14 to 17, holds a sound
@@ -236,7 +248,7 @@ module _ (d nodes hashes cells frames answer : List ℕ) (t : NodeTable) (R : Re
   pub job_leaves_cells : CellsLeft (machine (whole_cells R.program) (whole_frames R.program) (whole R.program)
       (whole_source R.program) (whole_target R.program) R.input (cells_of cells))
       (whole_cells R.program) cells (run d nodes hashes cells frames answer).cells
-  unfolding Programs.run_of
+  unfolding run_of
   job_leaves_cells = Job.job_cells d nodes hashes t e cells frames answer R p
 
 -- Of any dossier: it keeps the rules, that is, it holds the report's code of a table in canonical order, types and hashes by their rules,
@@ -260,7 +272,7 @@ pub old_stores_change_nothing : (d nodes nodes' hashes hashes' cells cells' fram
     → length nodes ≡ length nodes' → length hashes ≡ length hashes' → length cells ≡ length cells' → length frames ≡ length frames'
     → length answer ≡ length answer'
     → (run d nodes hashes cells frames answer).says ≡ (run d nodes' hashes' cells' frames' answer').says
-old_stores_change_nothing = Job.old_stores
+old_stores_change_nothing = old_stores
 
 -- And no bit of an output: the bytes that hold it are the same.
 pub old_stores_change_no_bit : (d nodes nodes' hashes hashes' cells cells' frames frames' answer answer' : List ℕ)
@@ -268,7 +280,7 @@ pub old_stores_change_no_bit : (d nodes nodes' hashes hashes' cells cells' frame
     → length answer ≡ length answer'
     → output_bytes (run d nodes hashes cells frames answer).says (run d nodes hashes cells frames answer).answer
     ≡ output_bytes (run d nodes' hashes' cells' frames' answer').says (run d nodes' hashes' cells' frames' answer').answer
-old_stores_change_no_bit = Job.old_output
+old_stores_change_no_bit = old_output
 
 -- THE RUN OVER LENT TABLES that pass their checks says what the program of the tables means.
 pub stage_says_meaning : (types nodes arrows program hashes given witness : List ℕ) (witness_bits : ℕ) (input : List ℕ) (input_bits : ℕ)

@@ -23,9 +23,9 @@ use Rattle.scope.specs.Stages.{counted, record_rule, check_records, lent_tables,
 use Rattle.common.specs.Checks.{every_all, both_passed, require_holds, each_holds}
 use Rattle.common.specs.Bits.{length_within}
 use Rattle.common.specs.Nodes.{length_nodes}
-use Rattle.theory.specs.Records.{records_below, records_word}
+use Rattle.theory.proofs.Records.{records_below, records_word}
 use Rattle.theory.specs.Answers.{told, output}
-use Rattle.theory.specs.Accepted.{Checked, tables_say, tables_output}
+use Rattle.theory.proofs.Accepted.{Checked, tables_say, tables_output}
 
 module _ (types nodes arrows program hashes given witness : List ℕ) (witness_bits : ℕ) (input : List ℕ) (input_bits : ℕ)
     (e : hash_stage types nodes arrows program hashes given ≡ passed tt) where

@@ -14,8 +14,10 @@ use Rattle.report.specs.Typing.{Typed}
 use Rattle.report.specs.Meaning.{done, ◌>>=◌}
 use Rattle.scope.specs.Machine.{Frame, frame_from, State, Step, state, forward, reset, put_bits, copy_cells, new_frame, move_frame, write_bits, skip, copy, fwd, exec}
 use Rattle.scope.specs.Bounds.{Bound, bounds}
-use Rattle.theory.specs.Instructions.{At, advance, at_less, at_advance, advance-advance, length-advance, new_frame_does, write_bits_does, skip_does, copy_does, fwd_does, value_does}
-use Rattle.theory.specs.Entry.{Entry, cursor_of, at_cursor, stacked_push, stacked_move, stacked_writes, stacked_reads, ran}
+use Rattle.theory.specs.Instructions.{At, advance}
+use Rattle.theory.proofs.Instructions.{at_less, at_advance, advance-advance, length-advance, new_frame_does, write_bits_does, skip_does, copy_does, fwd_does, value_does}
+use Rattle.theory.specs.Entry.{Entry, cursor_of}
+use Rattle.theory.proofs.Entry.{at_cursor, stacked_push, stacked_move, stacked_writes, stacked_reads, ran}
 
 -- a child with bounds x, beside m cells and k frames, keeps within the bounds z
 pub record Beside (m k : ℕ) (x z : Bound) : Type 0 where
