@@ -9,7 +9,8 @@ use Rattle.scope.specs.Machine.{forward}
 use Rattle.common.specs.Cells.{bits_from}
 use Rattle.cells.proofs.Parts.{bits_within}
 use Rattle.layout.specs.Mach.{Mach, mach, active_write}
-use Rattle.layout.specs.Rules.{bits_written, write_moved, bits_written_some}
+use Rattle.layout.specs.Rules.{bits_written, write_moved}
+use Rattle.layout.proofs.Rules.{bits_written_some}
 
 -- n bits of a list from bit p on, put at a place
 pub put_within : (l bits : List ℕ) (at p n : ℕ) → p + n ≤ length bits → sets l at (bits_from bits p n) ≡ sets l at (take n (drop p bits))

@@ -10,7 +10,8 @@ use Rattle.scope.specs.Program.{Program, term_at}
 use Rattle.common.specs.Bits.{AllBelow}
 use Rattle.layout.specs.Mach.{Mach}
 use Rattle.layout.specs.Rules.{backed}
-use Rattle.layout.specs.Exec.{Outcome, Around, first_of, second_of, third_of, run_term, NotDone, stop_stays, done_goes_on, left_stops, right_stops, both_done}
+use Rattle.layout.specs.Exec.{Outcome, Around, first_of, second_of, third_of, run_term, NotDone}
+use Rattle.layout.proofs.Exec.{stop_stays, done_goes_on, left_stops, right_stops, both_done}
 use Rattle.layout.specs.Safe.{Safe}
 use Rattle.bit_machine.specs.Machine.{machine_of}
 use Rattle.bit_machine.specs.Engine.{out_of, OneOk, Planned}

@@ -12,7 +12,8 @@ use Rattle.layout.specs.Mach.{Mach, mach}
 use Rattle.layout.specs.Rules.{pushed, moved, dropped, copied, forwarded}
 use Rattle.layout.specs.Exec.{first_of, second_of, third_of}
 use Rattle.common.specs.Bits.{length_bits}
-use Rattle.layout.specs.Safe.{Fed, PushOk, MoveOk, DropOk, WriteOk, ReadOk, BackOk, CopyOk, FirstOk, SecondOk, ThirdOk, push_over, move_over, drop_over, write_over, read_over, back_over}
+use Rattle.layout.specs.Safe.{Fed, PushOk, MoveOk, DropOk, WriteOk, ReadOk, BackOk, CopyOk, FirstOk, SecondOk, ThirdOk}
+use Rattle.layout.proofs.Safe.{push_over, move_over, drop_over, write_over, read_over, back_over}
 use Rattle.bit_machine.specs.Machine.{machine_of, Within}
 use Rattle.bit_machine.specs.declared.Heights.{Heights}
 use Rattle.bit_machine.specs.Engine.{around_of, handed}

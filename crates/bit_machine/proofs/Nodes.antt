@@ -19,8 +19,10 @@ use Rattle.scope.specs.Program.{Program, source_ty, target_ty, value_from, case_
 use Rattle.common.specs.Bits.{AllBelow}
 use Rattle.theory.proofs.NodeTerms.{term_step}
 use Rattle.layout.specs.Mach.{Mach}
-use Rattle.layout.specs.Rules.{bit_written, bits_written, skipped, copied, forwarded, peeked, forwarded_zero}
-use Rattle.layout.specs.Exec.{Outcome, Around, pairing, composing, disconnecting, around, returning, under, tagged, run_term, run_case_left, run_case_right, run_assertl_left, run_assertl_right, run_assertr_left, run_assertr_right}
+use Rattle.layout.specs.Rules.{bit_written, bits_written, skipped, copied, forwarded, peeked}
+use Rattle.layout.proofs.Rules.{forwarded_zero}
+use Rattle.layout.specs.Exec.{Outcome, Around, pairing, composing, disconnecting, around, returning, under, tagged, run_term}
+use Rattle.layout.proofs.Exec.{run_case_left, run_case_right, run_assertl_left, run_assertl_right, run_assertr_left, run_assertr_right}
 use Rattle.layout.specs.Safe.{WriteOk, ReadOk, CopyOk, ReturnOk, UnderOk, TagOk, AroundOk, Safe}
 use Rattle.bit_machine.specs.Engine.{OneOk}
 

@@ -24,7 +24,8 @@ use Rattle.scope.specs.Bounds.{whole_cells, whole_frames}
 use Rattle.scope.specs.Machine.{State, Step, exec}
 use Rattle.scope.specs.Run.{Ready, check_ready, cells_of}
 use Rattle.scope.specs.Stages.{tables_lent, hash_stage}
-use Rattle.layout.specs.Mach.{Mach, records_of, length-records_of}
+use Rattle.layout.specs.Mach.{Mach, records_of}
+use Rattle.layout.proofs.Mach.{length-records_of}
 use Rattle.layout.specs.Exec.{Outcome, run_term}
 use Rattle.common.specs.Bits.{length_bits}
 use Rattle.layout.specs.Safe.{Safe}

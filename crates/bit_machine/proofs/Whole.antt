@@ -15,7 +15,8 @@ use Rattle.scope.specs.Program.{Program, value_from, source_ty, target_ty, term_
 use Rattle.scope.specs.Run.{program_of}
 use Rattle.scope.specs.Stages.{tables_lent}
 use Rattle.scope.specs.Machine.{Frame}
-use Rattle.layout.specs.Mach.{Mach, mach, empty, records_of, records_zero}
+use Rattle.layout.specs.Mach.{Mach, mach, empty, records_of}
+use Rattle.layout.proofs.Mach.{records_zero}
 use Rattle.layout.specs.Rules.{pushed, moved, bits_written}
 use Rattle.layout.specs.Exec.{run_term, with_input, with_output, run_whole}
 use Rattle.layout.specs.Safe.{PushOk, MoveOk, WriteOk, InputOk}

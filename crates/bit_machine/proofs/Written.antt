@@ -27,7 +27,8 @@ use Rattle.value.proofs.Types.{read_fit}
 use Rattle.value.proofs.Sound.{padded_to, pad_is}
 use Rattle.common.specs.Bits.{length_bits}
 use Rattle.layout.specs.Mach.{Mach, mach, active_write}
-use Rattle.layout.specs.Rules.{bits_written, skipped, write_moved, bits_written_some, skipped_some}
+use Rattle.layout.specs.Rules.{bits_written, skipped, write_moved}
+use Rattle.layout.proofs.Rules.{bits_written_some, skipped_some}
 use Rattle.layout.specs.Safe.{WriteOk}
 use Rattle.ready.specs.Lent.{Reads, TypesShown}
 use Rattle.ready.proofs.Ends.{width_shown}

@@ -9,7 +9,8 @@ use lib.Seq.{drop-cons, take-add, drop-drop, set_out, sets, sets-eq}
 use Rattle.limits.specs.Limits.{frame_numbers}
 use Rattle.scope.specs.Numbers.{tabulate_from}
 use Rattle.scope.specs.Machine.{Frame, frame_at, frame_numbers_of, frame_back}
-use Rattle.layout.specs.Mach.{no_frame, first_records, records_of, length-records_of, record_get}
+use Rattle.layout.specs.Mach.{no_frame, first_records, records_of}
+use Rattle.layout.proofs.Mach.{length-records_of, record_get}
 use Rattle.frame.specs.Store.{with_records}
 
 pub record_in : (ns : List ℕ) (k : ℕ) → k < length ns / frame_numbers → frame_at ns (frame_numbers * k) ≡ get_or (records_of ns) k no_frame

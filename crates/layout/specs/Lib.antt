@@ -5,9 +5,6 @@ pub mod Safe
 pub mod Layout
 pub mod Follow
 pub mod Match
-pub mod Children
-pub mod Join
 pub mod Heights
-pub mod Whole
 pub mod Stores
 pub mod Examples

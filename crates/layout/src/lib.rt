@@ -1,2 +1,2 @@
-// The machine over lent stores stands in specs/; this crate has no code.
+// The machine over lent stores stands in specs/ and its laws in proofs/; this crate has no code.
 #![tactic(auto)]

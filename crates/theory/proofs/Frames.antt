@@ -10,7 +10,7 @@ use Rattle.report.specs.Typing.{Typed, of_iden, of_comp, of_unit, of_injl, of_in
 use Rattle.report.specs.Meaning.{Out, done, failed, pruned, stuck, ◌>>=◌}
 use Rattle.scope.specs.Machine.{Frame, frame_from, State, state, forward, reset, put_bits, copy_cells, move_frame, write_bits, skip, fwd, back, exec}
 use Rattle.scope.specs.Bounds.{bounds}
-use Rattle.layout.specs.Match.{bind-bind}
+use Rattle.layout.proofs.Match.{bind-bind}
 use Rattle.theory.specs.Cursors.{on_cells}
 use Rattle.theory.specs.Instructions.{At, advance}
 use Rattle.theory.proofs.Instructions.{advance_none, advance-advance, length-advance, at_less, at_advance, new_frame_does, write_bits_does, skip_does, copy_does, fwd_does, back_does, peek_does, drop_frame_does, value_does}

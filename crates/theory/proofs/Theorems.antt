@@ -63,9 +63,10 @@ use Rattle.layout.specs.Safe.{Safe, WholeOk}
 use Rattle.layout.specs.Layout.{layout}
 use Rattle.layout.specs.Follow as Follow
 use Rattle.layout.specs.Match as Match
-use Rattle.layout.specs.Join.{join}
-use Rattle.layout.specs.Heights.{Keeps, Leaves, LeftBy, run_keeps, whole_leaves, all_free-empty}
-use Rattle.layout.specs.Whole.{whole_join, done_frees}
+use Rattle.layout.proofs.Join.{join}
+use Rattle.layout.specs.Heights.{Keeps, Leaves, LeftBy}
+use Rattle.layout.proofs.Heights.{run_keeps, whole_leaves, all_free-empty}
+use Rattle.layout.proofs.Whole.{whole_join, done_frees}
 use Rattle.layout.specs.Stores.{cells_lent, cells_left}
 use Rattle.theory.specs.Safety.{Good}
 use Rattle.theory.proofs.Safety.{safe}

@@ -5,7 +5,7 @@ use Rattle.report.specs.Bits.{bits_of}
 use Rattle.scope.specs.Nodes.{node_records, nodes_of}
 use Rattle.scope.specs.Hashes.{branch_hash}
 use Rattle.layout.specs.Exec.{run_term}
-use Rattle.layout.specs.Safe.{back_over}
+use Rattle.layout.proofs.Safe.{back_over}
 use Rattle.table.specs.Answers.{record_of}
 use Rattle.bit_machine.proofs.ByKind
 use Rattle.bit_machine.proofs.Needs.{within_fed, within_kept, second_any, third_any}

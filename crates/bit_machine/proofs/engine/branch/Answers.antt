@@ -4,7 +4,7 @@ use mathlib.Core.List.{[]}
 use Rattle.bit_machine.proofs.ByKind
 use Rattle.table.specs.Answers.{record_of}
 use Rattle.scope.specs.Nodes.{NodeRecord}
-use Rattle.layout.specs.Safe.{read_over, fed_bits}
+use Rattle.layout.proofs.Safe.{read_over, fed_bits}
 use Rattle.bit_machine.proofs.Needs.{within_fed}
 use Rattle.lookup.specs.declared.Padding.{Padding}
 use Rattle.bit_machine.proofs.engine.branch.Goals as goal

@@ -1,7 +1,7 @@
 use native.Mathlib.Omega.{arith}
 use mathlib.Core.Path.{sym, ◌∙◌}
 use mathlib.Core.List.{[]}
-use Rattle.layout.specs.Safe.{push_over, fed_bits}
+use Rattle.layout.proofs.Safe.{push_over, fed_bits}
 use Rattle.bit_machine.proofs.Needs.{first_needs, first_pair, first_comp, first_disconnect}
 use Rattle.bit_machine.proofs.engine.first.Goals as goal
 

@@ -1,7 +1,7 @@
 use native.Mathlib.Omega.{arith}
 use mathlib.Core.Path.{refl, ap, ◌∙◌}
 use mathlib.Core.List.{[]}
-use Rattle.layout.specs.Safe.{push_over, fed_kept, fed_bits}
+use Rattle.layout.proofs.Safe.{push_over, fed_kept, fed_bits}
 use Rattle.layout.specs.Rules.{pushed, moved, copied, bits_written}
 use Rattle.bit_machine.proofs.Needs.{hash_size, hash_pushed, hash_fits, write_as, copy_as, bits_kept, move_need, push_need}
 use Rattle.bit_machine.proofs.engine.hand.Goals as goal

@@ -1,6 +1,6 @@
 use mathlib.Core.Path.{refl, sym, ap, ◌∙◌}
 use mathlib.Core.List.{[]}
-use Rattle.layout.specs.Safe.{move_over, fed_kept, fed_bits}
+use Rattle.layout.proofs.Safe.{move_over, fed_kept, fed_bits}
 use Rattle.layout.specs.Rules.{copied, forwarded}
 use Rattle.bit_machine.proofs.Needs.{second_needs, second_pair, second_comp, second_disconnect, copy_as, read_need}
 use Rattle.bit_machine.proofs.engine.second.Goals as goal

@@ -2,7 +2,7 @@
 use native.Mathlib.Omega.{arith}
 use mathlib.Core.Path.{sym, ap, ◌∙◌}
 use Rattle.scope.specs.Machine.{backward}
-use Rattle.layout.specs.Rules.{backed_zero, backed_some}
+use Rattle.layout.proofs.Rules.{backed_zero, backed_some}
 use Rattle.bit_machine.proofs.Frames.{stored}
 use Rattle.bit_machine.proofs.rules.back.Goals as goal
 

@@ -1,8 +1,8 @@
 -- `bit_machine::rules::copy` meets its contract.
 use native.Mathlib.Omega.{arith}
 use mathlib.Core.Path.{sym, ap}
-use Rattle.layout.specs.Safe.{fed_bits}
-use Rattle.layout.specs.Rules.{copied_zero, copied_some}
+use Rattle.layout.proofs.Safe.{fed_bits}
+use Rattle.layout.proofs.Rules.{copied_zero, copied_some}
 use Rattle.bit_machine.proofs.rules.copy.Goals as goal
 
 pub returns-then-n-eq0 : goal.returns-then-n-eq0

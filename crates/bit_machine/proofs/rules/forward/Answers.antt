@@ -1,7 +1,7 @@
 -- `bit_machine::rules::forward` meets its contract.
 use native.Mathlib.Omega.{arith}
 use mathlib.Core.Path.{sym, ap}
-use Rattle.layout.specs.Rules.{forwarded_zero, forwarded_some}
+use Rattle.layout.proofs.Rules.{forwarded_zero, forwarded_some}
 use Rattle.bit_machine.proofs.rules.forward.Goals as goal
 
 pub returns-then-n-eq0 : goal.returns-then-n-eq0

@@ -1,7 +1,7 @@
 -- `bit_machine::rules::move_to_read` meets its contract.
 use native.Mathlib.Omega.{arith}
 use Rattle.layout.specs.Rules.{moved}
-use Rattle.layout.specs.Mach.{length-records_of}
+use Rattle.layout.proofs.Mach.{length-records_of}
 use Rattle.bit_machine.proofs.Frames.{stored}
 use Rattle.bit_machine.proofs.rules.move_to_read.Goals as goal
 

@@ -1,5 +1,5 @@
 use Rattle.layout.specs.Rules.{pushed}
-use Rattle.layout.specs.Mach.{length-records_of}
+use Rattle.layout.proofs.Mach.{length-records_of}
 use Rattle.bit_machine.proofs.Frames.{stored}
 use native.Mathlib.Omega.{arith}
 use Rattle.bit_machine.proofs.rules.new_write_frame.Goals as goal

@@ -1,5 +1,5 @@
 use mathlib.Core.Path.{sym}
-use Rattle.layout.specs.Mach.{length-records_of}
+use Rattle.layout.proofs.Mach.{length-records_of}
 use Rattle.bit_machine.proofs.rules.records.Goals as goal
 
 pub returns : goal.returns

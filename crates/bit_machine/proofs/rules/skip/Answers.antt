@@ -1,7 +1,7 @@
 -- `bit_machine::rules::skip` meets its contract.
 use native.Mathlib.Omega.{arith}
 use mathlib.Core.Path.{sym, ap}
-use Rattle.layout.specs.Rules.{skipped_zero, skipped_some}
+use Rattle.layout.proofs.Rules.{skipped_zero, skipped_some}
 use Rattle.bit_machine.proofs.rules.skip.Goals as goal
 
 pub returns-then-n-eq0 : goal.returns-then-n-eq0

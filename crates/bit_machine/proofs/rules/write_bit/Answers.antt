@@ -2,7 +2,7 @@
 use native.Mathlib.Omega.{arith}
 use mathlib.Core.Path.{◌≡◌, ap}
 use Prim.Native.Nat.{◌%◌}
-use Rattle.layout.specs.Safe.{fed_bits}
+use Rattle.layout.proofs.Safe.{fed_bits}
 use Rattle.layout.specs.Rules.{bit_written}
 use Rattle.bit_machine.proofs.rules.write_bit.Goals as goal
 

@@ -2,7 +2,7 @@
 use native.Mathlib.Omega.{arith}
 use mathlib.Core.Path.{sym, ap, ◌∙◌}
 use Rattle.report.specs.Bits.{bits_of}
-use Rattle.layout.specs.Safe.{fed_bits}
+use Rattle.layout.proofs.Safe.{fed_bits}
 use Rattle.bit_machine.proofs.Bits.{none_written, some_written, put_within}
 use Rattle.bit_machine.proofs.rules.write_bits.Goals as goal
 

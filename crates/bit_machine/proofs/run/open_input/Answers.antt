@@ -1,6 +1,6 @@
 use Rattle.bit_machine.proofs.Whole.{no_input, open_push, open_write, open_move, opened_is}
 use Rattle.bit_machine.proofs.Needs.{within_fed, within_kept}
-use Rattle.layout.specs.Safe.{push_over, move_over, fed_bits}
+use Rattle.layout.proofs.Safe.{push_over, move_over, fed_bits}
 use Rattle.bit_machine.proofs.Written.{value_long}
 use mathlib.Core.List.{[]}
 use mathlib.Core.Path.{refl, sym, ◌∙◌}

@@ -1,7 +1,7 @@
 use Rattle.bit_machine.proofs.Whole as Whole
 use Rattle.bit_machine.proofs.Cycle.{safe_as}
 use Rattle.bit_machine.proofs.Needs.{within_fed, within_kept, push_need}
-use Rattle.layout.specs.Safe.{fed_bits}
+use Rattle.layout.proofs.Safe.{fed_bits}
 use Rattle.layout.specs.Exec.{with_input, with_output}
 use Rattle.scope.specs.Numbers.{zeros}
 use Rattle.common.specs.Stores.{all_cleared}

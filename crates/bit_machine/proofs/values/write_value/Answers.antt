@@ -2,7 +2,7 @@ use native.Mathlib.Omega.{arith}
 use mathlib.Core.Path.{sym, ◌∙◌}
 use mathlib.Core.List.{[]}
 use Rattle.common.specs.Bits.{length_bits}
-use Rattle.layout.specs.Safe.{write_over, fed_bits}
+use Rattle.layout.proofs.Safe.{write_over, fed_bits}
 use Rattle.scope.specs.Numbers.{stream_of}
 use Rattle.bit_machine.proofs.Needs.{within_fed}
 use Rattle.bit_machine.proofs.Written.{value_none, value_written}

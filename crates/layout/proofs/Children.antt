@@ -12,8 +12,9 @@ use Rattle.layout.specs.Rules.{pushed, moved, dropped, bits_written, copied, for
 use Rattle.layout.specs.Exec.{Around, pairing, composing, disconnecting, first_of, second_of, third_of}
 use Rattle.layout.specs.Safe.{PushOk, MoveOk, DropOk, WriteOk, ReadOk, CopyOk, FirstOk, SecondOk, ThirdOk}
 use Rattle.layout.specs.Layout.{layout}
-use Rattle.layout.specs.Follow.{Follows, Rule, push_follows, move_follows, drop_follows, write_follows, forward_follows, copy_follows}
-use Rattle.layout.specs.Match.{bind-bind, needing, capped, nothing_follows, then_follows}
+use Rattle.layout.specs.Follow.{Follows}
+use Rattle.layout.proofs.Follow.{Rule, push_follows, move_follows, drop_follows, write_follows, forward_follows, copy_follows}
+use Rattle.layout.proofs.Match.{bind-bind, needing, capped, nothing_follows, then_follows}
 
 module _ (lent size most : ℕ) (le : size ≤ lent) where
   -- F, S and T are done before, between and after the children of kind k

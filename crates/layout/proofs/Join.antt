@@ -14,12 +14,15 @@ use Rattle.scope.specs.Numbers.{tabulate}
 use Rattle.scope.specs.Machine.{State, Step, new_frame, move_frame, drop_frame, write_bits, skip, fwd, back, peek, exec}
 use Rattle.layout.specs.Mach.{Mach}
 use Rattle.layout.specs.Rules.{bit_written, skipped, forwarded, backed, peeked}
-use Rattle.layout.specs.Exec.{Outcome, Around, pairing, composing, disconnecting, first_of, second_of, third_of, around, returning, under, tagged, run_term, returning_none}
+use Rattle.layout.specs.Exec.{Outcome, Around, pairing, composing, disconnecting, first_of, second_of, third_of, around, returning, under, tagged, run_term}
+use Rattle.layout.proofs.Exec.{returning_none}
 use Rattle.layout.specs.Safe.{WriteOk, ReadOk, BackOk, CopyOk, ThirdOk, ReturnOk, UnderOk, TagOk, AfterLeft, AroundOk, Safe}
 use Rattle.layout.specs.Layout.{layout}
-use Rattle.layout.specs.Follow.{Goes, Fits, Follows, write_follows, skip_follows, forward_follows, back_follows, copy_follows, bit_follows, peek_follows}
-use Rattle.layout.specs.Children.{Surrounds, pair_surrounds, comp_surrounds, hand, keep, close, disconnect_surrounds, disconnect_form}
-use Rattle.layout.specs.Match.{capped, laid_out, Matches, goes_first, goes_then, bind_done, matches_done, matches_here, matches_rule, matches_after, matches_then}
+use Rattle.layout.specs.Follow.{Goes, Fits, Follows}
+use Rattle.layout.proofs.Follow.{write_follows, skip_follows, forward_follows, back_follows, copy_follows, bit_follows, peek_follows}
+use Rattle.layout.proofs.Children.{Surrounds, pair_surrounds, comp_surrounds, hand, keep, close, disconnect_surrounds, disconnect_form}
+use Rattle.layout.specs.Match.{laid_out, Matches}
+use Rattle.layout.proofs.Match.{capped, goes_first, goes_then, bind_done, matches_done, matches_here, matches_rule, matches_after, matches_then}
 
 module _ (lent size most : ℕ) (le : size ≤ lent) where
   -- the run of a term at a state, in both machines

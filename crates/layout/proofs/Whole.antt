@@ -14,15 +14,19 @@ use Rattle.report.specs.Terms.{Term}
 use Rattle.report.specs.Meaning.{done, ◌>>=◌}
 use Rattle.scope.specs.Numbers.{tabulate}
 use Rattle.scope.specs.Machine.{Frame, State, Step, new_frame, move_frame, write_bits, exec, input, output, machine}
-use Rattle.layout.specs.Mach.{Mach, mach_eq, no_frame, empty}
+use Rattle.layout.specs.Mach.{Mach, no_frame, empty}
+use Rattle.layout.proofs.Mach.{mach_eq}
 use Rattle.layout.specs.Rules.{pushed, moved, bits_written}
 use Rattle.layout.specs.Exec.{run_term, with_input, with_output, run_whole}
 use Rattle.layout.specs.Safe.{PushOk, MoveOk, WriteOk, InputOk, WholeOk, Safe}
 use Rattle.layout.specs.Layout.{state_of, arranged, layout, arranged_none, arranged_free}
-use Rattle.layout.specs.Follow.{Goes, Fits, Follows, Rule, push_follows, move_follows, write_follows}
-use Rattle.layout.specs.Match.{capped, needing, Matches, goes_first, goes_then, matches_after, matches_done, nothing_follows, then_follows}
-use Rattle.layout.specs.Join.{join}
-use Rattle.layout.specs.Heights.{Leaves, DoneBy, whole_leaves}
+use Rattle.layout.specs.Follow.{Goes, Fits, Follows}
+use Rattle.layout.proofs.Follow.{Rule, push_follows, move_follows, write_follows}
+use Rattle.layout.specs.Match.{Matches}
+use Rattle.layout.proofs.Match.{capped, needing, goes_first, goes_then, matches_after, matches_done, nothing_follows, then_follows}
+use Rattle.layout.proofs.Join.{join}
+use Rattle.layout.specs.Heights.{Leaves, DoneBy}
+use Rattle.layout.proofs.Heights.{whole_leaves}
 
 -- the state with no frame lies in a machine with no frame
 pub empty-layout : (lent most : ℕ) (c : Cells) → layout lent most (state_of c [] [] 0) ≡ empty (tabulate lent c) most

@@ -1,0 +1,10 @@
+pub mod Mach
+pub mod Rules
+pub mod Exec
+pub mod Safe
+pub mod Follow
+pub mod Match
+pub mod Children
+pub mod Join
+pub mod Heights
+pub mod Whole
