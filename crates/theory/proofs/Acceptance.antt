@@ -1,6 +1,5 @@
--- Which dossiers are run: just those that hold the report's code of a table in canonical order, types and hashes that keep their rules,
--- arrows that are the report's typing, a program within the limits, bits of values of the right types, and that are lent stores which fit.
--- So is told what each answers.
+-- Which dossiers are run: each that keeps the rules (RulesKept), and no other. The first answers what its program means of its input,
+-- and any other a refusal of a check, which is none of a run's.
 use Rattle.std.specs.Prelude.{◌≡◌, refl, ℕ, ◌/◌, ◌≤◌, length}
 use Rattle.std.proofs.Math.Path.{sym, ap, subst}
 use Rattle.std.proofs.Common.{◌∙◌, arith}

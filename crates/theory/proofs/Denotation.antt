@@ -1,5 +1,5 @@
--- The report's typed denotation: a term from A to B is a function from A's values to B's, which may fail.
--- The meaning `eval` is this function with the types rubbed out.
+-- The meaning `eval` of a typed term is the report's typed denotation `den` with the types rubbed out.
+-- By induction on the typing: each rule of the meaning gives what the denotation's rule gives.
 use Rattle.std.specs.Prelude.{◌≡◌, refl, ℕ}
 use Rattle.std.proofs.Common.{sym, ap, ap₂, ◌∙◌}
 use Rattle.report.specs.Types.{Ty, sum, prod}

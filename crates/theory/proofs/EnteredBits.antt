@@ -1,4 +1,5 @@
 -- The cells are bits at every node that a run enters, where the old cells are bits: so bytes can hold them at each of its visits.
+-- By induction along the ways into a child: what the machine does before a child keeps cells bits (BinaryCells).
 use Rattle.std.specs.Prelude.{◌≡◌, ℕ, ◌+◌, ◌≤◌}
 use Rattle.std.proofs.Common.{subst, arith}
 use mathlib.Core.List.{[], ◌∷◌}

@@ -1,6 +1,5 @@
--- What a node of an arrow A to B finds when it is entered: a value to read, room to write one, frames that lie below the first free cell
--- and share no cell, and as many cells and frames beyond them as its bounds say. From such a state the machine is the meaning; and each way
--- into a child leads to such a state again.
+-- Frames that lie below the first free cell and share no cell stay so as frames come, move and go, and as their cursors go on.
+-- From a state that a node finds when it is entered the machine is the meaning; and a run that is done has brought its frames back.
 use Rattle.std.specs.Prelude.{◌≡◌, refl, List, [], ◌∷◌, ◌++◌, ℕ, ◌+◌, ◌≤◌}
 use Rattle.std.proofs.Common.{sym, ap, ◌∙◌, arith}
 use Rattle.report.specs.Types.{Ty, width}

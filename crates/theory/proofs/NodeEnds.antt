@@ -1,5 +1,5 @@
--- How the run of a node ends that was entered in a state of its arrow: with the meaning's value in the target's cells and all frames back,
--- or stopped where the meaning stops. The cells of every other frame that stands are as they were, also where the run stops.
+-- The run of a node that was entered in a state of its arrow ends as its term's meaning does, and is never stuck: what the machine changes
+-- are the cells that the node writes and those from the first free one on, so the cells of every other frame that stands are as they were.
 use Rattle.std.specs.Prelude.{◌≡◌, refl, List, [], ◌∷◌, ◌++◌, ℕ, ◌+◌, ◌≤◌}
 use Rattle.std.proofs.Common.{arith}
 use Rattle.report.specs.Types.{Ty, width}

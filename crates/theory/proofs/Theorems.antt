@@ -1,7 +1,7 @@
 -- The main theorems, one after the other, each with a comment; the proofs stand in this crate, in `layout` (the machine on lent stores) and
 -- in `exactness` (what the checks accept). The order: meaning, the machine at any point of a run, the room that it needs, nodes of a table,
 -- whole runs, the nodes that a run enters, the job, the store machine, and the checks. A statement `P ↔ Q` is read "P exactly if Q".
--- Notions that the statements name, beside the definitions of `report` and `scope`: Good (Safety), El and den (Denotation), Apart (Cells),
+-- Notions that the statements name, beside the definitions of `report` and `scope`, stand in specs/: Good (Safety), El and den (Denotation), Apart (Cells),
 -- At (Instructions), Ends and end_at (Correct), Ran (WholeRuns), Sound (Sound), Entered (Entered), Stacked and cursor_of (Entry), NodeEnds
 -- (NodeEnds), StopsIn (Stops), told and output (Answers), CellsLeft and output_bytes (Left), HeaderFits to StoresFit (Supply), RulesKept,
 -- Acceptable and FromRun (Acceptance), BitCells and BitsAfter (BinaryCells); those of `layout` and `exactness` stand in the modules that

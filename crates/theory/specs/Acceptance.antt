@@ -1,6 +1,6 @@
--- Which dossiers are run: just those that hold the report's code of a table in canonical order, types and hashes that keep their rules,
--- arrows that are the report's typing, a program within the limits, bits of values of the right types, and that are lent stores which fit.
--- So is told what each answers.
+-- The rules of a dossier that is run: it holds the report's code of a table in canonical order, types and hashes that keep their rules,
+-- arrows that are the report's typing, a program within the limits, bits of values of the right types, and it is lent stores which fit.
+-- And the answers that come from a run. That just such dossiers are answered by one is shown in proofs/Acceptance.
 use Rattle.std.specs.Prelude.{ℕ, ◌/◌, ◌≤◌, length}
 use mathlib.Core.List.{List}
 use Rattle.limits.specs.Limits.{node_numbers}

@@ -1,6 +1,6 @@
--- What is supplied beside a program's tables passes its checks exactly if it fits: the header (1), the hashes (13), the limits (14), the
--- witness bits (15), the input bits (16) and the stores (17). Bits fit if they are the compact bits of values of the right types, one after
--- the other, then fewer than eight zeros.
+-- When what is supplied beside a program's tables fits: the header (1), the hashes (13), the limits (14), the witness bits (15), the input
+-- bits (16) and the stores (17). Bits fit if they are the compact bits of values of the right types, one after the other, then fewer than
+-- eight zeros. That the checks pass exactly what fits is shown in proofs/Supply.
 use Rattle.std.specs.Prelude.{◌≡◌, ℕ, suc, ◌/◌, ◌≤◌, ◌<◌, get_or}
 use Rattle.std.proofs.Math.Bool.{true}
 use mathlib.Core.List.{List, [], ◌∷◌, ◌++◌}
