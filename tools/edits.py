@@ -137,7 +137,7 @@ class Known:
     def siblings(self, name, module):
         """The next function of the module with the same type and with other clauses."""
         for (home, *_), names in self.functions.items():
-            if home.replace("·specs.", ".") == module.replace("·specs.", ".") and name in names:
+            if home == module and name in names:
                 after = names[names.index(name) + 1:] + names[:names.index(name)]
                 yield from [other for other in after if self.bodies.get(other) != self.bodies.get(name)][:1]
 

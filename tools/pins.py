@@ -6,7 +6,7 @@
 For each crate: its `pub fn`, and which of them have a pin, `pub NAME : ..` in proofs/Pins.antt, and a row in docs/PROMISES.md.
 A pin has the call's name, with - or _ in it, and `_lem` after it where a definition has that name; its type's name may stand before it.
 It is stated over its call's own promise, the generated `Post`, and by `OneOutcome` where the call is lent anything to write.
-Of a call that is proved by hand there is no `Post`: its pin names the generated `clauses` and what they ensure.
+The pin of a call that moves a frame in place names the generated `clauses` and what they ensure.
 Exits 1 if a call lacks its pin or its row, if the call of a pin or of a row is gone, or if a pin does not name its call's promise.
 """
 import glob
@@ -27,8 +27,8 @@ SILENT = ("packed::print_wrong", "packed::print_tally", "packed::read_file")
 EXPORTED = {"exports_c": "exports"}
 # What stands between a function's name and its body.
 SIGNED = re.compile(r'^pub (?:extern "C" )?fn (\w+)(.*?)^\{', re.M | re.S)
-# Calls that are proved by hand.
-BY_HAND = ("frame::forward", "frame::backward", "frame::reset")
+# Calls whose pins name their clauses.
+BY_CLAUSES = ("frame::forward", "frame::backward", "frame::reset")
 
 
 def text(path):
@@ -79,9 +79,9 @@ def faults_of(crate, name, rows):
             continue
         if pin is None:
             faults.append(f"no pin: {call}")
-        elif not says(call, full in BY_HAND, held[pin], modules):
+        elif not says(call, full in BY_CLAUSES, held[pin], modules):
             faults.append(f"pin that does not name its call's promise: {pin}")
-        elif "&mut" in parameters and full not in BY_HAND and "OneOutcome" not in held[pin]:
+        elif "&mut" in parameters and full not in BY_CLAUSES and "OneOutcome" not in held[pin]:
             faults.append(f"pin that leaves out what was lent to be written: {pin}")
     faults += [f"pin of no call: {pin}" for pin in sorted(set(held) - used) if not TELLS.search(pin)]
     return found, len(used - {None}), faults

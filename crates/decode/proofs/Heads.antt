@@ -24,7 +24,7 @@ use Rattle.exactness.proofs.Stream.{then_reads}
 use Rattle.decode.specs.declared.NumberRead.{NumberRead}
 use Rattle.decode.specs.declared.Follows.{Follows}
 use Rattle.decode.specs.Answers.{number_of}
-use Rattle.decode.specs.Heads.{at_node, with_one, bytes_after, followed, head_of, two_children_lem, one_child, third, last, word_from}
+use Rattle.decode.specs.Heads.{at_node, with_one, bytes_after, followed, head_of, two_children, one_child, third, last, word_from}
 
 -- a result that passed at a node was read
 pub at_got : {X : Type 0} (i : ℕ) (g : Got X) (x : X) (n : ℕ) → at_node i g ≡ passed (x, n) → g ≡ got x n
@@ -70,20 +70,20 @@ module _ (bits : List Bit) (i at : ℕ) where
   child_read d n e = sym (ap (at_node i) (then_reads (natural_up_to bits i) (λ d. give (i - d)) at d n e))
 
   -- two children: the first refused, the second, or none
-  pub first_stops : (kind : ℕ) (why : Refusal) → at_node i (child bits i at) ≡ refused why → refused why ≡ at_node i (two_children_lem bits kind i at)
-  unfolding two_children_lem
+  pub first_stops : (kind : ℕ) (why : Refusal) → at_node i (child bits i at) ≡ refused why → refused why ≡ at_node i (two_children bits kind i at)
+  unfolding two_children
   first_stops kind why e = sym (stops i (child bits i) (λ a. child bits i >>= λ b. item kind a b []) at why e)
 
-  after_first_lem : (kind a m : ℕ) → child bits i at ≡ got a m → two_children_lem bits kind i at ≡ (child bits i >>= λ b. item kind a b []) m
-  unfolding two_children_lem
+  after_first_lem : (kind a m : ℕ) → child bits i at ≡ got a m → two_children bits kind i at ≡ (child bits i >>= λ b. item kind a b []) m
+  unfolding two_children
   after_first_lem kind a m e = then_reads (child bits i) (λ a. child bits i >>= λ b. item kind a b []) at a m e
 
   pub second_stops : (kind a m : ℕ) (why : Refusal) → child bits i at ≡ got a m → at_node i (child bits i m) ≡ refused why
-      → refused why ≡ at_node i (two_children_lem bits kind i at)
+      → refused why ≡ at_node i (two_children bits kind i at)
   second_stops kind a m why e f = sym (ap (at_node i) (after_first_lem kind a m e) ∙ stops i (child bits i) (λ b. item kind a b []) m why f)
 
   pub both_read : (kind a m b n : ℕ) → child bits i at ≡ got a m → child bits i m ≡ got b n
-      → at_node i (followed bits (record { kind = kind; first = a; second = b; third = 0 }) Follows.Nothing n) ≡ at_node i (two_children_lem bits kind i at)
+      → at_node i (followed bits (record { kind = kind; first = a; second = b; third = 0 }) Follows.Nothing n) ≡ at_node i (two_children bits kind i at)
   unfolding followed bytes_after ◌>>=◌ give item
   both_read kind a m b n e f = ap (at_node i) (sym (after_first_lem kind a m e ∙ then_reads (child bits i) (λ b. item kind a b []) m b n f))
 
@@ -144,12 +144,12 @@ module _ (bits : List Bit) (i at : ℕ) where
   combinator_ended held (suc (suc zero)) h e = stops_with (code bits 2) _ at stream_ended e
   combinator_ended held (suc (suc (suc k))) h e = absurd (omega arith)
 
-  pub combinator_two : (held two sub n : ℕ) → two ≡ 0 → code bits 2 at ≡ got sub n → combinator bits i held two at ≡ two_children_lem bits (0 + sub) i n
-  unfolding combinator two_children_lem
+  pub combinator_two : (held two sub n : ℕ) → two ≡ 0 → code bits 2 at ≡ got sub n → combinator bits i held two at ≡ two_children bits (0 + sub) i n
+  unfolding combinator two_children
   combinator_two held two sub n h e =
       ap (λ (k : ℕ). combinator bits i held k at) h
-      ∙ then_reads (code bits 2) (λ sub. two_children_lem bits sub i) at sub n e
-      ∙ ap (λ (k : ℕ). two_children_lem bits k i n) (sym (zero-add sub))
+      ∙ then_reads (code bits 2) (λ sub. two_children bits sub i) at sub n e
+      ∙ ap (λ (k : ℕ). two_children bits k i n) (sym (zero-add sub))
 
   pub combinator_one : (held two sub n : ℕ) → two ≡ 1 → code bits 2 at ≡ got sub n → combinator bits i held two at ≡ one_child bits (4 + sub) i n
   unfolding combinator one_child
@@ -226,10 +226,10 @@ module _ (program : List ℕ) (i at held w : ℕ) (read : code (stream_of progra
       let z : at + 3 + 2 ≡ at + 5 = omega arith in
       ap (code (stream_of program) 2) y ∙ window_code program at w 3 2 read (omega arith) ∙ ap (got (w / 2 ^ 20 % 2 ^ 2)) z
 
-  pub kind_two : w / 1048576 < 4 → node (stream_of program) i held at ≡ two_children_lem (stream_of program) (w / 1048576) i (at + 5)
+  pub kind_two : w / 1048576 < 4 → node (stream_of program) i held at ≡ two_children (stream_of program) (w / 1048576) i (at + 5)
   kind_two h =
       first_three ∙ combinator_two (stream_of program) i (at + 1 + 2) held (w / 1048576 / 4) (w / 1048576 % 4) (at + 5) (omega arith) last_two
-      ∙ ap (λ (k : ℕ). two_children_lem (stream_of program) k i (at + 5)) (let y : 0 + w / 1048576 % 4 ≡ w / 1048576 = omega arith in y)
+      ∙ ap (λ (k : ℕ). two_children (stream_of program) k i (at + 5)) (let y : 0 + w / 1048576 % 4 ≡ w / 1048576 = omega arith in y)
 
   pub kind_one : 4 ≤ w / 1048576 → w / 1048576 < 8 → node (stream_of program) i held at ≡ one_child (stream_of program) (w / 1048576) i (at + 5)
   kind_one g h =

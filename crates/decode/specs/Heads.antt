@@ -59,9 +59,9 @@ module _ (bits : List Bit) where
   head_of i (HeadRead.Refused why) = refused why
 
   -- parts of the reader of a combinator, first two children
-  unfoldable pub two_children_lem : (kind i : ℕ) → Reader Item
+  unfoldable pub two_children : (kind i : ℕ) → Reader Item
   unfolding ◌>>=◌ child item
-  two_children_lem kind i = do
+  two_children kind i = do
     left ← child bits i
     right ← child bits i
     item kind left right []

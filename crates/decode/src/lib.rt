@@ -16,7 +16,7 @@ ghost use Rattle.bititer.specs.Windows.{natural_entries};
 ghost use Rattle.common.specs.Answers.{check_of};
 ghost use Rattle.table.specs.Answers.{record_of};
 ghost use Rattle.decode.specs.Answers.{number_of, size_of, said_of};
-ghost use Rattle.decode.specs.Heads.{at_node, TableMeans, bytes_after, with_one, two_children_lem, plain, third, last, word_from, head_of, count_in, begun_of};
+ghost use Rattle.decode.specs.Heads.{at_node, TableMeans, bytes_after, with_one, two_children, plain, third, last, word_from, head_of, count_in, begun_of};
 ghost use Rattle.decode.specs.Stores.{record_put, NodeMeans, Room, StepMeans, ReadMeans, read_all, settled_of, stopped_of, table_of, JudgedMeans, DecodedMeans, sizes_with, sizes_of, left, left_by};
 
 use bititer::{BytesFault, BytesRead, CodeRead, NaturalRead, WindowRead};
@@ -189,7 +189,7 @@ fn one_number(kind: u32, read: NumberRead) -> HeadRead
 // A node with two children. The first distance is judged before the second is read.
 fn two_children(naturals: &[u8; 256], program: &[u8], kind: u32, i: u32, at: usize) -> HeadRead
     requires { naturals.now ≡ natural_entries }
-    ensures { head_of (stream_of program.now) i result ≡ at_node i (two_children_lem (stream_of program.now) kind i at) }
+    ensures { head_of (stream_of program.now) i result ≡ at_node i (two_children (stream_of program.now) kind i at) }
 {
     let left = child(naturals, program, i, at);
     let NumberRead::Number(a, middle) = left else {

@@ -1,3 +1,4 @@
 pub mod Moves
+pub mod InPlace
 pub mod Records
 pub mod Pins
