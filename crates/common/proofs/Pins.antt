@@ -1,12 +1,18 @@
 -- What each public call promises has one outcome: over the call's own promise, `Post`, two results, and a store that is left, are the same.
 use mathlib.Core.Path.{sym, ◌∙◌}
+use denote.RattleType.{RattleType}
+use denote.Param.Laws.{Laws, IsCopy}
+use mir.Syntax.{Dict}
+use Rattle.std.specs.declared.clone.Clone.{Ghosts}
 use Rattle.promise.specs.Outcomes.{OneResult, OneSeen, OneOutcome, ◌&◌}
 use Rattle.promise.specs.Parts.{part_of}
 use Rattle.common.specs.Answers.{check_tells}
 use Rattle.common.proofs.answer_of.Kinds as answer-of-kinds
 use Rattle.common.proofs.answer_of.Reads as answer-of-reads
-use Rattle.common.proofs.entry_at.Kinds as entry-at-kinds
-use Rattle.common.proofs.entry_at.Reads as entry-at-reads
+use Rattle.common.proofs.entry_or.Kinds as entry-or-kinds
+use Rattle.common.proofs.entry_or.Reads as entry-or-reads
+use Rattle.common.proofs.fill_from.Kinds as fill-from-kinds
+use Rattle.common.proofs.fill_from.Reads as fill-from-reads
 use Rattle.common.proofs.check_count.Kinds as check-count-kinds
 use Rattle.common.proofs.check_count.Reads as check-count-reads
 use Rattle.common.proofs.first_refusal.Kinds as first-refusal-kinds
@@ -17,8 +23,6 @@ use Rattle.common.proofs.place.Kinds as place-kinds
 use Rattle.common.proofs.place.Reads as place-reads
 use Rattle.common.proofs.wide.Kinds as wide-kinds
 use Rattle.common.proofs.wide.Reads as wide-reads
-use Rattle.common.proofs.byte_at.Kinds as byte-at-kinds
-use Rattle.common.proofs.byte_at.Reads as byte-at-reads
 use Rattle.common.proofs.half_at.Kinds as half-at-kinds
 use Rattle.common.proofs.half_at.Reads as half-at-reads
 use Rattle.common.proofs.number_at.Kinds as number-at-kinds
@@ -31,10 +35,6 @@ use Rattle.common.proofs.bytes_for.Kinds as bytes-for-kinds
 use Rattle.common.proofs.bytes_for.Reads as bytes-for-reads
 use Rattle.common.proofs.word_bits.Kinds as word-bits-kinds
 use Rattle.common.proofs.word_bits.Reads as word-bits-reads
-use Rattle.common.proofs.clear_numbers.Kinds as clear-numbers-kinds
-use Rattle.common.proofs.clear_numbers.Reads as clear-numbers-reads
-use Rattle.common.proofs.clear_bytes.Kinds as clear-bytes-kinds
-use Rattle.common.proofs.clear_bytes.Reads as clear-bytes-reads
 
 pub first_refusal : OneResult 0 first-refusal-kinds.ps first-refusal-kinds.r first-refusal-reads.Post
 first_refusal κs a s t x y p q = check_tells s t (p ∙ sym q)
@@ -54,17 +54,11 @@ place κs a s t x y p q = p.0 ∙ sym q.0
 pub wide : OneResult 0 wide-kinds.ps wide-kinds.r wide-reads.Post
 wide κs a s t x y p q = p.0 ∙ sym q.0
 
-pub byte_at : OneResult 1 byte-at-kinds.ps byte-at-kinds.r byte-at-reads.Post
-byte_at κs a s t x y p q = p ∙ sym q
-
 pub half_at : OneResult 1 half-at-kinds.ps half-at-kinds.r half-at-reads.Post
 half_at κs a s t x y p q = p ∙ sym q
 
 pub number_at : OneResult 1 number-at-kinds.ps number-at-kinds.r number-at-reads.Post
 number_at κs a s t x y p q = p ∙ sym q
-
-pub entry_at : OneResult 1 entry-at-kinds.ps entry-at-kinds.r entry-at-reads.Post
-entry_at κs a s t x y p q = p ∙ sym q
 
 pub part : OneSeen 1 part-kinds.ps part-kinds.r (λ κs. part_of) part-reads.Post
 part κs a s t x y p q = p ∙ sym q
@@ -78,8 +72,10 @@ bytes_for_lem κs a s t x y p q = p.0 ∙ sym q.0
 pub word_bits_lem : OneResult 0 word-bits-kinds.ps word-bits-kinds.r word-bits-reads.Post
 word_bits_lem κs a s t x y p q = p.0 ∙ sym q.0
 
-pub clear_numbers : OneOutcome 1 clear-numbers-kinds.ps clear-numbers-kinds.r clear-numbers-reads.Post
-clear_numbers κs a s t v w p q = let e = p ∙ sym q in (λ i. tt, λ i. e i & tt & tt)
+-- of the calls over every type that may be copied
+module _ (T : RattleType) (laws : Laws T) (copied : IsCopy T) (clones : Ghosts T.Denot) (dict : Dict) where
+  pub entry_or : OneResult 2 (entry-or-kinds.ps T laws copied) (entry-or-kinds.r T laws copied) (entry-or-reads.Post T laws copied clones dict)
+  entry_or κs a s t x y p q = p ∙ sym q
 
-pub clear_bytes : OneOutcome 1 clear-bytes-kinds.ps clear-bytes-kinds.r clear-bytes-reads.Post
-clear_bytes κs a s t v w p q = let e = p ∙ sym q in (λ i. tt, λ i. e i & tt & tt)
+  pub fill_from : OneOutcome 2 (fill-from-kinds.ps T laws copied) (fill-from-kinds.r T laws copied) (fill-from-reads.Post T laws copied clones dict)
+  fill_from κs a s t v w p q = let e = p ∙ sym q in (λ i. tt, λ i. e i & tt & tt & tt)

@@ -1,6 +1,6 @@
-// What several crates ask of numbers, bytes and stores: a number in a wider type, a number in bytes with the high byte first,
-// a part of a slice, whether two slices hold the same bytes, zeros from an index on; and the answer of a check.
-// Each call answers on every input: past the end of a slice stand zeros, and a part ends where its slice does.
+// What several crates ask of numbers, bytes and stores: a number in a wider type, a number in bytes with the high byte first, the entry at a place
+// of a table, a part of a slice, whether two slices hold the same bytes, one entry from an index on; and checks, one after the other or of a count.
+// Each call answers on every input: past the end of a slice stands what is asked for, or zeros, and a part ends where its slice does.
 #![tactic(auto)]
 
 ghost use Rattle.std.specs.Prelude.{◌≡◌, ◌^◌, ◌<◌, get_or};
@@ -9,49 +9,35 @@ ghost use Rattle.limits.specs.Limits.{word_most};
 ghost use Rattle.scope.specs.Numbers.{be16, be32, bytes_for, same};
 ghost use Rattle.scope.specs.Stages.{counted};
 ghost use Rattle.common.specs.Answers.{check_of, in_turn, answer_of};
-ghost use Rattle.common.specs.Stores.{cleared};
+ghost use Rattle.common.specs.Stores.{filled};
 ghost use Rattle.common.specs.Words.{word_bits};
 
 use refusal::{Answer, Refusal};
 
-// A check passed, or why not.
-#[derive(Clone, Copy)]
-pub enum Checked {
-    Passed,
-    Refused(Refusal),
-}
-
 // Of two checks the refusal that comes first.
-pub fn first_refusal(first: Checked, second: Checked) -> Checked
+pub fn first_refusal(first: Result<(), Refusal>, second: Result<(), Refusal>) -> Result<(), Refusal>
     ensures { check_of result ≡ in_turn (check_of first) (check_of second) }
 {
-    let Checked::Passed = first else {
-        return first;
-    };
+    first?;
     second
 }
 
 // A count is at least one, and not above the most (4).
-pub fn check_count(count: usize, most: usize) -> Checked
+pub fn check_count(count: usize, most: usize) -> Result<(), Refusal>
     ensures { check_of result ≡ counted count most }
 {
-    if count < 1 {
-        return Checked::Refused(Refusal::Natural(0));
+    if count < 1 || most < count {
+        return Err(Refusal::Natural(0));
     }
-    if most < count {
-        return Checked::Refused(Refusal::Natural(0));
-    }
-    Checked::Passed
+    Ok(())
 }
 
 // A check as the answer of a job that has nothing to tell.
-pub fn answer_of(check: Checked) -> Answer
+pub fn answer_of(check: Result<(), Refusal>) -> Answer
     ensures { result ≡ answer_of check }
 {
-    match check {
-        Checked::Passed => Answer::Value(0),
-        Checked::Refused(why) => Answer::Refused(why),
-    }
+    check?;
+    Ok(0)
 }
 
 // An index of 16 bits as a place.
@@ -75,11 +61,11 @@ pub fn wide(x: u32) -> u64
     x as u64
 }
 
-// The byte at a place; 0 past the end.
-pub fn byte_at(bytes: &[u8], at: usize) -> u8
-    ensures { result ≡ get_or bytes.now at 0 }
+// The entry at a place of a table; another past the end.
+pub fn entry_or<T: Copy>(entries: &[T], at: usize, past: T) -> T
+    ensures { result ≡ get_or entries.now at past }
 {
-    if at < bytes.len() { bytes[at] } else { 0 }
+    entries.get(at).copied().unwrap_or(past)
 }
 
 // The number of 16 bits at a place, with 0 for bytes past the end.
@@ -89,7 +75,7 @@ pub fn half_at(bytes: &[u8], at: usize) -> u16
     if bytes.len() <= at {
         return 0;
     }
-    byte_at(bytes, at) as u16 * 256 + byte_at(bytes, at + 1) as u16
+    entry_or(bytes, at, 0) as u16 * 256 + entry_or(bytes, at + 1, 0) as u16
 }
 
 // The number of 32 bits at a place, with 0 for bytes past the end.
@@ -100,13 +86,6 @@ pub fn number_at(bytes: &[u8], at: usize) -> u32
         return 0;
     }
     half_at(bytes, at) as u32 * 65536 + half_at(bytes, at + 2) as u32
-}
-
-// The number at a place of a table of them; 0 past the end.
-pub fn entry_at(numbers: &[u32], at: usize) -> u32
-    ensures { result ≡ get_or numbers.now at 0 }
-{
-    if at < numbers.len() { numbers[at] } else { 0 }
 }
 
 // The part of n bytes from a place on, as far as there are any.
@@ -127,7 +106,7 @@ pub fn part(bytes: &[u8], at: usize, n: usize) -> &[u8]
 pub fn same_bytes(a: &[u8], b: &[u8]) -> bool
     ensures { result ≡ same a.now b.now }
 {
-    check::same(a, b)
+    a == b
 }
 
 // How many bytes hold so many bits.
@@ -150,24 +129,11 @@ pub fn word_bits(n: u32) -> usize
     1 << (n - 1)
 }
 
-// Zeros in a store of numbers, from an index on.
-pub fn clear_numbers(store: &mut [u32], from: usize)
-    ensures { store.new ≡ cleared store.old from }
+// One entry at every place of a store from an index on.
+pub fn fill_from<T: Copy>(store: &mut [T], from: usize, entry: T)
+    ensures { store.new ≡ filled entry store.old from }
 {
-    let mut j = from;
-    while j < store.len() {
-        store[j] = 0;
-        j += 1;
-    }
-}
-
-// Zeros in a store of bytes, from an index on.
-pub fn clear_bytes(store: &mut [u8], from: usize)
-    ensures { store.new ≡ cleared store.old from }
-{
-    let mut j = from;
-    while j < store.len() {
-        store[j] = 0;
-        j += 1;
+    for i in from..store.len() {
+        store[i] = entry;
     }
 }

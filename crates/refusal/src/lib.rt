@@ -6,7 +6,9 @@
 ghost use Rattle.std.specs.Prelude.{◌≡◌};
 ghost use Rattle.refusal.specs.Numbers.{number_of, place_of, keeps_table};
 
-#[derive(Clone, Copy)]
+use std::fmt;
+
+#[derive(Clone, Copy, Debug, PartialEq, Eq)]
 pub enum Refusal {
     // 1: dossier too short or too long, or a header number against the rules. Place: 0, or the byte position of the number.
     Header(u32),
@@ -53,10 +55,15 @@ pub enum Refusal {
 }
 
 // What a run says: the count of the output's compact bits, which stand in the answer store, or why there is none.
-#[derive(Clone, Copy)]
-pub enum Answer {
-    Value(u32),
-    Refused(Refusal),
+pub type Answer = Result<u32, Refusal>;
+
+impl fmt::Display for Refusal {
+    // The refusal's number, and its place.
+    fn fmt<W: fmt::Write>(&self, f: &mut fmt::Formatter<W>) -> fmt::Result {
+        let number = number(*self);
+        let place = place(*self);
+        write!(f, "{number} {place}")
+    }
 }
 
 // The refusal's number in the requirements' table.

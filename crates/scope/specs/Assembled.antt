@@ -3,8 +3,8 @@
 use Rattle.std.specs.Prelude.{List, [], ◌∷◌, ◌++◌, ℕ, ◌+◌, ◌*◌, ◌/◌, ◌-◌, length, replicate}
 use Rattle.limits.specs.Limits.{header_bytes, type_bytes, arrow_bytes, hash_bytes, node_numbers, frame_numbers}
 use Rattle.refusal.specs.declared.Refusal.{Refusal}
-use Rattle.refusal.specs.declared.Answer.{Answer}
-use Rattle.refusal.specs.declared.Answer.TheVariants.{Refused}
+use Rattle.refusal.specs.Answers.{Answer}
+use Rattle.std.specs.Prelude.{Err as Refused}
 use Rattle.report.specs.Bits.{Bit, bytes_of}
 use Rattle.report.specs.Nodes.{Node, code_program}
 use Rattle.report.specs.Naturals.{code_by, log2_by, low_bits}

@@ -1,6 +1,6 @@
 -- Every end, computed on whole dossiers in stores with room to spare that held ones: what is said, and what is left in each of the five stores.
 use Rattle.std.specs.Prelude.{refl, List, [], ◌∷◌, ◌++◌, true, false, ℕ, ◌+◌, ◌*◌, ◌-◌, ◌%◌, eqb, replicate}
-use Rattle.refusal.specs.declared.Answer.TheVariants.{Value, Refused}
+use Rattle.std.specs.Prelude.{Ok as Value, Err as Refused}
 use Rattle.refusal.specs.declared.Refusal.TheVariants.{Header, StreamEnded, Natural as BadNatural, Overlong, CanonicalOrder, BothHidden, NodeRepeated, Arrow as BadArrow, Hash, OverLimit, Witness, Input, StoreShort, FailReached, PrunedReached}
 use Rattle.report.specs.Lines.{◌is◌, Hold}
 use Rattle.report.specs.Nodes.{Node, comp, case, pair, disconnect, injl, injr, take, drop, iden, unit, witness, fail, hidden, word}

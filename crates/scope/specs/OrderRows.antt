@@ -1,8 +1,8 @@
 -- The order of the checks, computed on whole dossiers: each has two faults of neighbouring numbers, and the first one is told.
 -- 6 to 9 within one step of the walk stand in WalkRows, 4, 26, 1 and 2 of the stages in StageRows.
 use Rattle.std.specs.Prelude.{refl, List, [], ◌∷◌, ◌++◌, ℕ, replicate}
-use Rattle.refusal.specs.declared.Answer.{Answer}
-use Rattle.refusal.specs.declared.Answer.TheVariants.{Refused}
+use Rattle.refusal.specs.Answers.{Answer}
+use Rattle.std.specs.Prelude.{Err as Refused}
 use Rattle.refusal.specs.declared.Refusal.TheVariants.{Header, TypeRecord as BadTypeRecord, Jet, NodeRepeated, BothHidden, CanonicalOrder, Closing, OneChildDisconnect, Arrow as BadArrow, Hash, OverLimit, Witness, Input, StoreShort, FailReached, PrunedReached}
 use Rattle.report.specs.Lines.{◌is◌, Hold}
 use Rattle.report.specs.Naturals.{code_natural, code_by, log2_by, low_bits}

@@ -2,8 +2,8 @@
 -- Bytes and numbers are written as one long hexadecimal number, the first byte highest, as a dossier's own numbers are.
 use Rattle.std.specs.Prelude.{Bool, true, false, List, [], ◌∷◌, ℕ, zero, suc, ◌+◌, ◌*◌, ◌/◌, ◌%◌, ◌^◌, replicate}
 use Rattle.limits.specs.Limits.{node_numbers, frame_numbers}
-use Rattle.refusal.specs.declared.Answer.{Answer}
-use Rattle.refusal.specs.declared.Answer.TheVariants.{Value, Refused}
+use Rattle.refusal.specs.Answers.{Answer}
+use Rattle.std.specs.Prelude.{Ok as Value, Err as Refused}
 use Rattle.refusal.specs.Numbers.{number_of, place_of}
 use Rattle.scope.specs.Check.{Check, passed, refused, ◌>>=◌}
 use Rattle.scope.specs.Numbers.{every, same}

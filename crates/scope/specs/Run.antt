@@ -13,8 +13,8 @@
 use Rattle.std.specs.Prelude.{List, [], ◌++◌, ℕ, ◌*◌, ◌/◌, length, get_or, drop}
 use Rattle.limits.specs.Limits.{node_numbers, frame_numbers}
 use Rattle.refusal.specs.declared.Refusal.TheVariants.{FailReached, PrunedReached, StoreShort}
-use Rattle.refusal.specs.declared.Answer.{Answer}
-use Rattle.refusal.specs.declared.Answer.TheVariants.{Value, Refused}
+use Rattle.refusal.specs.Answers.{Answer}
+use Rattle.std.specs.Prelude.{Ok as Value, Err as Refused}
 use Rattle.report.specs.Bits.{Bit, bits_of, bytes_of}
 use Rattle.report.specs.Types.{width, word_ty}
 use Rattle.report.specs.Values.{Val, Cells, compact, value_at}

@@ -1,8 +1,8 @@
 -- The parts of the whole job, computed: the program of a dossier's tables, stores as cells and back, and how each end leaves cells, frames and answer.
 use Rattle.std.specs.Prelude.{◌≡◌, refl, List, [], ◌∷◌, ◌++◌, ℕ, zero, suc, ◌+◌, get_or, replicate}
 use Rattle.limits.specs.Limits.{hash_bytes}
-use Rattle.refusal.specs.declared.Answer.{Answer}
-use Rattle.refusal.specs.declared.Answer.TheVariants.{Value, Refused}
+use Rattle.refusal.specs.Answers.{Answer}
+use Rattle.std.specs.Prelude.{Ok as Value, Err as Refused}
 use Rattle.refusal.specs.declared.Refusal.TheVariants.{Arrow as BadArrow, Hash, Witness, Input, StoreShort, FailReached, PrunedReached}
 use Rattle.report.specs.Lines.{◌is◌, Hold, o, i}
 use Rattle.report.specs.Values.{Val, ⟨⟩, ◌&◌}

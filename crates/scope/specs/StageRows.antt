@@ -1,8 +1,8 @@
 -- Stages over lent tables, computed: each number of a record of each kind (26), what comes before and after it, and the checks made again.
 use Rattle.std.specs.Prelude.{◌≡◌, refl, Bool, true, false, List, [], ◌∷◌, ◌++◌, ℕ, zero, suc, ◌+◌, ◌*◌, ◌-◌, ◌^◌, replicate}
 use Rattle.limits.specs.Limits.{node_count, type_count, dossier_bytes, word_most, node_numbers, type_bytes}
-use Rattle.refusal.specs.declared.Answer.{Answer}
-use Rattle.refusal.specs.declared.Answer.TheVariants.{Value, Refused}
+use Rattle.refusal.specs.Answers.{Answer}
+use Rattle.std.specs.Prelude.{Ok as Value, Err as Refused}
 use Rattle.refusal.specs.declared.Refusal.TheVariants.{Header, TypeRecord as BadTypeRecord, Natural as BadNatural, CanonicalOrder, HiddenElsewhere, NodeRepeated, OneChildDisconnect, Arrow as BadArrow, Hash, OverLimit, Witness, Input, StoreShort, NodeRecord as BadNodeRecord}
 use Rattle.report.specs.Lines.{◌is◌, Hold}
 use Rattle.scope.specs.Check.{passed, refused}

@@ -3,7 +3,7 @@
 use Rattle.std.specs.Prelude.{Bool, true, false, List, [], ◌∷◌, ℕ, ◌+◌, ◌*◌, ◌-◌, ◌^◌, leb, ltb, eqb, length, get_or}
 use Rattle.limits.specs.Limits.{node_count, type_count, dossier_bytes, word_most, hash_bytes, fail_bytes}
 use Rattle.refusal.specs.declared.Refusal.TheVariants.{Natural, NodeRecord as BadNodeRecord, Header}
-use Rattle.refusal.specs.declared.Answer.TheVariants.{Refused}
+use Rattle.std.specs.Prelude.{Err as Refused}
 use Rattle.scope.specs.Check.{Check, passed, refused, ◌>>=◌, require, each}
 use Rattle.scope.specs.Numbers.{every, stream_of}
 use Rattle.scope.specs.Types.{type_records, check_types}

@@ -6,7 +6,7 @@ use Rattle.std.proofs.Common.{◌∙◌, arith}
 use mathlib.Core.List.{List, []}
 use Rattle.limits.specs.Limits.{node_numbers, frame_numbers, cell_count, frame_count, cost_limit}
 use Rattle.refusal.specs.declared.Refusal.{Refusal}
-use Rattle.refusal.specs.declared.Answer.TheVariants.{Refused}
+use Rattle.std.specs.Prelude.{Err as Refused}
 use Rattle.report.specs.Types.{Ty, width}
 use Rattle.report.specs.Values.{Val}
 use Rattle.report.specs.Nodes.{Node}

@@ -7,7 +7,7 @@ use Rattle.std.proofs.Math.Decide.{dec_lt}
 use Rattle.std.proofs.Math.ListN.{get_or-eq_default}
 use Rattle.limits.specs.Limits.{node_numbers}
 use Rattle.refusal.specs.declared.Refusal.{Refusal}
-use Rattle.refusal.specs.declared.Answer.TheVariants.{Refused}
+use Rattle.std.specs.Prelude.{Err as Refused}
 use Rattle.report.specs.Bits.{Bit, bytes_of}
 use Rattle.report.specs.Values.{HasTy, compact}
 use Rattle.report.specs.Nodes.{Node, word}

@@ -3,7 +3,7 @@
 use Rattle.std.specs.Prelude.{◌≡◌, List, [], ◌∷◌, ◌++◌, ℕ, zero, suc, ◌*◌, ◌≤◌, ◌<◌, length, get_or, drop}
 use Rattle.std.proofs.Math.Path.{refl}
 use Rattle.std.proofs.Common.{ap, ◌∙◌, arith, take_at}
-use Rattle.refusal.specs.declared.Answer.TheVariants.{Value}
+use Rattle.std.specs.Prelude.{Ok as Value}
 use Rattle.report.specs.Bits.{Bit, bits_of, bytes_of}
 use Rattle.report.specs.Types.{width}
 use Rattle.report.specs.Values.{Val, HasTy, Cells}

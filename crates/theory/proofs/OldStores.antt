@@ -4,8 +4,8 @@ use Rattle.std.specs.Prelude.{◌≡◌, List, ℕ, length}
 use Rattle.std.proofs.Math.Path.{refl, sym, ap}
 use Rattle.std.proofs.Common.{◌∙◌}
 use Rattle.refusal.specs.declared.Refusal.{Refusal}
-use Rattle.refusal.specs.declared.Answer.{Answer}
-use Rattle.refusal.specs.declared.Answer.TheVariants.{Refused}
+use Rattle.refusal.specs.Answers.{Answer}
+use Rattle.std.specs.Prelude.{Err as Refused}
 use Rattle.scope.specs.Check.{Check, passed, refused}
 use Rattle.scope.specs.Reading.{NodeTable}
 use Rattle.scope.specs.Run.{Tables, Ready, check_ready, tables_of, check_dossier, run}

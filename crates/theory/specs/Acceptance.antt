@@ -5,8 +5,8 @@ use Rattle.std.specs.Prelude.{ℕ, ◌/◌, ◌≤◌, length}
 use mathlib.Core.List.{List}
 use Rattle.limits.specs.Limits.{node_numbers}
 use Rattle.refusal.specs.declared.Refusal.{Refusal}
-use Rattle.refusal.specs.declared.Answer.{Answer}
-use Rattle.refusal.specs.declared.Answer.TheVariants.{Value, Refused}
+use Rattle.refusal.specs.Answers.{Answer}
+use Rattle.std.specs.Prelude.{Ok as Value, Err as Refused}
 use Rattle.refusal.specs.Numbers.{number_of}
 use Rattle.report.specs.Bits.{bits_of}
 use Rattle.report.specs.Types.{word_ty}

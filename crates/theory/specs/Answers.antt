@@ -2,8 +2,8 @@
 -- That a run says and leaves just this is shown in proofs/Answers.
 use Rattle.std.specs.Prelude.{List, ℕ, length}
 use Rattle.refusal.specs.declared.Refusal.TheVariants.{FailReached, PrunedReached, StoreShort}
-use Rattle.refusal.specs.declared.Answer.{Answer}
-use Rattle.refusal.specs.declared.Answer.TheVariants.{Value, Refused}
+use Rattle.refusal.specs.Answers.{Answer}
+use Rattle.std.specs.Prelude.{Ok as Value, Err as Refused}
 use Rattle.report.specs.Values.{compact}
 use Rattle.report.specs.Meaning.{done, failed, pruned, stuck, Means}
 use Rattle.scope.specs.Run.{written}

@@ -1,8 +1,8 @@
 -- What a run leaves in the lent stores beside its answer: the cells of the machine's last state, and every cell from the bound on as it
 -- was; and the bytes of the answer store that hold an output. Their laws stand in proofs/Left.
 use Rattle.std.specs.Prelude.{◌≡◌, List, [], ℕ, ◌*◌, ◌≤◌, ◌<◌, length, take}
-use Rattle.refusal.specs.declared.Answer.{Answer}
-use Rattle.refusal.specs.declared.Answer.TheVariants.{Value, Refused}
+use Rattle.refusal.specs.Answers.{Answer}
+use Rattle.std.specs.Prelude.{Ok as Value, Err as Refused}
 use Rattle.report.specs.Meaning.{done, failed, pruned}
 use Rattle.scope.specs.Numbers.{bytes_for}
 use Rattle.scope.specs.Machine.{State, Step}
