@@ -1,5 +1,6 @@
 -- Laws for callers, of bits in bytes, of a slice's stream and of each reader; and the pins of the public calls.
 pub mod Tests
+pub mod Missing
 pub mod Bits
 pub mod Streams
 pub mod Naturals

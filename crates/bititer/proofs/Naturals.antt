@@ -90,14 +90,12 @@ pub bits_turn : (k n b : ℕ) (l r : List Bit) → 0 < k → l ≡ b ∷ r → m
 unfolding more_bits
 bits_turn k n b l r h e = let j : k ≡ suc (k - 1) = omega arith in ap₂ (λ (i : ℕ) (t : List Bit). more_bits i n t) j e
 
--- a number of so many bits fits, and so does the next
-pub bits_fit : (count left n b : ℕ) → count ≤ natural_length → 0 < left → left ≤ count → n < 2 ^ (count - left + 1) → b < 2
-    → (n * 2 + b < 2 ^ (count - (left - 1) + 1)) × (n * 2 + b < 2 ^ 32)
-bits_fit count left n b hc hl hm hn hb =
-    let e : count - (left - 1) + 1 ≡ count - left + 1 + 1 = omega arith in
-    let d : 2 ^ (count - left + 1 + 1) ≡ 2 ^ (count - left + 1) * 2 = pow-add 2 (count - left + 1) 1 in
-    let w : 2 ^ (count - left + 1) ≤ 2 ^ 31 = pow_mono {i = count - left + 1} {j = 31} (omega arith) in
-    (rw (e, d) (omega arith), omega arith)
+-- a number of so many bits after its first fits, and so does the next
+pub bits_fit : (count n b : ℕ) → count < natural_length → n < 2 ^ (count + 1) → b < 2 → (n * 2 + b < 2 ^ (count + 1 + 1)) × (n * 2 + b < 2 ^ 32)
+bits_fit count n b hc hn hb =
+    let d : 2 ^ (count + 1 + 1) ≡ 2 ^ (count + 1) * 2 = pow-add 2 (count + 1) 1 in
+    let w : 2 ^ (count + 1) ≤ 2 ^ 31 = pow_mono {i = count + 1} {j = 31} (omega arith) in
+    (rw d (omega arith), omega arith)
 
 -- what is left after bits that were read, and that the number did not fall
 pub bits_got : (k n m : ℕ) (l r : List Bit) → more_bits k n l ≡ natural m r → (k ≤ length l) × (r ≡ drop k l) × (n ≤ m)

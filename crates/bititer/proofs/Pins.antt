@@ -1,17 +1,14 @@
 -- What each public call promises has one outcome: over the call's own promise, `Post`, two answers, and two stores that are left, are the same.
 use mathlib.Core.Path.{◌≡◌, refl, ap, ap₂, sym, ◌∙◌}
 use mathlib.Core.List.{List}
+use Rattle.std.specs.Prelude.{Option, Some, None, Result, Ok, Err}
 use Prim.Native.Nat.{ℕ, ◌+◌}
 use native.Mathlib.Omega.{arith}
 use Rattle.promise.specs.Outcomes.{OneResult, OneOutcome, ◌&◌}
-use Rattle.bititer.specs.Answers.{got_code, got_natural, got_bytes, Stored, stored}
+use Rattle.bititer.specs.Answers.{got_code, natural_fault, got_natural, got_bytes, Stored, stored}
 use Rattle.bititer.specs.Windows.{got_window}
-use Rattle.bititer.specs.declared.CodeRead.{CodeRead}
-use Rattle.bititer.specs.declared.WindowRead.{WindowRead}
 use Rattle.bititer.specs.declared.NaturalFault.{NaturalFault}
-use Rattle.bititer.specs.declared.NaturalRead.{NaturalRead}
 use Rattle.bititer.specs.declared.BytesFault.{BytesFault}
-use Rattle.bititer.specs.declared.BytesRead.{BytesRead}
 use Rattle.bititer.proofs.bit.Kinds as bit-kinds
 use Rattle.bititer.proofs.bit.Reads as bit-reads
 use Rattle.bititer.proofs.closes.Kinds as closes-kinds
@@ -36,46 +33,49 @@ use Rattle.bititer.proofs.two_bits.Kinds as two-bits-kinds
 use Rattle.bititer.proofs.two_bits.Reads as two-bits-reads
 
 -- answers that say the same are the same
-same_code : (r q : CodeRead) → got_code r ≡ got_code q → r ≡ q
-same_code (CodeRead.Read v n) (CodeRead.Read w m) e = cc
-same_code (CodeRead.Read v n) CodeRead.Ended e = cc
-same_code CodeRead.Ended (CodeRead.Read w m) e = cc
-same_code CodeRead.Ended CodeRead.Ended e = refl
+same_code : (r q : Option (ℕ × ℕ)) → got_code r ≡ got_code q → r ≡ q
+same_code (Some (v, n)) (Some (w, m)) e = cc
+same_code (Some (v, n)) None e = cc
+same_code None (Some (w, m)) e = cc
+same_code None None e = refl
 
-same_natural : (at : ℕ) (r q : NaturalRead) → got_natural at r ≡ got_natural at q → r ≡ q
-same_natural at (NaturalRead.Read n a) (NaturalRead.Read m b) e =
+same_natural_fault : (f g : NaturalFault) → natural_fault f ≡ natural_fault g → f ≡ g
+same_natural_fault NaturalFault.Ended NaturalFault.Ended e = refl
+same_natural_fault NaturalFault.Ended NaturalFault.TooLong e = cc
+same_natural_fault NaturalFault.Ended NaturalFault.OverBound e = cc
+same_natural_fault NaturalFault.TooLong NaturalFault.Ended e = cc
+same_natural_fault NaturalFault.TooLong NaturalFault.TooLong e = refl
+same_natural_fault NaturalFault.TooLong NaturalFault.OverBound e = cc
+same_natural_fault NaturalFault.OverBound NaturalFault.Ended e = cc
+same_natural_fault NaturalFault.OverBound NaturalFault.TooLong e = cc
+same_natural_fault NaturalFault.OverBound NaturalFault.OverBound e = refl
+
+same_natural : (at : ℕ) (r q : Result (ℕ × ℕ) NaturalFault) → got_natural at r ≡ got_natural at q → r ≡ q
+same_natural at (Ok (n, a)) (Ok (m, b)) e =
     let v : n ≡ m = cc in
     let next : at + a ≡ at + b = cc in
-    ap₂ NaturalRead.Read v (let w : a ≡ b = omega arith in w)
-same_natural at (NaturalRead.Read n a) (NaturalRead.Fault g) e = cc
-same_natural at (NaturalRead.Fault f) (NaturalRead.Read m b) e = cc
-same_natural at (NaturalRead.Fault NaturalFault.Ended) (NaturalRead.Fault NaturalFault.Ended) e = refl
-same_natural at (NaturalRead.Fault NaturalFault.Ended) (NaturalRead.Fault NaturalFault.TooLong) e = cc
-same_natural at (NaturalRead.Fault NaturalFault.Ended) (NaturalRead.Fault NaturalFault.OverBound) e = cc
-same_natural at (NaturalRead.Fault NaturalFault.TooLong) (NaturalRead.Fault NaturalFault.Ended) e = cc
-same_natural at (NaturalRead.Fault NaturalFault.TooLong) (NaturalRead.Fault NaturalFault.TooLong) e = refl
-same_natural at (NaturalRead.Fault NaturalFault.TooLong) (NaturalRead.Fault NaturalFault.OverBound) e = cc
-same_natural at (NaturalRead.Fault NaturalFault.OverBound) (NaturalRead.Fault NaturalFault.Ended) e = cc
-same_natural at (NaturalRead.Fault NaturalFault.OverBound) (NaturalRead.Fault NaturalFault.TooLong) e = cc
-same_natural at (NaturalRead.Fault NaturalFault.OverBound) (NaturalRead.Fault NaturalFault.OverBound) e = refl
+    ap₂ (λ (x y : ℕ). Ok (x, y)) v (let w : a ≡ b = omega arith in w)
+same_natural at (Ok (n, a)) (Err g) e = cc
+same_natural at (Err f) (Ok (m, b)) e = cc
+same_natural at (Err f) (Err g) e = ap Err (same_natural_fault f g (cc))
 
-same_bytes : (r q : BytesRead) → got_bytes r ≡ got_bytes q → r ≡ q
-same_bytes (BytesRead.Read n) (BytesRead.Read m) e = cc
-same_bytes (BytesRead.Read n) (BytesRead.Fault g) e = cc
-same_bytes (BytesRead.Fault f) (BytesRead.Read m) e = cc
-same_bytes (BytesRead.Fault BytesFault.Ended) (BytesRead.Fault BytesFault.Ended) e = refl
-same_bytes (BytesRead.Fault BytesFault.Ended) (BytesRead.Fault BytesFault.NoRoom) e = cc
-same_bytes (BytesRead.Fault BytesFault.NoRoom) (BytesRead.Fault BytesFault.Ended) e = cc
-same_bytes (BytesRead.Fault BytesFault.NoRoom) (BytesRead.Fault BytesFault.NoRoom) e = refl
+same_bytes : (r q : Result ℕ BytesFault) → got_bytes r ≡ got_bytes q → r ≡ q
+same_bytes (Ok n) (Ok m) e = cc
+same_bytes (Ok n) (Err g) e = cc
+same_bytes (Err f) (Ok m) e = cc
+same_bytes (Err BytesFault.Ended) (Err BytesFault.Ended) e = refl
+same_bytes (Err BytesFault.Ended) (Err BytesFault.NoRoom) e = cc
+same_bytes (Err BytesFault.NoRoom) (Err BytesFault.Ended) e = cc
+same_bytes (Err BytesFault.NoRoom) (Err BytesFault.NoRoom) e = refl
 
-same_stored : (r q : BytesRead) (l m : List ℕ) → stored (got_bytes r) l ≡ stored (got_bytes q) m → (r ≡ q) × (l ≡ m)
+same_stored : (r q : Result ℕ BytesFault) (l m : List ℕ) → stored (got_bytes r) l ≡ stored (got_bytes q) m → (r ≡ q) × (l ≡ m)
 same_stored r q l m e = (same_bytes r q (ap (λ (x : Stored). x.says) e), ap (λ (x : Stored). x.store) e)
 
-same_window : (at : ℕ) (r q : WindowRead) → got_window at r ≡ got_window at q → r ≡ q
-same_window at (WindowRead.Read v) (WindowRead.Read w) e = cc
-same_window at (WindowRead.Read v) WindowRead.Ended e = cc
-same_window at WindowRead.Ended (WindowRead.Read w) e = cc
-same_window at WindowRead.Ended WindowRead.Ended e = refl
+same_window : (at : ℕ) (r q : Option ℕ) → got_window at r ≡ got_window at q → r ≡ q
+same_window at (Some v) (Some w) e = cc
+same_window at (Some v) None e = cc
+same_window at None (Some w) e = cc
+same_window at None None e = refl
 
 pub bit : OneResult 1 bit-kinds.ps bit-kinds.r bit-reads.Post
 bit κs a s t x y p q = same_code s t (p ∙ sym q)

@@ -1,16 +1,13 @@
 -- What each answer says, in the words of the requirements' readers: one line for each of its cases.
 -- And what reading whole bytes into a lent store leaves: what was said, and the store.
-use Rattle.std.specs.Prelude.{true, false, List, ◌++◌, ℕ, ◌+◌, leb, length, take, drop}
+use Rattle.std.specs.Prelude.{true, false, Option, Some, None, Result, Ok, Err, List, ◌++◌, ℕ, ◌+◌, leb, length, take, drop}
 use Rattle.scope.specs.Reading.{Got, got, fault, Fault, stream_ended, length_too_long, over_bound, hashes_short}
-use Rattle.bititer.specs.declared.CodeRead.{CodeRead}
 use Rattle.bititer.specs.declared.NaturalFault.{NaturalFault}
-use Rattle.bititer.specs.declared.NaturalRead.{NaturalRead}
 use Rattle.bititer.specs.declared.BytesFault.{BytesFault}
-use Rattle.bititer.specs.declared.BytesRead.{BytesRead}
 
-abbrev pub got_code : CodeRead → Got ℕ
-got_code (CodeRead.Read value next) = got value next
-got_code CodeRead.Ended = fault stream_ended
+abbrev pub got_code : Option (ℕ × ℕ) → Got ℕ
+got_code (Some (value, next)) = got value next
+got_code None = fault stream_ended
 
 abbrev pub natural_fault : NaturalFault → Fault
 natural_fault NaturalFault.Ended = stream_ended
@@ -18,9 +15,9 @@ natural_fault NaturalFault.TooLong = length_too_long
 natural_fault NaturalFault.OverBound = over_bound
 
 -- a natural that was read at a position
-abbrev pub got_natural : (at : ℕ) → NaturalRead → Got ℕ
-got_natural at (NaturalRead.Read n bits) = got n (at + bits)
-got_natural at (NaturalRead.Fault f) = fault (natural_fault f)
+abbrev pub got_natural : (at : ℕ) → Result (ℕ × ℕ) NaturalFault → Got ℕ
+got_natural at (Ok (n, bits)) = got n (at + bits)
+got_natural at (Err f) = fault (natural_fault f)
 
 -- a number that was read, unless it is over its bound
 abbrev pub at_most : (bound n next : ℕ) → Got ℕ
@@ -30,9 +27,9 @@ abbrev pub bytes_fault : BytesFault → Fault
 bytes_fault BytesFault.Ended = stream_ended
 bytes_fault BytesFault.NoRoom = hashes_short
 
-abbrev pub got_bytes : BytesRead → Got (Unit {0})
-got_bytes (BytesRead.Read next) = got tt next
-got_bytes (BytesRead.Fault f) = fault (bytes_fault f)
+abbrev pub got_bytes : Result ℕ BytesFault → Got (Unit {0})
+got_bytes (Ok next) = got tt next
+got_bytes (Err f) = fault (bytes_fault f)
 
 -- what was said, and the store as it is left
 pub record Stored : Type 0 where

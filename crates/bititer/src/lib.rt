@@ -1,5 +1,6 @@
 // Reading a lent byte slice at a bit position: a bit, two bits, a natural, 32 and 64 whole bytes, and whether the slice closes there. A
-// reader takes the position by value and answers with the next one; a natural's answers with the bits that it took. The bits of a slice are
+// reader takes the position by value and answers with the next one, a natural's with the bits that it took; a reader of bits has no answer
+// where the stream has ended, and one that can fail in more ways tells its fault. The bits of a slice are
 // `stream_of` of the requirements: from the top bit of each byte on, and none at all above the dossier's limit, so that no position wraps.
 // Most naturals are read from a window, the 25 bits that any four bytes hold from a position on.
 #![tactic(auto)]
@@ -16,61 +17,19 @@ ghost use Rattle.bititer.specs.Windows.{window_bits, got_window, Window, after_o
 
 use refusal::Refusal;
 
-// One or two bits: their number and the position after them.
-#[derive(Drop)]
-pub enum CodeRead {
-    Read(u8, usize),
-    Ended,
-}
-
 // What can be wrong with a natural: the stream ended in it, a length was too long, or it is over its bound.
-#[derive(Drop)]
+#[derive(Clone, Copy, Debug, PartialEq, Eq)]
 pub enum NaturalFault {
     Ended,
     TooLong,
     OverBound,
 }
 
-// The 25 bits from a position on, as a number.
-#[derive(Drop)]
-pub enum WindowRead {
-    Read(u32),
-    Ended,
-}
-
-// A natural, and how many bits it took.
-#[derive(Drop)]
-pub enum NaturalRead {
-    Read(u32, usize),
-    Fault(NaturalFault),
-}
-
 // Why bytes are not read into a store: the stream ended in them, or the store has no room for them.
-#[derive(Drop)]
+#[derive(Clone, Copy, Debug, PartialEq, Eq)]
 pub enum BytesFault {
     Ended,
     NoRoom,
-}
-
-// Whole bytes that stand in the store: the position after them.
-#[derive(Drop)]
-pub enum BytesRead {
-    Read(usize),
-    Fault(BytesFault),
-}
-
-// A part of a natural's code, as a number, with the position after it.
-#[derive(Drop)]
-enum Part {
-    Number(u32, usize),
-    Cut,
-}
-
-// The natural that a window begins with, and how many bits it takes; or its code may go on past the window.
-#[derive(Drop)]
-enum Begins {
-    Natural(u32, u32),
-    Longer,
 }
 
 // How many bits a window has, and the least windows that begin with one, two, three and four ones.
@@ -109,99 +68,80 @@ fn stream_length(s: &[u8]) -> usize
     s.len() * 8
 }
 
-// The bit at p.
-pub fn bit(s: &[u8], p: usize) -> CodeRead
+// The bit at p, and the position after it.
+pub fn bit(s: &[u8], p: usize) -> Option<(u8, usize)>
     ensures { got_code result ≡ code (stream_of s.now) 1 p }
 {
     if stream_length(s) <= p {
-        return CodeRead::Ended;
+        return None;
     }
     let i = p / 8;
     let place = 7 - p % 8;
-    CodeRead::Read((s[i] >> place) % 2, p + 1)
+    Some(((s[i] >> place) % 2, p + 1))
 }
 
-// The two bits from p on, as a number.
-pub fn two_bits(s: &[u8], p: usize) -> CodeRead
+// The two bits from p on, as a number, and the position after them.
+pub fn two_bits(s: &[u8], p: usize) -> Option<(u8, usize)>
     ensures { got_code result ≡ code (stream_of s.now) 2 p }
 {
-    let CodeRead::Read(high, middle) = bit(s, p) else {
-        return CodeRead::Ended;
-    };
-    let CodeRead::Read(low, next) = bit(s, middle) else {
-        return CodeRead::Ended;
-    };
-    CodeRead::Read(high * 2 + low, next)
+    let (high, middle) = bit(s, p)?;
+    let (low, next) = bit(s, middle)?;
+    Some((high * 2 + low, next))
 }
 
 // How many ones stand from p on, and the position after the zero that ends them.
-fn ones(s: &[u8], p: usize) -> Part
+fn ones(s: &[u8], p: usize) -> Option<(u32, usize)>
     ensures { OnesMean (stream_of s.now) p result }
 {
-    let mut at = p;
-    let mut count: u32 = 0;
-    loop {
-        let CodeRead::Read(b, next) = bit(s, at) else {
-            return Part::Cut;
-        };
-        at = next;
+    for at in p..stream_length(s) {
+        let (b, next) = bit(s, at)?;
         if b == 0 {
-            return Part::Number(count, at);
+            return Some(((at - p) as u32, next));
         }
-        count += 1;
     }
+    None
 }
 
-// The number that is 1 followed by the next `count` bits.
-fn bits_after_one(s: &[u8], p: usize, count: u32) -> Part
+// The number that is 1 followed by the next `count` bits, and the position after them.
+fn bits_after_one(s: &[u8], p: usize, count: u32) -> Option<(u32, usize)>
     requires { count ≤ natural_length }
     ensures { BitsMean (stream_of s.now) p count result }
 {
     let mut at = p;
     let mut n: u32 = 1;
-    let mut left = count;
-    while 0 < left {
-        let CodeRead::Read(b, next) = bit(s, at) else {
-            return Part::Cut;
-        };
-        n = n * 2 + b as u32;
+    for _ in 0..count {
+        let (b, next) = bit(s, at)?;
+        n = n * 2 + u32::from(b);
         at = next;
-        left -= 1;
     }
-    Part::Number(n, at)
+    Some((n, at))
 }
 
 // A natural that was read with so many bits, unless it is over its bound.
-fn within(n: u32, bits: usize, bound: u32) -> NaturalRead
+fn within(n: u32, bits: usize, bound: u32) -> Result<(u32, usize), NaturalFault>
     ensures { (p : ℕ) → got_natural p result ≡ at_most bound n (p + bits) }
 {
     if n <= bound {
-        NaturalRead::Read(n, bits)
+        Ok((n, bits))
     } else {
-        NaturalRead::Fault(NaturalFault::OverBound)
+        Err(NaturalFault::OverBound)
     }
 }
 
 // The natural from p on, which is at most `bound`, length by length. A length is refused before its bits are asked for.
-pub fn natural_by_lengths(s: &[u8], p: usize, bound: u32) -> NaturalRead
+pub fn natural_by_lengths(s: &[u8], p: usize, bound: u32) -> Result<(u32, usize), NaturalFault>
     ensures { got_natural p result ≡ natural_up_to (stream_of s.now) bound p }
 {
-    let Part::Number(count, first) = ones(s, p) else {
-        return NaturalRead::Fault(NaturalFault::Ended);
-    };
-    let mut lengths = count;
+    let (lengths, first) = ones(s, p).ok_or(NaturalFault::Ended)?;
     let mut at = first;
     let mut n: u32 = 1;
-    while 0 < lengths {
+    for _ in 0..lengths {
         if limits::NATURAL_LENGTH < n {
-            return NaturalRead::Fault(NaturalFault::TooLong);
+            return Err(NaturalFault::TooLong);
         }
-        let Part::Number(longer, next) = bits_after_one(s, at, n) else {
-            return NaturalRead::Fault(NaturalFault::Ended);
-        };
+        let (longer, next) = bits_after_one(s, at, n).ok_or(NaturalFault::Ended)?;
         n = longer;
         at = next;
-        lengths -= 1;
     }
     let bits = at - p;
     within(n, bits, bound)
@@ -215,63 +155,58 @@ pub fn natural_table() -> [u8; 256]
 }
 
 // The 25 bits from p on, as a number.
-pub fn window(s: &[u8], p: usize) -> WindowRead
+pub fn window(s: &[u8], p: usize) -> Option<u32>
     ensures { got_window p result ≡ code (stream_of s.now) window_bits p }
 {
     let i = p / 8;
     let all = s.len();
-    if all < i + 4 {
-        return WindowRead::Ended;
+    if all < i + 4 || limits::DOSSIER_BYTES < all {
+        return None;
     }
-    if limits::DOSSIER_BYTES < all {
-        return WindowRead::Ended;
-    }
-    WindowRead::Read((common::number_at(s, i) << (p % 8)) >> 7)
+    Some((common::number_at(s, i) << (p % 8)) >> 7)
 }
 
 // The number that is 1 followed by `count` bits of a window from its bit `at` on; 0 where the window has not so many.
 pub fn after_one(w: u32, at: u32, count: u32) -> u32
     ensures { result ≡ after_one w at count }
 {
-    if WINDOW_BITS < count {
-        return 0;
-    }
-    if WINDOW_BITS - count < at {
+    if WINDOW_BITS < count || WINDOW_BITS - count < at {
         return 0;
     }
     (1u32 << count) + (w >> (WINDOW_BITS - count - at)) % (1u32 << count)
 }
 
-// The natural that a window begins with, by the ones that its code begins with and the lengths that these tell of.
-fn natural_in(w: u32) -> Begins
+// The natural that a window begins with, by the ones that its code begins with and the lengths that these tell of, and how many bits it
+// takes; none where its code may go on past the window.
+fn natural_in(w: u32) -> Option<(u32, u32)>
     ensures { (l : List Bit) → Window l w → BeginsWith l result }
 {
     if w < ONE {
-        return Begins::Natural(1, 1);
+        return Some((1, 1));
     }
     if w < TWO_ONES {
-        return Begins::Natural(after_one(w, 2, 1), 3);
+        return Some((after_one(w, 2, 1), 3));
     }
     if w < THREE_ONES {
         let length = after_one(w, 3, 1);
-        return Begins::Natural(after_one(w, 4, length), 4 + length);
+        return Some((after_one(w, 4, length), 4 + length));
     }
     if w < FOUR_ONES {
         let first = after_one(w, 4, 1);
         let length = after_one(w, 5, first);
-        return Begins::Natural(after_one(w, 5 + first, length), 5 + first + length);
+        return Some((after_one(w, 5 + first, length), 5 + first + length));
     }
-    Begins::Longer
+    None
 }
 
 // The natural from p on, which is at most `bound`: from a window, or else length by length.
-pub fn natural(s: &[u8], p: usize, bound: u32) -> NaturalRead
+pub fn natural(s: &[u8], p: usize, bound: u32) -> Result<(u32, usize), NaturalFault>
     ensures { got_natural p result ≡ natural_up_to (stream_of s.now) bound p }
 {
-    let WindowRead::Read(w) = window(s, p) else {
+    let Some(w) = window(s, p) else {
         return natural_by_lengths(s, p, bound);
     };
-    let Begins::Natural(n, bits) = natural_in(w) else {
+    let Some((n, bits)) = natural_in(w) else {
         return natural_by_lengths(s, p, bound);
     };
     within(n, bits as usize, bound)
@@ -292,10 +227,7 @@ pub fn natural_refusal(why: NaturalFault, i: u32) -> Refusal
 fn has_room(all: usize, at: usize, n: usize) -> bool
     ensures { result ≡ leb (at + n) all }
 {
-    if all < n {
-        return false;
-    }
-    at <= all - n
+    n <= all && at <= all - n
 }
 
 // The byte whose top bit is bit k of byte i: what is left of that byte, and the beginning of the next.
@@ -309,37 +241,35 @@ fn byte_from(s: &[u8], i: usize, k: usize) -> u8
     (s[i] << k) + (s[i + 1] >> (8 - k))
 }
 
-// n bytes from p on, into the store from the index `at` on.
-fn bytes(s: &[u8], p: usize, store: &mut [u8], at: usize, n: usize) -> BytesRead
+// n bytes from p on, into the store from the index `at` on, and the position after them.
+fn bytes(s: &[u8], p: usize, store: &mut [u8], at: usize, n: usize) -> Result<usize, BytesFault>
     requires { n ≤ fail_bytes }
     ensures { stored (got_bytes result) store.new ≡ storing (octets (stream_of s.now) n p) store.old at }
 {
     if !has_room(stream_length(s), p, 8 * n) {
-        return BytesRead::Fault(BytesFault::Ended);
+        return Err(BytesFault::Ended);
     }
     if !has_room(store.len(), at, n) {
-        return BytesRead::Fault(BytesFault::NoRoom);
+        return Err(BytesFault::NoRoom);
     }
     let first = p / 8;
     let k = p % 8;
-    let mut j: usize = 0;
-    while j < n {
+    for j in 0..n {
         let b = byte_from(s, first + j, k);
         store[at + j] = b;
-        j += 1;
     }
-    BytesRead::Read(p + 8 * n)
+    Ok(p + 8 * n)
 }
 
 // The 32 bytes of a hash.
-pub fn hash_bytes(s: &[u8], p: usize, store: &mut [u8], at: usize) -> BytesRead
+pub fn hash_bytes(s: &[u8], p: usize, store: &mut [u8], at: usize) -> Result<usize, BytesFault>
     ensures { stored (got_bytes result) store.new ≡ storing (octets (stream_of s.now) hash_bytes p) store.old at }
 {
     bytes(s, p, store, at, limits::HASH_BYTES)
 }
 
 // The 64 bytes of a fail node.
-pub fn fail_bytes(s: &[u8], p: usize, store: &mut [u8], at: usize) -> BytesRead
+pub fn fail_bytes(s: &[u8], p: usize, store: &mut [u8], at: usize) -> Result<usize, BytesFault>
     ensures { stored (got_bytes result) store.new ≡ storing (octets (stream_of s.now) fail_bytes p) store.old at }
 {
     bytes(s, p, store, at, limits::FAIL_BYTES)
@@ -350,10 +280,7 @@ pub fn closes(s: &[u8], p: usize) -> bool
     ensures { result ≡ closes (stream_of s.now) p }
 {
     let all = stream_length(s);
-    if all < p {
-        return false;
-    }
-    if 8 <= all - p {
+    if all < p || 8 <= all - p {
         return false;
     }
     if all == p {

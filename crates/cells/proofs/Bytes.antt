@@ -6,7 +6,7 @@ use mathlib.Core.List.{List, [], ◌∷◌, ◌++◌}
 use Prim.Native.Nat.{ℕ, zero, suc, ◌+◌, ◌*◌, ◌-◌, ◌/◌, ◌%◌, ◌^◌, ◌≤◌, ◌<◌}
 use native.Mathlib.Nat.{not-suc-le-zero}
 use native.Mathlib.Omega.{arith}
-use lib.Dec.{T, leb, ltb, leb→le, ltb→lt, lit<}
+use lib.Dec.{T, ltb, ltb→lt, lit<}
 use lib.Ieee.Bits.{is_true}
 use lib.ListN.{length, get_or, set, length-append, length-replicate, replicate-append-replicate, get_or-eq_default}
 use lib.Seq.{sets, set-append_left, set_out, take_all}
@@ -21,20 +21,12 @@ use Rattle.bititer.proofs.Octets.{byte_split}
 use Rattle.common.specs.Cells.{bits_from}
 use Rattle.cells.proofs.Parts.{length_bits_from, bits_within, bits_alike}
 
--- the unit of a byte's bit k, what stands there, and the byte with bit b there, as the code computes them
-abbrev pub unit : ℕ → ℕ
-unit k = 1 * 2 ^ (7 - k) % 256
-
-abbrev pub held : ℕ → ℕ → ℕ
-held x k = x / 2 ^ (7 - k) % 2 * unit k
-
+-- the byte with bit b as its bit k, as the code computes it: what stood there is taken away
 abbrev pub with_bit : ℕ → ℕ → ℕ → ℕ
-with_bit x k b = x - held x k + b * unit k
+with_bit x k b = let unit = 1 * 2 ^ (7 - k) % 256 in x - x / 2 ^ (7 - k) % 2 * unit + b * unit
 
 bit_rule : (k b x : ℕ) → Bool
-bit_rule k b x =
-    both (leb (held x k) x)
-    (both (ltb (b * unit k) 256) (both (ltb (with_bit x k b) 256) (same (byte_bits (with_bit x k b)) (set (byte_bits x) k b))))
+bit_rule k b x = both (ltb (with_bit x k b) 256) (same (byte_bits (with_bit x k b)) (set (byte_bits x) k b))
 
 every_bit : T (below (λ k. below (λ b. below (bit_rule k b) 256) 2) 8)
 unfolding bit_rule same
@@ -42,29 +34,18 @@ every_bit = tt
 
 -- the same as facts
 pub record BitSet (x k b : ℕ) : Type 0 where
-  pub held_fits : held x k ≤ x
-  pub unit_fits : b * unit k < 256
   pub fits : with_bit x k b < 256
   pub bits : byte_bits (with_bit x k b) ≡ set (byte_bits x) k b
 
 pub bit_set : (x k b : ℕ) → x < 256 → k < 8 → b < 2 → BitSet x k b
 unfolding bit_rule
 bit_set x k b hx hk hb =
-    let p = leb (held x k) x in
-    let q = ltb (b * unit k) 256 in
     let r = ltb (with_bit x k b) 256 in
     let s = same (byte_bits (with_bit x k b)) (set (byte_bits x) k b) in
-    let t : T (both p (both q (both r s))) =
+    let t : T (both r s) =
     below_at (bit_rule k b) 256 x
     (below_at (λ c. below (bit_rule k c) 256) 2 b (below_at (λ j. below (λ c. below (bit_rule j c) 256) 2) 8 k every_bit hk) hb) hx in
-    let u = both_right p (both q (both r s)) t in
-    let v = both_right q (both r s) u in
-    record {
-      held_fits = leb→le _ _ (both_left p (both q (both r s)) t);
-      unit_fits = ltb→lt _ _ (both_left q (both r s) u);
-      fits = ltb→lt _ _ (both_left r s v);
-      bits = same_equal _ _ (is_true _ (both_right r s v));
-    }
+    record { fits = ltb→lt _ _ (both_left r s t); bits = same_equal _ _ (is_true _ (both_right r s t)) }
 
 -- a byte with its bit k set, in its string
 set_bits : (s : List ℕ) (i k x b : ℕ) → i < length s → k < 8 → byte_bits x ≡ set (byte_bits (get_or s i 0)) k b
@@ -134,6 +115,11 @@ bits_padded [] (suc n) =
     let e : 8 * suc n ≡ 8 + 8 * n = omega arith in
     ap (λ (t : List ℕ). byte_bits 0 ++ t) (bits_padded [] n) ∙ replicate-append-replicate 8 (8 * n) 0 ∙ ap zeros (sym e)
 bits_padded (x ∷ s) n = ap (λ (t : List ℕ). byte_bits x ++ t) (bits_padded s n)
+
+-- the bits of zero bytes
+pub zero_bits : (n : ℕ) → bits_of (zeros n) ≡ zeros (8 * n)
+unfolding bits_of
+zero_bits n = bits_padded [] n
 
 -- eight bits of a string are a byte's
 small_from : (s : List ℕ) (p n i : ℕ) → get_or (bits_from (bits_of s) p n) i 0 < 2

@@ -4,7 +4,7 @@ use mathlib.Core.Bool.{true}
 use mathlib.Core.List.{List, ◌++◌}
 use mathlib.Core.Logic.{◌⊎◌, inl, inr, ⊎_elim}
 use Prim.Native.Nat.{ℕ, zero, suc, ◌+◌, ◌-◌, ◌≤◌, ◌<◌}
-use native.Mathlib.Nat.{zero-add, add-zero, add_assoc, sub-zero, not-suc-le-zero}
+use native.Mathlib.Nat.{zero-add, add-zero, add_assoc, not-suc-le-zero}
 use native.Mathlib.Omega.{arith}
 use native.Mathlib.Decide.{dec_lt}
 use borrow.Author.Tests.{leb-true}
@@ -15,9 +15,6 @@ use Rattle.common.specs.Cells.{copy_bits, bits_from, length_copied}
 use Rattle.cells.proofs.Parts.{bits_set}
 
 -- the loop that copies
-pub copy_start : (l : List ℕ) (f t n : ℕ) → copy_bits l f t n ≡ copy_bits l (f + 0) (t + 0) (n - 0)
-copy_start l f t n = rw (add-zero f, add-zero t, sub-zero n)
-
 pub copy_turn : (l m : List ℕ) (f t n i r : ℕ) → copy_bits l (f + i) (t + i) (n - i) ≡ copy_bits m (f + i + r) (t + i + r) (n - i - r)
     → copy_bits l (f + i) (t + i) (n - i) ≡ copy_bits m (f + (i + r)) (t + (i + r)) (n - (i + r))
 copy_turn l m f t n i r e =

@@ -4,7 +4,7 @@ use mathlib.Core.Path.{◌≡◌, refl, ap, ap₂, sym, ◌∙◌}
 use mathlib.Core.List.{List, [], ◌∷◌}
 use mathlib.Core.Logic.{◌⊎◌, inl, inr, ⊎_elim}
 use Prim.Native.Nat.{ℕ, zero, suc, ◌+◌, ◌*◌, ◌-◌, ◌/◌, ◌%◌, ◌≤◌, ◌<◌}
-use native.Mathlib.Nat.{zero-add, add-zero, add_assoc, sub-zero}
+use native.Mathlib.Nat.{zero-add, add-zero, add_assoc}
 use native.Mathlib.Omega.{arith}
 use lib.ListN.{length, get_or, set, take, drop}
 use lib.Seq.{sets, drop-cons, get_or-set_other}
@@ -81,9 +81,6 @@ pub eight_zeros : (l m : List ℕ) (t : ℕ) → t % 8 ≡ 0 → m ≡ sets l (8
 eight_zeros l m t h q = let z : 8 * (t / 8) ≡ t = omega arith in q ∙ ap (λ (i : ℕ). sets l i (zeros 8)) z
 
 -- the loops that put bits and that clear
-pub put_start : (l s : List ℕ) (p t n : ℕ) → sets l t (bits_from s p n) ≡ sets l (t + 0) (bits_from s (p + 0) (n - 0))
-put_start l s p t n = rw (add-zero p, add-zero t, sub-zero n)
-
 pub put_turn : (l m s : List ℕ) (p t n i r : ℕ) → sets l (t + i) (bits_from s (p + i) (n - i)) ≡ sets m (t + i + r) (bits_from s (p + i + r) (n - i - r))
     → sets l (t + i) (bits_from s (p + i) (n - i)) ≡ sets m (t + (i + r)) (bits_from s (p + (i + r)) (n - (i + r)))
 put_turn l m s p t n i r e =
@@ -94,14 +91,8 @@ pub put_done : (l s : List ℕ) (p t n i : ℕ) → n ≤ i → sets l t (bits_f
 unfolding bits_from
 put_done l s p t n i h = let e : n - i ≡ 0 = omega arith in rw e
 
-pub zero_start : (l : List ℕ) (t n : ℕ) → sets l t (zeros n) ≡ sets l (t + 0) (zeros (n - 0))
-zero_start l t n = rw (add-zero t, sub-zero n)
-
 pub zero_turn : (l m : List ℕ) (t n i r : ℕ) → sets l (t + i) (zeros (n - i)) ≡ sets m (t + i + r) (zeros (n - i - r))
     → sets l (t + i) (zeros (n - i)) ≡ sets m (t + (i + r)) (zeros (n - (i + r)))
 zero_turn l m t n i r e =
     let u : n - i - r ≡ n - (i + r) = omega arith in
     e ∙ rw (add_assoc t i r, u)
-
-pub zero_done : (l : List ℕ) (t n i : ℕ) → n ≤ i → sets l t (zeros (n - i)) ≡ l
-zero_done l t n i h = let e : n - i ≡ 0 = omega arith in rw e

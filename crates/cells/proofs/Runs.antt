@@ -1,4 +1,4 @@
--- Whole bytes in a run: the bits of a byte in its string, what a turn of a loop over bytes leaves where they are copied, put or cleared,
+-- Whole bytes in a run: the bits of a byte in its string, what a turn of the loop that copies bytes leaves, what bytes put at once leave,
 -- and what is left of the cells when all bytes that they fill are done.
 use mathlib.Core.Path.{◌≡◌, refl, ap, ap₂, sym, ◌∙◌}
 use mathlib.Core.List.{List, [], ◌∷◌, ◌++◌}
@@ -7,12 +7,16 @@ use Prim.Native.Nat.{ℕ, zero, suc, ◌+◌, ◌*◌, ◌-◌, ◌/◌, ◌%◌
 use native.Mathlib.Nat.{zero-add, add-zero}
 use native.Mathlib.Omega.{arith}
 use native.Mathlib.Decide.{dec_lt}
-use lib.ListN.{length, get_or, set}
-use lib.Seq.{sets, get_or-append-add}
+use lib.ListN.{length, get_or, set, take, drop}
+use lib.Seq.{sets, drop-drop, get_or-append-add, length-take-le}
+use borrow.Rule.Slice.PartMut.{put_mid}
+use Rattle.std.proofs.lemmas.List.{take-append-drop, take_at, drop_at, append_assoc, length-drop}
+use Rattle.std.proofs.lemmas.List.Edits.{sets-eq}
 use Rattle.report.specs.Bits.{byte_bits, bits_of}
 use Rattle.scope.specs.Numbers.{zeros}
+use Rattle.common.specs.Bits.{length_bits, bits_append}
 use Rattle.common.specs.Cells.{copy_bits, bits_from}
-use Rattle.cells.proofs.Parts.{zeros_from, put_step, zero_step}
+use Rattle.cells.proofs.Parts.{zeros_from, bits_within, put_step, zero_step}
 use Rattle.cells.proofs.Bytes.{byte_set}
 use Rattle.cells.proofs.Copies.{copy_step}
 
@@ -56,21 +60,42 @@ module _ (s : List ℕ) (b k i x : ℕ) (more : i < k) (inside : b + i < length 
       (⊎_elim (λ h. inl (omega arith)) (λ h. inr (omega arith)) a) (stored ∙ ap (sets (bits_of s) (8 * b + 8 * i)) e)
       ∙ (λ j. copy_bits (bits_of (set s (b + i) x)) (next f j) (next (8 * b) j) (left j))
 
-  pub put_byte : (l : List ℕ) (p : ℕ) → byte_bits x ≡ bits_from l (p + 8 * i) 8
-      → sets (bits_of s) (8 * b + 8 * i) (bits_from l (p + 8 * i) (8 * k - 8 * i))
-      ≡ sets (bits_of (set s (b + i) x)) (8 * b + 8 * (i + 1)) (bits_from l (p + 8 * (i + 1)) (8 * k - 8 * (i + 1)))
-  put_byte l p e =
-      put_step (bits_of s) (bits_of (set s (b + i) x)) l (p + 8 * i) (8 * b + 8 * i) (8 * k - 8 * i) 8 (omega arith)
-      (stored ∙ ap (sets (bits_of s) (8 * b + 8 * i)) e)
-      ∙ (λ j. sets (bits_of (set s (b + i) x)) (next (8 * b) j) (bits_from l (next p j) (left j)))
+-- whole bytes put at once: the bits before them, theirs, and those behind them
+bits_front : (s : List ℕ) (b : ℕ) → b ≤ length s → take (8 * b) (bits_of s) ≡ bits_of (take b s)
+bits_front s b h =
+    let e : length (bits_of (take b s)) ≡ 8 * b = length_bits (take b s) ∙ ap (λ (n : ℕ). 8 * n) (length-take-le b s h) in
+    ap (λ (t : List ℕ). take (8 * b) (bits_of t)) (sym (take-append-drop b s))
+    ∙ ap (take (8 * b)) (bits_append (take b s) (drop b s))
+    ∙ take_at (bits_of (take b s)) (bits_of (drop b s)) (8 * b) e
 
-  pub zero_byte : x ≡ 0
-      → sets (bits_of s) (8 * b + 8 * i) (zeros (8 * k - 8 * i))
-      ≡ sets (bits_of (set s (b + i) x)) (8 * b + 8 * (i + 1)) (zeros (8 * k - 8 * (i + 1)))
-  zero_byte e =
-      zero_step (bits_of s) (bits_of (set s (b + i) x)) (8 * b + 8 * i) (8 * k - 8 * i) 8 (omega arith)
-      (stored ∙ ap (λ (y : ℕ). sets (bits_of s) (8 * b + 8 * i) (byte_bits y)) e)
-      ∙ (λ j. sets (bits_of (set s (b + i) x)) (next (8 * b) j) (zeros (left j)))
+bits_rest : (s : List ℕ) (b : ℕ) → b ≤ length s → drop (8 * b) (bits_of s) ≡ bits_of (drop b s)
+bits_rest s b h =
+    let e : length (bits_of (take b s)) ≡ 8 * b = length_bits (take b s) ∙ ap (λ (n : ℕ). 8 * n) (length-take-le b s h) in
+    ap (λ (t : List ℕ). drop (8 * b) (bits_of t)) (sym (take-append-drop b s))
+    ∙ ap (drop (8 * b)) (bits_append (take b s) (drop b s))
+    ∙ drop_at (bits_of (take b s)) (bits_of (drop b s)) (8 * b) e
+
+pub bytes_put : (s ys : List ℕ) (b k : ℕ) → length ys ≡ k → b + k ≤ length s → bits_of (put_mid b k s ys) ≡ sets (bits_of s) (8 * b) (bits_of ys)
+bytes_put s ys b k e h =
+    let n : length (bits_of ys) ≡ 8 * k = length_bits ys ∙ ap (λ (m : ℕ). 8 * m) e in
+    let behind : 8 * b + length (bits_of ys) ≡ 8 * (b + k) = omega arith in
+    let room : 8 * b + length (bits_of ys) ≤ length (bits_of s) = omega (arith, length_bits s) in
+    let right : sets (bits_of s) (8 * b) (bits_of ys) ≡ bits_of (take b s) ++ bits_of ys ++ bits_of (drop (b + k) s) =
+    sets-eq (bits_of ys) (bits_of s) (8 * b) room
+    ∙ ap₂ (λ (x y : List ℕ). x ++ bits_of ys ++ y) (bits_front s b (omega arith))
+    (ap (λ (j : ℕ). drop j (bits_of s)) behind ∙ bits_rest s (b + k) h) in
+    bits_append (take b s) (ys ++ drop k (drop b s))
+    ∙ ap (λ (x : List ℕ). bits_of (take b s) ++ x) (bits_append ys (drop k (drop b s)) ∙ ap (λ (x : List ℕ). bits_of ys ++ bits_of x) (drop-drop k b s))
+    ∙ sym (append_assoc (bits_of (take b s)) (bits_of ys) (bits_of (drop (b + k) s)))
+    ∙ sym right
+
+-- the bits of bytes within a string are a part of its bits
+pub bits_of_part : (s : List ℕ) (a k : ℕ) → a + k ≤ length s → bits_of (take k (drop a s)) ≡ bits_from (bits_of s) (8 * a) (8 * k)
+bits_of_part s a k h =
+    let room : 8 * a + 8 * k ≤ length (bits_of s) = omega (arith, length_bits s) in
+    sym (bits_within (bits_of s) (8 * a) (8 * k) room
+    ∙ ap (take (8 * k)) (bits_rest s a (omega arith))
+    ∙ bits_front (drop a s) k (omega (arith, length-drop a s)))
 
 -- part by part
 copy_add : (l : List ℕ) (f t m n : ℕ) → copy_bits l f t (m + n) ≡ copy_bits (copy_bits l f t m) (f + m) (t + m) n

@@ -53,11 +53,11 @@ fn eight_at(cells: &[u8], p: usize) -> u8
 {
     let i = p / 8;
     let k = p % 8;
-    let first = common::byte_at(cells, i);
+    let first = common::entry_or(cells, i, 0);
     if k == 0 {
         return first;
     }
-    (first << k) + (common::byte_at(cells, i + 1) >> (8 - k))
+    (first << k) + (common::entry_or(cells, i + 1, 0) >> (8 - k))
 }
 
 // The byte at i set to x.
@@ -74,10 +74,8 @@ fn copy_bytes(cells: &mut [u8], a: usize, b: usize, k: usize)
     requires { (a + k ≤ length cells.old) × (b + k ≤ length cells.old) }
     ensures { bits_of cells.new ≡ copy_bits (bits_of cells.old) (8 * a) (8 * b) (8 * k) }
 {
-    let mut i: usize = 0;
-    while i < k {
+    for i in 0..k {
         cells[b + i] = cells[a + i];
-        i += 1;
     }
 }
 
@@ -86,11 +84,7 @@ fn zero_bytes(cells: &mut [u8], b: usize, k: usize)
     requires { b + k ≤ length cells.old }
     ensures { bits_of cells.new ≡ sets (bits_of cells.old) (8 * b) (zeros (8 * k)) }
 {
-    let mut done: usize = 0;
-    while done < k {
-        cells[b + done] = 0;
-        done += 1;
-    }
+    cells[b..b + k].fill(0);
 }
 
 // k bytes of a source from byte a on, put into the cells from byte b on.
@@ -98,11 +92,14 @@ fn put_bytes(source: &[u8], a: usize, k: usize, cells: &mut [u8], b: usize)
     requires { (a + k ≤ length source.now) × (b + k ≤ length cells.old) }
     ensures { bits_of cells.new ≡ sets (bits_of cells.old) (8 * b) (bits_from (bits_of source.now) (8 * a) (8 * k)) }
 {
-    let mut put: usize = 0;
-    while put < k {
-        cells[b + put] = source[a + put];
-        put += 1;
-    }
+    cells[b..b + k].copy_from_slice(&source[a..a + k]);
+}
+
+// How many cells stand before the first byte that begins at p or behind it.
+fn before_byte(p: usize) -> usize
+    ensures { (result < 8) × ((p + result) % 8 ≡ 0) }
+{
+    (8 - p % 8) % 8
 }
 
 // The first of n cells copied, up to the end of the last byte that they fill: what stands before the first whole byte one by one, then all
@@ -119,17 +116,14 @@ fn copy_front(cells: &mut [u8], from: usize, to: usize, n: usize) -> usize
     {
         return 0;
     }
-    let mut i: usize = 0;
-    while (to + i) % 8 != 0 {
+    let lead = before_byte(to);
+    for i in 0..lead {
         let x = cell(cells, from + i);
         put_cell(cells, to + i, x);
-        i += 1;
     }
-    let a = (from + i) / 8;
-    let b = (to + i) / 8;
-    let k = (n - i) / 8;
-    copy_bytes(cells, a, b, k);
-    i + 8 * k
+    let k = (n - lead) / 8;
+    copy_bytes(cells, (from + lead) / 8, (to + lead) / 8, k);
+    lead + 8 * k
 }
 
 // The first of n cells set to 0, up to the end of the last byte that they fill: what stands before the first whole byte one by one, then
@@ -141,15 +135,13 @@ fn zero_front(cells: &mut [u8], at: usize, n: usize) -> usize
     if n < LEAST_RUN || cells.len() < (at + n) / 8 {
         return 0;
     }
-    let mut i: usize = 0;
-    while (at + i) % 8 != 0 {
+    let lead = before_byte(at);
+    for i in 0..lead {
         put_cell(cells, at + i, 0);
-        i += 1;
     }
-    let b = (at + i) / 8;
-    let k = (n - i) / 8;
-    zero_bytes(cells, b, k);
-    i + 8 * k
+    let k = (n - lead) / 8;
+    zero_bytes(cells, (at + lead) / 8, k);
+    lead + 8 * k
 }
 
 // The first of n bits of a source put into the cells, up to the end of the last byte that they fill: what stands before the first whole
@@ -167,17 +159,14 @@ fn put_front(source: &[u8], p: usize, n: usize, cells: &mut [u8], at: usize) -> 
     {
         return 0;
     }
-    let mut i: usize = 0;
-    while (at + i) % 8 != 0 {
+    let lead = before_byte(at);
+    for i in 0..lead {
         let x = cell(source, p + i);
         put_cell(cells, at + i, x);
-        i += 1;
     }
-    let a = (p + i) / 8;
-    let b = (at + i) / 8;
-    let k = (n - i) / 8;
-    put_bytes(source, a, k, cells, b);
-    i + 8 * k
+    let k = (n - lead) / 8;
+    put_bytes(source, (p + lead) / 8, k, cells, (at + lead) / 8);
+    lead + 8 * k
 }
 
 // The first of n cells to be copied, eight at once where they fill a byte and none of them is written before it is read; how many they are.

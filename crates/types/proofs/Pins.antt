@@ -4,12 +4,8 @@ use Rattle.promise.specs.Outcomes.{OneResult}
 use Rattle.common.specs.Answers.{check_tells}
 use Rattle.types.proofs.check_types.Kinds as check-types-kinds
 use Rattle.types.proofs.check_types.Reads as check-types-reads
-use Rattle.types.proofs.next_at.Kinds as next-at-kinds
-use Rattle.types.proofs.next_at.Reads as next-at-reads
 use Rattle.types.proofs.record_at.Kinds as record-at-kinds
 use Rattle.types.proofs.record_at.Reads as record-at-reads
-use Rattle.types.proofs.width_at.Kinds as width-at-kinds
-use Rattle.types.proofs.width_at.Reads as width-at-reads
 use Rattle.types.proofs.is_unit.Kinds as is-unit-kinds
 use Rattle.types.proofs.is_unit.Reads as is-unit-reads
 use Rattle.types.proofs.is_sum.Kinds as is-sum-kinds
@@ -33,12 +29,6 @@ use Rattle.types.proofs.types_hold.Reads as types-hold-reads
 
 pub record_at_lem : OneResult 1 record-at-kinds.ps record-at-kinds.r record-at-reads.Post
 record_at_lem κs a s t x y p q = p ∙ sym q
-
-pub width_at : OneResult 1 width-at-kinds.ps width-at-kinds.r width-at-reads.Post
-width_at κs a s t x y p q = p ∙ sym q
-
-pub next_at_lem : OneResult 1 next-at-kinds.ps next-at-kinds.r next-at-reads.Post
-next_at_lem κs a s t x y p q = p ∙ sym q
 
 pub is_unit_lem : OneResult 1 is-unit-kinds.ps is-unit-kinds.r is-unit-reads.Post
 is_unit_lem κs a s t x y p q = p ∙ sym q

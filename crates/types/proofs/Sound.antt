@@ -9,6 +9,7 @@ use Prim.Native.Nat.{ℕ, zero, suc, ◌≤◌, ◌<◌}
 use native.Mathlib.Decide.{dec_lt}
 use native.Mathlib.Nat.{not-suc-le-zero}
 use native.Mathlib.Omega.{arith}
+use Rattle.std.specs.Prelude.{Ok, Err}
 use lib.Dec.{leb, eqb}
 use lib.ListN.{length, get_or}
 use borrow.Author.Tests.{leb-true, eq-eqb, ne_eqb}
@@ -24,7 +25,6 @@ use Rattle.common.specs.Checks.{every_all, counted-passed, each-passed, each_hol
 use Rattle.common.specs.Types.{parts_below, PartsKept, type_past, type_step}
 use Rattle.types.specs.Records.{unpadded, unpadded_mark, unpadded_from, pass_over, padded_next, next_from, next_at}
 use Rattle.types.specs.Table.{check_table, type_answer, good_records, array_of, type_widths, type_next}
-use Rattle.types.specs.declared.TypeAnswer.TheVariants.{Records, Refused}
 use Rattle.types.proofs.Check.{width_for, array_at, array_past}
 use Rattle.types.proofs.Core.{core, Alike, core_alike, Matters, core_matters}
 use Rattle.types.proofs.Laws.{next_step}
@@ -71,10 +71,10 @@ passed_table bytes n e = go (counted (length (type_records bytes)) type_count) (
     go (refused r) d p q e = let z : ◌≡◌ {A = ℕ} 0 1 = cc in absurd (omega arith)
 
 -- the same, from what a call answers
-pub answered : (bytes : List ℕ) (n : ℕ) → type_answer (check_table bytes) ≡ Records n → Passed bytes n
+pub answered : (bytes : List ℕ) (n : ℕ) → type_answer (check_table bytes) ≡ Ok n → Passed bytes n
 answered bytes n e = go (check_table bytes) refl e
   where
-    go : (c : Check ℕ) → check_table bytes ≡ c → type_answer c ≡ Records n → Passed bytes n
+    go : (c : Check ℕ) → check_table bytes ≡ c → type_answer c ≡ Ok n → Passed bytes n
     go (passed m) p e = let z : m ≡ n = cc in passed_table bytes n (p ∙ ap passed z)
     go (refused r) p e = let z : ◌≡◌ {A = ℕ} 0 1 = cc in absurd (omega arith)
 
@@ -84,12 +84,12 @@ RefusedFor bytes r =
     (counted (length (type_records bytes)) type_count ≡ refused r)
     ⊎ (counted (length (type_records bytes)) type_count ≡ passed tt) × (check_types (type_records bytes) ≡ refused r)
 
-pub refused_table : (bytes : List ℕ) (r : Refusal) → type_answer (check_table bytes) ≡ Refused r → RefusedFor bytes r
+pub refused_table : (bytes : List ℕ) (r : Refusal) → type_answer (check_table bytes) ≡ Err r → RefusedFor bytes r
 unfolding check_table ◌>>=◌
 refused_table bytes r e = go (counted (length (type_records bytes)) type_count) (check_types (type_records bytes)) refl refl e
   where
     go : (c d : Check (Unit {0})) → counted (length (type_records bytes)) type_count ≡ c → check_types (type_records bytes) ≡ d
-        → type_answer (c >>= λ x. (d >>= λ y. passed (length (type_records bytes)))) ≡ Refused r → RefusedFor bytes r
+        → type_answer (c >>= λ x. (d >>= λ y. passed (length (type_records bytes)))) ≡ Err r → RefusedFor bytes r
     go (passed x) (passed y) p q e = let z : ◌≡◌ {A = ℕ} 0 1 = cc in absurd (omega arith)
     go (passed x) (refused s) p q e = let z : s ≡ r = cc in inr (p, q ∙ ap refused z)
     go (refused s) d p q e = let z : s ≡ r = cc in inl (p ∙ ap refused z)

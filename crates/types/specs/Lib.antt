@@ -1,2 +1,3 @@
+pub mod Tags
 pub mod Records
 pub mod Table

@@ -1,15 +1,13 @@
 -- One record of the type table: its width from the widths of its parts, whether it keeps the rules, and how a value of it goes on.
 -- A type without padding has a mark: its compact bits are its cells. Of the others a product with a part of width 0 is passed over
 -- for its other part, and any other record matters itself.
-use Rattle.std.specs.Prelude.{Bool, true, false, List, [], ◌∷◌, ℕ, zero, suc, ◌+◌, max, leb, eqb, length}
+use Rattle.std.specs.Prelude.{Bool, true, false, Option, Some, None, List, [], ◌∷◌, ℕ, zero, suc, ◌+◌, max, leb, eqb, length}
 use Rattle.std.proofs.Math.ListN.{get_or}
 use Rattle.limits.specs.Limits.{type_width}
 use Rattle.report.specs.Table.{entries}
 use Rattle.report.specs.Types.{Ty, one, sum, prod, width}
 use Rattle.scope.specs.Numbers.{every, any_below}
 use Rattle.scope.specs.Types.{TypeRecord, ty_at, type_at, same_type, parts_rule}
-use Rattle.types.specs.declared.Judged.{Judged}
-use Rattle.types.specs.declared.Judged.TheVariants.{Width, Broken}
 
 -- record j is of this tag and of these two parts
 unfoldable pub is_record : (types : List TypeRecord) → (tag j left right : ℕ) → Bool
@@ -23,14 +21,14 @@ parts_width (suc zero) left right = 1 + max left right
 parts_width (suc (suc k)) left right = left + right
 
 -- a record keeps the rules where its parts do, its width fits and no earlier record equals it
-abbrev pub verdict : (parts fits repeated : Bool) → (w : ℕ) → Judged
-verdict true true false w = Width w
-verdict true true true w = Broken
-verdict true false repeated w = Broken
-verdict false fits repeated w = Broken
+abbrev pub verdict : (parts fits repeated : Bool) → (w : ℕ) → Option ℕ
+verdict true true false w = Some w
+verdict true true true w = None
+verdict true false repeated w = None
+verdict false fits repeated w = None
 
 -- record i, where the widths of the earlier records are known
-abbrev pub record_judged : (types : List TypeRecord) → (widths : List ℕ) → (i : ℕ) → Judged
+abbrev pub record_judged : (types : List TypeRecord) → (widths : List ℕ) → (i : ℕ) → Option ℕ
 record_judged types widths i =
     let r = type_at types i in
     let w = parts_width r.tag (get_or widths r.left 0) (get_or widths r.right 0) in

@@ -1,27 +1,22 @@
 -- What the check of a lent type table answers: 4 at 0 for no record or too many, then 2 at the first record that breaks a rule, and else
 -- the count of records; odd bytes at the end are of no record. Beside it, for each record before the first bad one, the width of its type
 -- and its entry, which is the mark of a type without padding or the next record that matters; all else is 0.
-use Rattle.std.specs.Prelude.{Bool, List, [], ◌∷◌, ◌++◌, ℕ, ◌-◌, eqb, length}
+use Rattle.std.specs.Prelude.{Result, Ok, Err, List, ◌++◌, ℕ, ◌-◌, length}
 use Rattle.limits.specs.Limits.{type_count}
+use Rattle.refusal.specs.declared.Refusal.{Refusal}
 use Rattle.report.specs.Types.{width}
 use Rattle.scope.specs.Check.{Check, passed, refused, ◌>>=◌, first_failing}
-use Rattle.scope.specs.Numbers.{zeros, tabulate, every}
+use Rattle.scope.specs.Numbers.{zeros, tabulate}
 use Rattle.scope.specs.Stages.{counted}
 use Rattle.scope.specs.Types as Types
 use Rattle.scope.specs.Types.{type_records, ty_at, type_rule, check_types}
 use Rattle.types.specs.Records.{next_at}
-use Rattle.types.specs.declared.TypeAnswer.{TypeAnswer}
-use Rattle.types.specs.declared.TypeAnswer.TheVariants.{Records, Refused}
 use Rattle.types.specs.declared.TypeRecord.{TypeRecord}
 use Rattle.types.specs.declared.TypeTable.{TypeTable}
 
 -- a record as a call hands it back
 abbrev pub record_of : Types.TypeRecord → TypeRecord
 record_of r = record { tag = r.tag; left = r.left; right = r.right }
-
--- two records are equal, number by number
-abbrev pub same_record : TypeRecord → TypeRecord → Bool
-same_record a b = every (eqb a.tag b.tag ∷ eqb a.left b.left ∷ eqb a.right b.right ∷ [])
 
 -- the check passes with how many records there are
 unfoldable pub check_table : (bytes : List ℕ) → Check ℕ
@@ -32,14 +27,14 @@ check_table bytes = do
   passed (length (type_records bytes))
 
 -- what the check says, as a call answers it
-abbrev pub type_answer : Check ℕ → TypeAnswer
-type_answer (passed n) = Records n
-type_answer (refused r) = Refused r
+abbrev pub type_answer : Check ℕ → Result ℕ Refusal
+type_answer (passed n) = Ok n
+type_answer (refused r) = Err r
 
 -- the same without its count
-abbrev pub without_count : TypeAnswer → Check (Unit {0})
-without_count (Records n) = passed tt
-without_count (Refused why) = refused why
+abbrev pub without_count : Result ℕ Refusal → Check (Unit {0})
+without_count (Ok n) = passed tt
+without_count (Err why) = refused why
 
 -- 4, then 2
 unfoldable pub counted_types : (bytes : List ℕ) → Check (Unit {0})

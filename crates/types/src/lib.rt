@@ -11,47 +11,69 @@ ghost use Rattle.scope.specs.Numbers.{any_below};
 ghost use Rattle.scope.specs.Types.{type_records, type_at, same_type, parts_rule, is_unit, is_sum, is_product, left_at, right_at, is_word};
 ghost use Rattle.scope.specs.Stages.{counted};
 ghost use Rattle.common.specs.Answers.{check_of};
-ghost use Rattle.types.specs.Table.{record_of, same_record, without_count, counted_types, type_table};
+ghost use Rattle.types.specs.Tags.{tag_number, Numbered};
+ghost use Rattle.types.specs.Table.{record_of, without_count, counted_types, type_table};
 ghost use Rattle.types.specs.Records.{is_record, record_judged, parts_width, unpadded_from, next_from, record_next};
 
-use common::Checked;
 use refusal::Refusal;
+
+// What a record is, numbered from 0.
+#[derive(Clone, Copy, Debug, PartialEq, Eq)]
+pub enum Tag {
+    Unit,
+    Sum,
+    Product,
+}
+
+// A number that no tag has.
+#[derive(Clone, Copy, Debug, PartialEq, Eq)]
+pub struct UnknownTag(pub u8);
+
+impl TryFrom<u8> for Tag {
+    type Error = UnknownTag;
+
+    ghost try_from_gives = { Numbered };
+
+    fn try_from(number: u8) -> Result<Self, UnknownTag> {
+        match number {
+            0 => Ok(Tag::Unit),
+            1 => Ok(Tag::Sum),
+            2 => Ok(Tag::Product),
+            _ => Err(UnknownTag(number)),
+        }
+    }
+}
+
+impl From<Tag> for u8 {
+    ghost from_gives = { λ tag n. n ≡ tag_number tag };
+
+    fn from(tag: Tag) -> u8 {
+        tag as u8
+    }
+}
 
 // What stands for a type without padding in place of a next record: the index of no record.
 pub const UNPADDED: u16 = 65_535;
 
-// What the check says: how many records there are, or why there is no table.
-#[derive(Clone, Copy)]
-pub enum TypeAnswer {
-    Records(usize),
-    Refused(Refusal),
-}
-
-// A checked table: the answer, and for each record the width of its type and its entry: UNPADDED, or the next record that matters.
-// Where a record is refused the arrays end before it; entries of no record are 0.
+// A checked table: how many records there are, or why they are refused, and for each record the width of its type and its entry:
+// UNPADDED, or the next record that matters. Where a record is refused the arrays end before it; entries of no record are 0.
 #[derive(Drop)]
 pub struct TypeTable {
-    pub answer: TypeAnswer,
+    pub answer: Result<usize, Refusal>,
     pub widths: [u32; limits::TYPE_COUNT],
     pub next: [u16; limits::TYPE_COUNT],
 }
 
-// A record: tag 0 is unit, 1 a sum, 2 a product; the parts are indices of earlier records.
-#[derive(Clone, Copy)]
+// A record: the number of its tag, and its parts, which are indices of earlier records.
+#[derive(Clone, Copy, PartialEq, Eq)]
 pub struct TypeRecord {
     pub tag: u8,
     pub left: u16,
     pub right: u16,
 }
 
-// Whether a record keeps the rules, and the width of its type.
-#[derive(Drop)]
-enum Judged {
-    Width(u32),
-    Broken,
-}
-
 // Record i; past the end of the table a record of no tag.
+#[tactic(auto, using(crate::proofs::Records::record_in), unfolding(scope::specs::Types::type_record))]
 pub fn record_at(types: &[u8], i: usize) -> TypeRecord
     ensures { result ≡ record_of (type_at (type_records types.now) i) }
 {
@@ -70,57 +92,42 @@ pub fn record_at(types: &[u8], i: usize) -> TypeRecord
     }
 }
 
-// The width of type i, by the widths of a table; 0 past the end.
-pub fn width_at(widths: &[u32], i: usize) -> u32
-    ensures { result ≡ get_or widths.now i 0 }
-{
-    common::entry_at(widths, i)
-}
-
-// The entry of record i, by a table; 0 past the end.
-pub fn next_at(next: &[u16], i: usize) -> u16
-    ensures { result ≡ get_or next.now i 0 }
-{
-    if i < next.len() { next[i] } else { 0 }
-}
-
 // Whether type j is of this tag and of these two parts.
-fn is_record(types: &[u8], j: usize, tag: u8, left: usize, right: usize) -> bool
-    ensures { result ≡ is_record (type_records types.now) tag j left right }
+#[tactic(auto, unfolding(crate::specs::Records::is_record, scope::specs::Numbers::every))]
+fn is_record(types: &[u8], j: usize, tag: Tag, left: usize, right: usize) -> bool
+    ensures { result ≡ is_record (type_records types.now) (tag_number tag) j left right }
 {
     let own = record_at(types, j);
-    if own.tag != tag {
-        return false;
-    }
-    if common::index(own.left) != left {
-        return false;
-    }
-    common::index(own.right) == right
+    own.tag == u8::from(tag) && common::index(own.left) == left && common::index(own.right) == right
 }
 
 // Whether type j is unit.
+#[tactic(auto, unfolding(scope::specs::Types::is_unit))]
 pub fn is_unit(types: &[u8], j: usize) -> bool
     ensures { result ≡ is_unit (type_records types.now) j }
 {
     let own = record_at(types, j);
-    own.tag == 0
+    own.tag == u8::from(Tag::Unit)
 }
 
 // Whether type j is the sum of these two.
+#[tactic(auto, unfolding(crate::specs::Records::is_record, scope::specs::Types::is_sum))]
 pub fn is_sum(types: &[u8], j: usize, left: usize, right: usize) -> bool
     ensures { result ≡ is_sum (type_records types.now) j left right }
 {
-    is_record(types, j, 1, left, right)
+    is_record(types, j, Tag::Sum, left, right)
 }
 
 // Whether type j is the product of these two.
+#[tactic(auto, unfolding(crate::specs::Records::is_record, scope::specs::Types::is_product))]
 pub fn is_product(types: &[u8], j: usize, left: usize, right: usize) -> bool
     ensures { result ≡ is_product (type_records types.now) j left right }
 {
-    is_record(types, j, 2, left, right)
+    is_record(types, j, Tag::Product, left, right)
 }
 
 // The left part of type j; record 0 past the table.
+#[tactic(auto, unfolding(scope::specs::Types::left_at))]
 pub fn left_of(types: &[u8], j: usize) -> usize
     ensures { result ≡ left_at (type_records types.now) j }
 {
@@ -129,6 +136,7 @@ pub fn left_of(types: &[u8], j: usize) -> usize
 }
 
 // The right part of type j; record 0 past the table.
+#[tactic(auto, unfolding(scope::specs::Types::right_at))]
 pub fn right_of(types: &[u8], j: usize) -> usize
     ensures { result ≡ right_at (type_records types.now) j }
 {
@@ -137,33 +145,27 @@ pub fn right_of(types: &[u8], j: usize) -> usize
 }
 
 // Whether type j is a sum of units.
+#[tactic(auto, unfolding(scope::specs::Types::is_word, scope::specs::Numbers::every))]
 fn is_bit(types: &[u8], j: usize) -> bool
     ensures { result ≡ is_word (type_records types.now) 0 j }
 {
     let left = left_of(types, j);
     let right = right_of(types, j);
-    if !is_sum(types, j, left, right) {
-        return false;
-    }
-    if !is_unit(types, left) {
-        return false;
-    }
-    is_unit(types, right)
+    is_sum(types, j, left, right) && is_unit(types, left) && is_unit(types, right)
 }
 
 // Whether type j is the very type of words of 2^k bits: down k products of equal parts to a sum of units.
+#[tactic(auto, using(crate::proofs::Words::word_down, crate::proofs::Words::word_stops))]
 pub fn is_word(types: &[u8], k: u32, j: usize) -> bool
     ensures { result ≡ is_word (type_records types.now) k j }
 {
-    let mut left = k;
     let mut at = j;
-    while 0 < left {
+    for _ in 0..k {
         let part = left_of(types, at);
         if !is_product(types, at, part, part) {
             return false;
         }
         at = part;
-        left -= 1;
     }
     is_bit(types, at)
 }
@@ -172,49 +174,30 @@ pub fn is_word(types: &[u8], k: u32, j: usize) -> bool
 pub fn left_width(types: &[u8], widths: &[u32], j: usize) -> u32
     ensures { result ≡ get_or widths.now (left_at (type_records types.now) j) 0 }
 {
-    width_at(widths, left_of(types, j))
+    common::entry_or(widths, left_of(types, j), 0)
 }
 
 // Whether the parts are as the tag asks: unit's are 0, a sum's and a product's are earlier records than i.
-fn parts_fit(tag: u8, left: usize, right: usize, i: usize) -> bool
-    ensures { result ≡ parts_rule [] i tag left right }
+#[tactic(auto, unfolding(scope::specs::Types::parts_rule, scope::specs::Numbers::every))]
+fn parts_fit(tag: Tag, left: usize, right: usize, i: usize) -> bool
+    ensures { result ≡ parts_rule [] i (tag_number tag) left right }
 {
-    if tag == 0 {
-        if left == 0 { right == 0 } else { false }
-    } else if tag <= 2 {
-        if left < i { right < i } else { false }
-    } else {
-        false
+    match tag {
+        Tag::Unit => left == 0 && right == 0,
+        Tag::Sum | Tag::Product => left < i && right < i,
     }
 }
 
 // The width of a record of this tag whose parts have these widths.
-fn parts_width(tag: u8, left: u32, right: u32) -> u64
-    ensures { result ≡ parts_width tag left right }
+fn parts_width(tag: Tag, left: u32, right: u32) -> u64
+    ensures { result ≡ parts_width (tag_number tag) left right }
 {
     let a = common::wide(left);
     let b = common::wide(right);
-    if tag == 0 {
-        0
-    } else if tag == 1 {
-        if a < b { 1 + b } else { 1 + a }
-    } else {
-        a + b
-    }
-}
-
-// Whether two records are equal.
-fn same(a: TypeRecord, b: TypeRecord) -> bool
-    ensures { result ≡ same_record a b }
-{
-    if a.tag == b.tag {
-        if a.left == b.left {
-            a.right == b.right
-        } else {
-            false
-        }
-    } else {
-        false
+    match tag {
+        Tag::Unit => 0,
+        Tag::Sum => 1 + a.max(b),
+        Tag::Product => a + b,
     }
 }
 
@@ -223,72 +206,61 @@ fn repeated(types: &[u8], i: usize) -> bool
     ensures { result ≡ any_below i (same_type (type_records types.now) i) }
 {
     let own = record_at(types, i);
-    let mut j = i;
-    while 0 < j {
-        j -= 1;
-        if same(own, record_at(types, j)) {
-            return true;
-        }
-    }
-    false
+    (0..i).any(|j| record_at(types, j) == own)
 }
 
-// Whether record i keeps the rules, where the widths of the earlier records are known.
-fn judge(types: &[u8], i: usize, widths: &[u32]) -> Judged
+// The width of record i's type, where the widths of the earlier records are known; none where the record breaks a rule.
+#[tactic(auto, using(crate::proofs::Records::rule_any, crate::proofs::Records::rule_of_no_tag))]
+fn judge(types: &[u8], i: usize, widths: &[u32]) -> Option<u32>
     ensures { result ≡ record_judged (type_records types.now) widths.now i }
 {
     let own = record_at(types, i);
+    let Ok(tag) = Tag::try_from(own.tag) else {
+        return None;
+    };
     let left = common::index(own.left);
     let right = common::index(own.right);
-    if !parts_fit(own.tag, left, right, i) {
-        return Judged::Broken;
+    if !parts_fit(tag, left, right, i) {
+        return None;
     }
-    let width = parts_width(own.tag, width_at(widths, left), width_at(widths, right));
-    if common::wide(limits::TYPE_WIDTH) < width {
-        return Judged::Broken;
+    let width = parts_width(
+        tag,
+        common::entry_or(widths, left, 0),
+        common::entry_or(widths, right, 0),
+    );
+    if common::wide(limits::TYPE_WIDTH) < width || repeated(types, i) {
+        return None;
     }
-    if repeated(types, i) {
-        return Judged::Broken;
-    }
-    Judged::Width(width as u32)
+    Some(width as u32)
 }
 
 // Whether no value of a record of this tag has padding, of the widths and the entries of its parts.
-fn unpadded(tag: u8, a: u32, b: u32, left: u16, right: u16) -> bool
-    ensures { result ≡ unpadded_from tag a b left right }
+#[tactic(auto, unfolding(scope::specs::Numbers::every))]
+fn unpadded(tag: Tag, a: u32, b: u32, left: u16, right: u16) -> bool
+    ensures { result ≡ unpadded_from (tag_number tag) a b left right }
 {
-    if tag == 0 {
-        return true;
+    match tag {
+        Tag::Unit => true,
+        Tag::Sum => left == UNPADDED && right == UNPADDED && a == b,
+        Tag::Product => left == UNPADDED && right == UNPADDED,
     }
-    if left != UNPADDED {
-        return false;
-    }
-    if right != UNPADDED {
-        return false;
-    }
-    if tag == 1 { a == b } else { true }
 }
 
 // The entry of a record of this tag, of the widths and the entries of its parts and of its own index.
-fn entry(tag: u8, a: u32, b: u32, left: u16, right: u16, own: u16) -> u16
-    ensures { result ≡ next_from tag a b left right own }
+fn entry(tag: Tag, a: u32, b: u32, left: u16, right: u16, own: u16) -> u16
+    ensures { result ≡ next_from (tag_number tag) a b left right own }
 {
     if unpadded(tag, a, b, left, right) {
         return UNPADDED;
     }
-    if tag < 2 {
-        return own;
+    match tag {
+        Tag::Product if a == 0 => right,
+        Tag::Product if b == 0 => left,
+        _ => own,
     }
-    if a == 0 {
-        return right;
-    }
-    if b == 0 {
-        return left;
-    }
-    own
 }
 
-// The entry of record i, where the widths and the entries of the earlier records are known.
+// The entry of record i, where the widths and the entries of the earlier records are known; a record of no tag is read as a product.
 fn next_record(types: &[u8], i: usize, widths: &[u32], next: &[u16]) -> u16
     requires { i < type_count }
     ensures { result ≡ record_next (type_at (type_records types.now) i) widths.now next.now i }
@@ -296,14 +268,16 @@ fn next_record(types: &[u8], i: usize, widths: &[u32], next: &[u16]) -> u16
     let own = record_at(types, i);
     let left = common::index(own.left);
     let right = common::index(own.right);
-    let a = width_at(widths, left);
-    let b = width_at(widths, right);
-    let x = next_at(next, left);
-    let y = next_at(next, right);
-    entry(own.tag, a, b, x, y, i as u16)
+    let a = common::entry_or(widths, left, 0);
+    let b = common::entry_or(widths, right, 0);
+    let x = common::entry_or(next, left, 0);
+    let y = common::entry_or(next, right, 0);
+    let tag = Tag::try_from(own.tag).unwrap_or(Tag::Product);
+    entry(tag, a, b, x, y, i as u16)
 }
 
 // The check of a lent type table.
+#[tactic(auto, using(crate::proofs::Check::check_ways))]
 pub fn check_types(types: &[u8]) -> TypeTable
     ensures { result ≡ type_table types.now }
 {
@@ -312,53 +286,47 @@ pub fn check_types(types: &[u8]) -> TypeTable
     let count = types.len() / limits::TYPE_BYTES;
     if count == 0 || limits::TYPE_COUNT < count {
         return TypeTable {
-            answer: TypeAnswer::Refused(Refusal::Natural(0)),
+            answer: Err(Refusal::Natural(0)),
             widths,
             next,
         };
     }
-    let mut i: usize = 0;
-    while i < count {
-        let Judged::Width(width) = judge(types, i, &widths) else {
+    for i in 0..count {
+        let Some(width) = judge(types, i, &widths) else {
             return TypeTable {
-                answer: TypeAnswer::Refused(Refusal::TypeRecord(i as u32)),
+                answer: Err(Refusal::TypeRecord(i as u32)),
                 widths,
                 next,
             };
         };
         next[i] = next_record(types, i, &widths, &next);
         widths[i] = width;
-        i += 1;
     }
     TypeTable {
-        answer: TypeAnswer::Records(count),
+        answer: Ok(count),
         widths,
         next,
     }
 }
 
 // The table has a record, and not too many (4).
-pub fn type_count(types: &[u8]) -> Checked
+#[tactic(auto, using(crate::proofs::Records::length_records))]
+pub fn type_count(types: &[u8]) -> Result<(), Refusal>
     ensures { check_of result ≡ counted (length (type_records types.now)) type_count }
 {
     common::check_count(types.len() / limits::TYPE_BYTES, limits::TYPE_COUNT)
 }
 
 // What the check of a table said, without the count of its records.
-pub fn without_count(answer: TypeAnswer) -> Checked
+pub fn without_count(answer: Result<usize, Refusal>) -> Result<(), Refusal>
     ensures { check_of result ≡ without_count answer }
 {
-    match answer {
-        TypeAnswer::Records(_) => Checked::Passed,
-        TypeAnswer::Refused(why) => Checked::Refused(why),
-    }
+    answer.map(|_| ())
 }
 
 // The table keeps its rules (2), after its count (4).
-pub fn types_hold(types: &[u8]) -> Checked
+pub fn types_hold(types: &[u8]) -> Result<(), Refusal>
     ensures { check_of result ≡ counted_types types.now }
 {
-    let table = check_types(types);
-    let answer = table.answer;
-    without_count(answer)
+    without_count(check_types(types).answer)
 }

@@ -14,14 +14,14 @@ use Rattle.value.proofs.unpad.Reads as unpad-reads
 pub skip : OneResult 3 skip-kinds.ps skip-kinds.r skip-reads.Post
 skip κs a s t x y p q = p ∙ sym q
 
-pub pad : OneOutcome 4 pad-kinds.ps pad-kinds.r (λ κs a r x. Bytes x.1.1.1.1.1.1.0.now × pad-reads.Post κs a r x)
+pub pad : OneOutcome 4 pad-kinds.ps pad-kinds.r (λ κs a r x. Bytes x.1.1.1.1.0.now × pad-reads.Post κs a r x)
 pad κs a s t v w p q =
     let e = p.1 ∙ sym q.1 in
-    let cells = bits_tell v.1.1.1.1.1.1.0 w.1.1.1.1.1.1.0 p.0 q.0 (ap (λ (o : Padded). o.cells) e) in
-    (ap (λ (o : Padded). o.says) e, λ i. tt & tt & tt & tt & tt & tt & cells i & tt & tt)
+    let cells = bits_tell v.1.1.1.1.0 w.1.1.1.1.0 p.0 q.0 (ap (λ (o : Padded). o.cells) e) in
+    (ap (λ (o : Padded). o.says) e, λ i. tt & tt & tt & tt & cells i & tt & tt)
 
-pub unpad : OneOutcome 4 unpad-kinds.ps unpad-kinds.r (λ κs a r x. Bytes x.1.1.1.1.1.1.0.now × unpad-reads.Post κs a r x)
+pub unpad : OneOutcome 4 unpad-kinds.ps unpad-kinds.r (λ κs a r x. Bytes x.1.1.1.1.0.now × unpad-reads.Post κs a r x)
 unpad κs a s t v w p q =
     let e = p.1 ∙ sym q.1 in
-    let answer = bits_tell v.1.1.1.1.1.1.0 w.1.1.1.1.1.1.0 p.0 q.0 (ap (λ (o : Unpadded). o.bits) e) in
-    (ap (λ (o : Unpadded). o.says) e, λ i. tt & tt & tt & tt & tt & tt & answer i & tt & tt)
+    let answer = bits_tell v.1.1.1.1.0 w.1.1.1.1.0 p.0 q.0 (ap (λ (o : Unpadded). o.bits) e) in
+    (ap (λ (o : Unpadded). o.says) e, λ i. tt & tt & tt & tt & answer i & tt & tt)

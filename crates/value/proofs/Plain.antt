@@ -4,12 +4,14 @@ use mathlib.Core.List.{List, [], ◌∷◌, ◌++◌}
 use Prim.Native.Nat.{ℕ, zero, suc, ◌+◌, ◌≤◌, ◌<◌}
 use native.Mathlib.Decide.{dec_lt}
 use native.Mathlib.Omega.{arith}
+use Rattle.std.specs.Prelude.{Some, None}
 use lib.ListN.{length, get_or, take, drop, length-drop}
 use lib.Seq.{sets, length-take-le}
 use borrow.Author.Tests.{le-leb, lt-leb}
 use Rattle.bititer.proofs.Bits.{bit_small}
-use Rattle.common.specs.Bits.{stream_within}
-use Rattle.bititer.proofs.Streams.{stream_some}
+use Rattle.common.specs.Bits.{stream_within, length_within}
+use Rattle.bititer.proofs.Streams.{stream_some, length_stream, length_over}
+use Rattle.std.proofs.lemmas.Grind.{common_steps}
 use Rattle.cells.proofs.Parts.{bits_within}
 use Rattle.common.specs.Cells.{bits_from}
 use Rattle.report.specs.Bits.{Bit, bits_of}
@@ -17,7 +19,6 @@ use Rattle.scope.specs.Numbers.{stream_of, tabulate_from}
 use Rattle.scope.specs.Run.{cells_of}
 use Rattle.value.specs.Bits.{used, short, tag_of, tags_of, skip_shape, pad_shape, skipped}
 use Rattle.value.specs.Shapes.{plain}
-use Rattle.value.specs.declared.ValueRead.TheVariants.{Next, Short}
 
 -- by how many bits there are
 module _ (n : ℕ) (bs : List Bit) where
@@ -39,21 +40,21 @@ module _ (n : ℕ) (bs : List Bit) where
 
 -- what the answer of skipping tells
 module _ (n p : ℕ) (bs : List Bit) where
-  pub plain_there : (m : ℕ) → Next m ≡ skipped p (skip_shape (plain n) bs) → n ≤ length bs
+  pub plain_there : (m : ℕ) → Some m ≡ skipped p (skip_shape (plain n) bs) → n ≤ length bs
   plain_there m e = elim (dec_lt (length bs) n) [ yes h ↦ absurd (few h) | no h ↦ omega arith ]
     where
       few : length bs < n → ⊥
       few h =
-          let f : Next m ≡ Short = e ∙ ap (skipped p) (skip_few n bs h) in
+          let f : Some m ≡ None = e ∙ ap (skipped p) (skip_few n bs h) in
           let z : ◌≡◌ {A = ℕ} 0 1 = cc in
           omega arith
 
-  pub plain_cut : (d : List Bit) (at : ℕ) → Short ≡ skipped p (skip_shape (plain n) bs) → d ≡ pad_shape (plain n) bs d at
+  pub plain_cut : (d : List Bit) (at : ℕ) → None ≡ skipped p (skip_shape (plain n) bs) → d ≡ pad_shape (plain n) bs d at
   plain_cut d at e = elim (dec_lt (length bs) n) [ yes h ↦ sym (pad_few n bs d at h) | no h ↦ absurd (enough (let l : n ≤ length bs = omega arith in l)) ]
     where
       enough : n ≤ length bs → ⊥
       enough h =
-          let f : Short ≡ Next (p + n) = e ∙ ap (skipped p) (skip_enough n bs h) in
+          let f : None ≡ Some (p + n) = e ∙ ap (skipped p) (skip_enough n bs h) in
           let z : ◌≡◌ {A = ℕ} 0 1 = cc in
           omega arith
 
@@ -95,3 +96,10 @@ module _ (s : List ℕ) where
   unfolding bits_from tabulate_from cells_of
   cells_plain at zero = refl
   cells_plain at (suc n) = ap₂ ◌∷◌ (sym (tag_small (get_or (bits_of s) at 0) (bit_small s at))) (cells_plain (suc at) n)
+
+-- what the functions that count, read and pad such bits are proved by
+pub ruleset left_ways = (common_steps, length_within, length_over)
+
+pub ruleset skip_plain_ways = (common_steps, length_stream, skip_enough, skip_few)
+
+pub ruleset pad_plain_ways = (length_stream, plain_there, plain_cut, stream_plain, pad_enough)

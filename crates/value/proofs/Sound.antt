@@ -25,9 +25,7 @@ use Rattle.types.specs.Records.{pass_over, unpadded, unpadded_mark, next_at}
 use Rattle.types.specs.Table.{type_widths, type_next}
 use Rattle.value.specs.Bits.{skip_shape, pad_shape, unpad_shape, skipped, room, Padded, padding, pad_stage, Unpadded, unpadding, unpad_stage}
 use Rattle.value.specs.Shapes.{Shape, plain, tag, both, falls, step_by, record_for, step_at, shape_at}
-use Rattle.value.specs.declared.ValueRead.{ValueRead}
-use Rattle.value.specs.declared.ValueRead.TheVariants.{Next, Short}
-use Rattle.value.specs.declared.ValueWritten.TheVariants.{Bits, Short as NoRoom}
+use Rattle.std.specs.Prelude.{Option, Some, None}
 use Rattle.value.proofs.Steps.{tag_fits, both_fits, step_narrow, step_marked, step_fits, shape_nothing, shape_plain, shape_tag, shape_both}
 use Rattle.value.proofs.Types.{plain_shape, shape_of, shape_unpadded, shape_sum, shape_product, shape_none, core_padded, shape_core, taken, skip_reads, pad_writes, unpad_writes}
 
@@ -190,23 +188,23 @@ module _ (bytes : List ℕ) (n : ℕ) (ok : Passed bytes n) where
   shape_right i = right_below_lem (suc i) i (omega arith)
 
 -- what the calls answer and leave, in the words of the report
-unfoldable pub read_to : (p : ℕ) → Read → ValueRead
-read_to p (value v rest) = Next (p + length (compact v))
-read_to p short = Short
+unfoldable pub read_to : (p : ℕ) → Read → Option ℕ
+read_to p (value v rest) = Some (p + length (compact v))
+read_to p short = None
 
 unfoldable pub padded_to : Ty → (p : ℕ) → (cells : List Bit) → (at : ℕ) → Read → Padded
 unfolding room
 padded_to A p cells at (value v rest) = elim (room (width A) at cells) [
-  | true ↦ padding (Next (p + length (compact v))) (sets cells at (padded A v))
-  | false ↦ padding Short cells
+  | true ↦ padding (Some (p + length (compact v))) (sets cells at (padded A v))
+  | false ↦ padding None cells
 ]
-padded_to A p cells at short = padding Short cells
+padded_to A p cells at short = padding None cells
 
 unfoldable pub unpadded_to : Ty → (cells : List Bit) → Cells → (at : ℕ) → (store : List Bit) → (q : ℕ) → Unpadded
 unfolding room every
 unpadded_to A cells c at store q = elim (every (room (width A) at cells ∷ room (width A) q store ∷ [])) [
-  | true ↦ unpadding (Bits (length (compact (value_at A c at)))) (sets store q (compact (value_at A c at)))
-  | false ↦ unpadding NoRoom store
+  | true ↦ unpadding (Some (length (compact (value_at A c at)))) (sets store q (compact (value_at A c at)))
+  | false ↦ unpadding None store
 ]
 
 skip_type : (A : Ty) (p : ℕ) (bs : List Bit) → skipped p (skip_shape (shape_of A) bs) ≡ read_to p (read_value A bs)
@@ -224,11 +222,11 @@ pad_type A bits p cells at = go (read_value A (drop p bits)) refl
   where
     fill : (v : Val) (rest : List Bit) → read_value A (drop p bits) ≡ value v rest → (b : Bool)
         → ◌≡◌ {A = Padded} (elim b [
-          | true ↦ padding (Next (p + length (compact v))) (pad_shape (shape_of A) (drop p bits) cells at)
-          | false ↦ padding Short cells
+          | true ↦ padding (Some (p + length (compact v))) (pad_shape (shape_of A) (drop p bits) cells at)
+          | false ↦ padding None cells
         ])
-        (elim b [ true ↦ padding (Next (p + length (compact v))) (sets cells at (padded A v)) | false ↦ padding Short cells ])
-    fill v rest e true = ap (padding (Next (p + length (compact v)))) (pad_writes A (drop p bits) (compact v) (padded A v) rest (ap (spelled A) e) cells at)
+        (elim b [ true ↦ padding (Some (p + length (compact v))) (sets cells at (padded A v)) | false ↦ padding None cells ])
+    fill v rest e true = ap (padding (Some (p + length (compact v)))) (pad_writes A (drop p bits) (compact v) (padded A v) rest (ap (spelled A) e) cells at)
     fill v rest e false = refl
 
     go : (r : Read) → read_value A (drop p bits) ≡ r → pad_stage (shape_of A) (width A) bits p cells at ≡ padded_to A p cells at r
@@ -241,11 +239,11 @@ unfolding unpad_stage unpadded_to
 unpad_type A cells c at store q = go (every (room (width A) at cells ∷ room (width A) q store ∷ []))
   where
     go : (b : Bool) → ◌≡◌ {A = Unpadded} (elim b [
-      | true ↦ unpadding (Bits (length (unpad_shape (shape_of A) c at))) (sets store q (unpad_shape (shape_of A) c at))
-      | false ↦ unpadding NoRoom store
+      | true ↦ unpadding (Some (length (unpad_shape (shape_of A) c at))) (sets store q (unpad_shape (shape_of A) c at))
+      | false ↦ unpadding None store
     ])
-        (elim b [ true ↦ unpadding (Bits (length (compact (value_at A c at)))) (sets store q (compact (value_at A c at))) | false ↦ unpadding NoRoom store ])
-    go true = ap (λ (x : List Bit). unpadding (Bits (length x)) (sets store q x)) (unpad_writes A c at)
+        (elim b [ true ↦ unpadding (Some (length (compact (value_at A c at)))) (sets store q (compact (value_at A c at))) | false ↦ unpadding None store ])
+    go true = ap (λ (x : List Bit). unpadding (Some (length x)) (sets store q x)) (unpad_writes A c at)
     go false = refl
 
 module _ (bytes : List ℕ) (n : ℕ) (ok : Passed bytes n) (i : ℕ) where

@@ -9,7 +9,7 @@ use native.Mathlib.Omega.{arith}
 use lib.Dec.{leb, ltb, eqb}
 use lib.ListN.{get_or, take}
 use lib.Seq.{get_or-take}
-use borrow.Author.Tests.{ltb-true, leb-true, eqb-true, lt-ltb, le-ltb, eq-eqb, ne_eqb}
+use borrow.Author.Tests.{ltb-true, leb-true, eqb-true, lt-ltb, eq-eqb, ne_eqb}
 use Rattle.limits.specs.Limits.{type_count}
 use Rattle.report.specs.Table.{entries}
 use Rattle.scope.specs.Numbers.{tabulate}
@@ -21,8 +21,8 @@ use Rattle.value.specs.Shapes.{Shape, nothing, plain, tag, both, part, falls, st
 use Rattle.value.specs.declared.Step.{Step}
 use Rattle.value.specs.declared.Step.TheVariants.{Nothing, Plain, Tag, Both}
 
--- the part that a tag names
-pub part_right : (side a b : ℕ) → (side ≡ 0 → ⊥) → b ≡ part side a b
+-- of two sides the one that a tag names
+pub part_right : {X : Type 0} (side : ℕ) (a b : X) → (side ≡ 0 → ⊥) → b ≡ part side a b
 part_right zero a b n = absurd (n refl)
 part_right (suc k) a b n = refl
 
@@ -36,30 +36,8 @@ tag_fits own left right a b m e f =
     ap (λ (k : ℕ). Tag left right (k - a) (k - b)) e
     ∙ ap (λ (t : Bool). step_where t (Tag left right (max a b - a) (max a b - b))) (sym (eq-eqb own (1 + max a b) (f ∙ ap (λ (k : ℕ). 1 + k) e)))
 
-pub tag_unfit : (own left right a b : ℕ) → (own ≡ 1 + max a b → ⊥) → Nothing ≡ tag_step own left right a b
-tag_unfit own left right a b n = ap (λ (t : Bool). step_where t (Tag left right (max a b - a) (max a b - b))) (sym (ne_eqb own (1 + max a b) n))
-
 pub both_fits : (own left right a b : ℕ) → own ≡ a + b → Both left right a ≡ both_step own left right a b
 both_fits own left right a b e = ap (λ (t : Bool). step_where t (Both left right a)) (sym (eq-eqb own (a + b) e))
-
-pub both_unfit : (own left right a b : ℕ) → (own ≡ a + b → ⊥) → Nothing ≡ both_step own left right a b
-both_unfit own left right a b n = ap (λ (t : Bool). step_where t (Both left right a)) (sym (ne_eqb own (a + b) n))
-
-pub step_other : (k own left right a b : ℕ) → (k ≡ 1 → ⊥) → (k ≡ 2 → ⊥) → Nothing ≡ step_by k own left right a b
-step_other zero own left right a b n m = refl
-step_other (suc zero) own left right a b n m = absurd (n refl)
-step_other (suc (suc zero)) own left right a b n m = absurd (m refl)
-step_other (suc (suc (suc k))) own left right a b n m = refl
-
--- the tests and the steps of numbers that are equal
-pub falls_of : (i : ℕ) {j k a x b y : ℕ} → j ≡ k → a ≡ x → b ≡ y → falls i j a b ≡ falls i k x y
-falls_of i e f g = λ n. falls i (e n) (f n) (g n)
-
-pub tag_of : {o w l x r y a p b q : ℕ} → o ≡ w → l ≡ x → r ≡ y → a ≡ p → b ≡ q → tag_step o l r a b ≡ tag_step w x y p q
-tag_of e f g h k = λ n. tag_step (e n) (f n) (g n) (h n) (k n)
-
-pub both_of : {o w l x r y a p b q : ℕ} → o ≡ w → l ≡ x → r ≡ y → a ≡ p → b ≡ q → both_step o l r a b ≡ both_step w x y p q
-both_of e f g h k = λ n. both_step (e n) (f n) (g n) (h n) (k n)
 
 from_zero : (few marked fits : Bool) (own k left right a b : ℕ) → own ≡ 0 → step_from few own marked fits k left right a b ≡ Nothing
 from_zero true marked fits zero k left right a b e = refl
@@ -69,10 +47,6 @@ from_zero false marked fits own k left right a b e = refl
 from_mark : (fits : Bool) (own k left right a b : ℕ) → (own ≡ 0 → ⊥) → step_from true own true fits k left right a b ≡ Plain own
 from_mark fits zero k left right a b n = absurd (n refl)
 from_mark fits (suc w) k left right a b n = refl
-
-from_unfit : (own k left right a b : ℕ) → step_from true own false false k left right a b ≡ Nothing
-from_unfit zero k left right a b = refl
-from_unfit (suc w) k left right a b = refl
 
 from_some : (own k left right a b : ℕ) → (own ≡ 0 → ⊥) → step_from true own false true k left right a b ≡ step_by k own left right a b
 from_some zero k left right a b n = absurd (n refl)
@@ -137,20 +111,12 @@ module _ (types widths next : List ℕ) (i : ℕ) where
       ∙ from_zero (ltb i type_count) (marked_at types widths next i) (fits_at types widths next i) own R.tag R.left R.right
       (get_or widths R.left 0) (get_or widths R.right 0) e)
 
-  pub step_past : type_count ≤ i → Nothing ≡ step_at types widths next i
-  step_past h = sym (step_with (le-ltb i type_count h) refl refl)
-
   pub step_marked : i < type_count → (own ≡ 0 → ⊥) → get_or next i 0 ≡ unpadded_mark → Plain own ≡ step_at types widths next i
   step_marked h n e =
       sym (step_with (lt-ltb i type_count h) (eq-eqb (get_or next i 0) unpadded_mark e) refl
       ∙ from_mark (fits_at types widths next i) own R.tag R.left R.right (get_or widths R.left 0) (get_or widths R.right 0) n)
 
   module _ (h : i < type_count) (m : get_or next i 0 ≡ unpadded_mark → ⊥) where
-    pub step_unfit : false ≡ falls i (get_or next i 0) R.left R.right → Nothing ≡ step_at types widths next i
-    step_unfit e =
-        sym (step_with (lt-ltb i type_count h) (ne_eqb (get_or next i 0) unpadded_mark m) (sym e)
-        ∙ from_unfit own R.tag R.left R.right (get_or widths R.left 0) (get_or widths R.right 0))
-
     pub step_fits : true ≡ falls i (get_or next i 0) R.left R.right → (own ≡ 0 → ⊥)
         → step_by R.tag own R.left R.right (get_or widths R.left 0) (get_or widths R.right 0) ≡ step_at types widths next i
     step_fits e n =

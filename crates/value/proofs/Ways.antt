@@ -4,12 +4,15 @@ use mathlib.Core.Bool.{true, false}
 use mathlib.Core.List.{List, [], ◌∷◌, ◌++◌}
 use Prim.Native.Nat.{ℕ, zero, suc, ◌+◌, ◌-◌, ◌%◌, ◌≤◌, ◌<◌, max}
 use native.Mathlib.Omega.{arith}
+use Rattle.std.specs.Prelude.{Option, Some, None}
 use lib.Dec.{leb}
 use lib.ListN.{length, get_or, set, drop, length-append}
 use lib.Seq.{sets, drop-drop}
 use borrow.Author.Tests.{leb-true, le-leb, lt-leb}
 use Rattle.limits.specs.Limits.{cell_count}
+use Rattle.common.specs.Bits.{length_bits}
 use Rattle.common.specs.Cells.{bits_from}
+use Rattle.bititer.proofs.Streams.{bit_got, bit_ended}
 use Rattle.report.specs.Bits.{Bit, bits_of}
 use Rattle.report.specs.Values.{Cells}
 use Rattle.scope.specs.Numbers.{zeros}
@@ -20,23 +23,20 @@ use Rattle.value.specs.Bits.{Used, used, short, after, tag_of, skip_shape, pad_s
 use Rattle.value.specs.Shapes.{Shape, nothing, plain, tag, both, part, step_at, shape_at}
 use Rattle.value.specs.declared.Step.{Step}
 use Rattle.value.specs.declared.Step.TheVariants.{Nothing, Plain, Tag, Both}
-use Rattle.value.specs.declared.ValueRead.{ValueRead}
-use Rattle.value.specs.declared.ValueRead.TheVariants.{Next, Short}
-use Rattle.value.specs.declared.ValueWritten.TheVariants.{Bits, Short as NoRoom}
 use Rattle.common.specs.Tables.{length_from}
 use Rattle.value.proofs.Plain.{cells_plain}
-use Rattle.value.proofs.Steps.{plain_told, tag_told, both_told, shape_nothing, shape_plain, shape_tag, shape_both}
+use Rattle.value.proofs.Steps.{plain_told, tag_told, both_told, part_falls, part_wide, shape_nothing, shape_plain, shape_tag, shape_both}
 
 skipped-after : (p n k : ℕ) (x : Used) → n ≡ p + k → skipped n x ≡ skipped p (after k x)
-skipped-after p n k (used m) e = ap Next (let z : n + m ≡ p + (k + m) = omega arith in z)
+skipped-after p n k (used m) e = ap Some (let z : n + m ≡ p + (k + m) = omega arith in z)
 skipped-after p n k short e = refl
 
 -- what the answer of a part tells
-skipped_next : (p m : ℕ) (x : Used) → Next m ≡ skipped p x → x ≡ used (m - p) × (p ≤ m)
+skipped_next : (p m : ℕ) (x : Used) → Some m ≡ skipped p x → x ≡ used (m - p) × (p ≤ m)
 skipped_next p m (used k) e = let z : m ≡ p + k = cc in (ap used (let y : k ≡ m - p = omega arith in y), omega arith)
 skipped_next p m short e = let z : ◌≡◌ {A = ℕ} 0 1 = cc in absurd (omega arith)
 
-skipped-short : (p : ℕ) (x : Used) → Short ≡ skipped p x → x ≡ short
+skipped-short : (p : ℕ) (x : Used) → None ≡ skipped p x → x ≡ short
 skipped-short p (used k) e = let z : ◌≡◌ {A = ℕ} 0 1 = cc in absurd (omega arith)
 skipped-short p short e = refl
 
@@ -67,13 +67,13 @@ module _ (types widths next : List ℕ) (i : ℕ) where
   Sh j = shape_at types widths next j
 
   -- nothing takes no bits
-  pub skip_nothing : (p : ℕ) (bs : List Bit) → step_at types widths next i ≡ Nothing → Next p ≡ skipped p (skip_shape (Sh i) bs)
+  pub skip_nothing : (p : ℕ) (bs : List Bit) → step_at types widths next i ≡ Nothing → Some p ≡ skipped p (skip_shape (Sh i) bs)
   unfolding skip_shape
   skip_nothing p bs e =
-      ap Next (let z : p ≡ p + 0 = omega arith in z) ∙ ap (λ (A : Shape). skipped p (skip_shape A bs)) (sym (shape_nothing types widths next i e))
+      ap Some (let z : p ≡ p + 0 = omega arith in z) ∙ ap (λ (A : Shape). skipped p (skip_shape A bs)) (sym (shape_nothing types widths next i e))
 
   module _ (l r pad_left pad_right : ℕ) (e : step_at types widths next i ≡ Tag l r pad_left pad_right) where
-    pub skip_ended : (p : ℕ) (bs : List Bit) → bs ≡ [] → Short ≡ skipped p (skip_shape (Sh i) bs)
+    pub skip_ended : (p : ℕ) (bs : List Bit) → bs ≡ [] → None ≡ skipped p (skip_shape (Sh i) bs)
     unfolding skip_shape
     skip_ended p bs d =
         ap₂ (λ (A : Shape) (x : List Bit). skipped p (skip_shape A x)) (sym (shape_tag types widths next i l r pad_left pad_right e)) (sym d)
@@ -93,13 +93,13 @@ module _ (types widths next : List ℕ) (i : ℕ) where
         ∙ ap₂ (λ (A : Shape) (x : List Bit). skipped p (skip_shape A x)) (sym (shape_tag types widths next i l r pad_left pad_right e)) (sym d)
 
   module _ (l r w : ℕ) (e : step_at types widths next i ≡ Both l r w) where
-    pub skip_cut : (p : ℕ) (bs : List Bit) → Short ≡ skipped p (skip_shape (Sh l) bs) → Short ≡ skipped p (skip_shape (Sh i) bs)
+    pub skip_cut : (p : ℕ) (bs : List Bit) → None ≡ skipped p (skip_shape (Sh l) bs) → None ≡ skipped p (skip_shape (Sh i) bs)
     skip_cut p bs d =
         ap (skipped p) (sym (both-short w (Sh l) (Sh r) bs (skipped-short p (skip_shape (Sh l) bs) d)))
         ∙ ap (λ (A : Shape). skipped p (skip_shape A bs)) (sym (shape_both types widths next i l r w e))
 
     -- the left part up to m, and then the right part
-    pub skip_both : (p m : ℕ) (bits : List Bit) → Next m ≡ skipped p (skip_shape (Sh l) (drop p bits))
+    pub skip_both : (p m : ℕ) (bits : List Bit) → Some m ≡ skipped p (skip_shape (Sh l) (drop p bits))
         → skipped m (skip_shape (Sh r) (drop m bits)) ≡ skipped p (skip_shape (Sh i) (drop p bits))
     skip_both p m bits d =
         let x = skipped_next p m (skip_shape (Sh l) (drop p bits)) d in
@@ -108,7 +108,7 @@ module _ (types widths next : List ℕ) (i : ℕ) where
         ∙ ap (skipped p) (sym (both_used w (Sh l) (Sh r) (drop p bits) (m - p) x.0))
         ∙ ap (λ (A : Shape). skipped p (skip_shape A (drop p bits))) (sym (shape_both types widths next i l r w e))
 
-  pub skip_along : (w p : ℕ) (r : ValueRead) (bs : List Bit) → step_at types widths next i ≡ Plain w → r ≡ skipped p (skip_shape (plain w) bs)
+  pub skip_along : (w p : ℕ) (r : Option ℕ) (bs : List Bit) → step_at types widths next i ≡ Plain w → r ≡ skipped p (skip_shape (plain w) bs)
       → r ≡ skipped p (skip_shape (Sh i) bs)
   skip_along w p r bs e f = f ∙ ap (λ (A : Shape). skipped p (skip_shape A bs)) (sym (shape_plain types widths next i w e))
 
@@ -146,13 +146,13 @@ module _ (types widths next : List ℕ) (i : ℕ) where
         ∙ ap₂ (λ (A : Shape) (x : List Bit). pad_shape A x d at) (sym (shape_tag types widths next i l r pad_left pad_right e)) (sym f)
 
   module _ (l r w : ℕ) (e : step_at types widths next i ≡ Both l r w) where
-    pub pad_cut : (p at : ℕ) (bs d d₁ : List Bit) → Short ≡ skipped p (skip_shape (Sh l) bs) → d₁ ≡ pad_shape (Sh l) bs d at → d₁ ≡ pad_shape (Sh i) bs d at
+    pub pad_cut : (p at : ℕ) (bs d d₁ : List Bit) → None ≡ skipped p (skip_shape (Sh l) bs) → d₁ ≡ pad_shape (Sh l) bs d at → d₁ ≡ pad_shape (Sh i) bs d at
     pad_cut p at bs d d₁ f q =
         q
         ∙ sym (pad_short w (Sh l) (Sh r) bs d at (skipped-short p (skip_shape (Sh l) bs) f))
         ∙ ap (λ (A : Shape). pad_shape A bs d at) (sym (shape_both types widths next i l r w e))
 
-    pub pad_both : (p m at : ℕ) (bits d d₁ d₂ : List Bit) → Next m ≡ skipped p (skip_shape (Sh l) (drop p bits))
+    pub pad_both : (p m at : ℕ) (bits d d₁ d₂ : List Bit) → Some m ≡ skipped p (skip_shape (Sh l) (drop p bits))
         → d₁ ≡ pad_shape (Sh l) (drop p bits) d at → d₂ ≡ pad_shape (Sh r) (drop m bits) d₁ (at + w) → d₂ ≡ pad_shape (Sh i) (drop p bits) d at
     pad_both p m at bits d d₁ d₂ f q s =
         let x = skipped_next p m (skip_shape (Sh l) (drop p bits)) f in
@@ -299,15 +299,15 @@ room_told (suc w) at d e h =
 
 -- the ends of padding and of unpadding
 module _ (A : Shape) (w : ℕ) (bits : List Bit) (p : ℕ) (cells : List Bit) (at : ℕ) where
-  pub pad_too_short : Short ≡ skipped p (skip_shape A (drop p bits)) → padding Short cells ≡ pad_stage A w bits p cells at
+  pub pad_too_short : None ≡ skipped p (skip_shape A (drop p bits)) → padding None cells ≡ pad_stage A w bits p cells at
   unfolding pad_stage
   pad_too_short e = rw (skipped-short p (skip_shape A (drop p bits)) e, pad_stage)
 
-  pub pad_no_room : (m : ℕ) → Next m ≡ skipped p (skip_shape A (drop p bits)) → false ≡ room w at cells → padding Short cells ≡ pad_stage A w bits p cells at
+  pub pad_no_room : (m : ℕ) → Some m ≡ skipped p (skip_shape A (drop p bits)) → false ≡ room w at cells → padding None cells ≡ pad_stage A w bits p cells at
   unfolding pad_stage
   pad_no_room m e f = rw ((skipped_next p m (skip_shape A (drop p bits)) e).0, pad_stage) (rw (sym f))
 
-  pub pad_done : (m : ℕ) (r : ValueRead) (d : List Bit) → Next m ≡ skipped p (skip_shape A (drop p bits)) → true ≡ room w at cells
+  pub pad_done : (m : ℕ) (r : Option ℕ) (d : List Bit) → Some m ≡ skipped p (skip_shape A (drop p bits)) → true ≡ room w at cells
       → r ≡ skipped p (skip_shape A (drop p bits)) → d ≡ pad_shape A (drop p bits) cells at → padding r d ≡ pad_stage A w bits p cells at
   unfolding pad_stage
   pad_done m r d e f g h =
@@ -315,18 +315,31 @@ module _ (A : Shape) (w : ℕ) (bits : List Bit) (p : ℕ) (cells : List Bit) (a
       ap₂ padding (g ∙ ap (skipped p) x) h ∙ rw (x, pad_stage) (rw (sym f))
 
 module _ (A : Shape) (w : ℕ) (cells : List Bit) (c : Cells) (at : ℕ) (store : List Bit) (q : ℕ) where
-  pub unpad_no_cells : false ≡ room w at cells → unpadding NoRoom store ≡ unpad_stage A w cells c at store q
+  pub unpad_no_cells : false ≡ room w at cells → unpadding None store ≡ unpad_stage A w cells c at store q
   unfolding unpad_stage
   unpad_no_cells e = rw (every_failed (room w at cells) (room w q store ∷ []) (sym e), unpad_stage)
 
-  pub unpad_no_room : true ≡ room w at cells → false ≡ room w q store → unpadding NoRoom store ≡ unpad_stage A w cells c at store q
+  pub unpad_no_room : true ≡ room w at cells → false ≡ room w q store → unpadding None store ≡ unpad_stage A w cells c at store q
   unfolding unpad_stage
   unpad_no_room e f = rw (every_both (room w at cells) (room w q store) (sym e) ∙ sym f, unpad_stage)
 
   pub unpad_done : (end : ℕ) (d : List Bit) → true ≡ room w at cells → true ≡ room w q store → end ≡ q + length (unpad_shape A c at)
       → d ≡ sets store q (unpad_shape A c at)
-      → unpadding (Bits (end - q)) d ≡ unpad_stage A w cells c at store q
+      → unpadding (Some (end - q)) d ≡ unpad_stage A w cells c at store q
   unfolding unpad_stage
   unpad_done end d e f g h =
-      ap₂ (λ (k : ℕ) (x : List Bit). unpadding (Bits k) x) (let z : end - q ≡ length (unpad_shape A c at) = omega arith in z) h
+      ap₂ (λ (k : ℕ) (x : List Bit). unpadding (Some k) x) (let z : end - q ≡ length (unpad_shape A c at) = omega arith in z) h
       ∙ rw (every_both (room w at cells) (room w q store) (sym e) ∙ sym f, unpad_stage)
+
+-- what the functions that read, pad and unpad along a shape, and that test for room, are proved by
+pub ruleset skip_ways = (skip_nothing, skip_along, skip_ended, skip_tag, skip_cut, skip_both, tag_told, both_told, part_falls, bit_ended, bit_got)
+
+pub ruleset pad_ways = (skip_nothing, skip_ended, pad_nothing, pad_ended, plain_told, tag_told, both_told, part_wide, bit_ended)
+
+pub ruleset pad_ends = (pad_too_short, pad_no_room, pad_done, room_told)
+
+pub ruleset room_ways = (room_none, room_inside, room_outside, length_bits)
+
+pub ruleset unpad_ways = (unpad_fits, plain_told, tag_told, both_told, part_wide)
+
+pub ruleset unpad_ends = (unpad_no_cells, unpad_no_room, room_told)

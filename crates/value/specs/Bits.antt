@@ -1,16 +1,12 @@
 -- Values of a shape in bits: how many compact bits a value takes, its padded cells in a store of cells, its compact bits from cells.
 -- And what each public call answers, with what it leaves in the store that it writes: where bits or room are too few, the store is as it was.
-use Rattle.std.specs.Prelude.{Bool, true, false, List, [], ◌∷◌, ◌++◌, ℕ, zero, suc, ◌+◌, leb, length, take, drop}
+use Rattle.std.specs.Prelude.{Bool, true, false, Option, Some, None, List, [], ◌∷◌, ◌++◌, ℕ, zero, suc, ◌+◌, leb, length, take, drop}
 use Rattle.std.proofs.lemmas.List.Edits.{sets}
 use Rattle.limits.specs.Limits.{cell_count}
 use Rattle.report.specs.Bits.{Bit}
 use Rattle.report.specs.Values.{Cells}
 use Rattle.scope.specs.Numbers.{zeros, every, tabulate_from}
 use Rattle.value.specs.Shapes.{Shape, nothing, plain, tag, both}
-use Rattle.value.specs.declared.ValueRead.{ValueRead}
-use Rattle.value.specs.declared.ValueRead.TheVariants.{Next, Short}
-use Rattle.value.specs.declared.ValueWritten.{ValueWritten}
-use Rattle.value.specs.declared.ValueWritten.TheVariants.{Bits, Short as NoRoom}
 
 -- how many bits a value takes, or too few bits
 pub data Used : Type 0 where
@@ -65,9 +61,9 @@ unpad_shape (tag pad_left pad_right A B) c at = elim (c at) [
 unpad_shape (both left A B) c at = unpad_shape A c at ++ unpad_shape B c (at + left)
 
 -- the position after a value's bits that begin at p
-abbrev pub skipped : (p : ℕ) → Used → ValueRead
-skipped p (used n) = Next (p + n)
-skipped p short = Short
+abbrev pub skipped : (p : ℕ) → Used → Option ℕ
+skipped p (used n) = Some (p + n)
+skipped p short = None
 
 -- cells from a place on lie in the store, and within the most cells of a run; no cells lie anywhere
 unfoldable pub room : (width at : ℕ) → (cells : List Bit) → Bool
@@ -77,11 +73,11 @@ room (suc w) at cells = every (leb (at + suc w) (length cells) ∷ leb (at + suc
 
 -- what padding says, and the cells as it leaves them
 pub record Padded : Type 0 where
-  pub says : ValueRead
+  pub says : Option ℕ
   pub cells : List Bit
 
 -- an end of padding as a call meets it
-abbrev pub padding : ValueRead → List Bit → Padded
+abbrev pub padding : Option ℕ → List Bit → Padded
 padding says cells = record { says = says; cells = cells }
 
 -- the value at bit p as padded cells from `at` on, where there are bits and cells enough
@@ -89,25 +85,25 @@ unfoldable pub pad_stage : Shape → (width : ℕ) → (bits : List Bit) → (p 
 unfolding skip_shape pad_shape room
 pad_stage A width bits p cells at = elim (skip_shape A (drop p bits)) [
   | used n ↦ elim (room width at cells) [
-    | true ↦ padding (Next (p + n)) (pad_shape A (drop p bits) cells at)
-    | false ↦ padding Short cells
+    | true ↦ padding (Some (p + n)) (pad_shape A (drop p bits) cells at)
+    | false ↦ padding None cells
   ]
-  | short ↦ padding Short cells
+  | short ↦ padding None cells
 ]
 
 -- what unpadding says, and the bits of the store as it leaves them
 pub record Unpadded : Type 0 where
-  pub says : ValueWritten
+  pub says : Option ℕ
   pub bits : List Bit
 
 -- an end of unpadding as a call meets it
-abbrev pub unpadding : ValueWritten → List Bit → Unpadded
+abbrev pub unpadding : Option ℕ → List Bit → Unpadded
 unpadding says bits = record { says = says; bits = bits }
 
 -- the compact bits of the value in the cells from `at` on, from bit q of the store on, where both have room for the width
 unfoldable pub unpad_stage : Shape → (width : ℕ) → (cells : List Bit) → Cells → (at : ℕ) → (store : List Bit) → (q : ℕ) → Unpadded
 unfolding unpad_shape every room
 unpad_stage A width cells c at store q = elim (every (room width at cells ∷ room width q store ∷ [])) [
-  | true ↦ unpadding (Bits (length (unpad_shape A c at))) (sets store q (unpad_shape A c at))
-  | false ↦ unpadding NoRoom store
+  | true ↦ unpadding (Some (length (unpad_shape A c at))) (sets store q (unpad_shape A c at))
+  | false ↦ unpadding None store
 ]

@@ -18,8 +18,8 @@ pub data Shape : Type 0 where
   tag : (pad_left pad_right : ℕ) → Shape → Shape → Shape
   both : (left : ℕ) → Shape → Shape → Shape
 
--- the part that a tag names
-abbrev pub part : (side left right : ℕ) → ℕ
+-- of two sides the one that a tag names
+abbrev pub part : {X : Type 0} → (side : ℕ) → (left right : X) → X
 part zero left right = left
 part (suc k) left right = right
 

@@ -4,7 +4,7 @@ use Prim.Native.Nat.{◌<◌}
 use native.Mathlib.Omega.{arith}
 use lib.ListN.{length}
 use Rattle.scope.specs.Numbers.{stream_of}
-use Rattle.bititer.proofs.Streams.{length_stream, stream_inside, code_past, bit_here}
+use Rattle.bititer.proofs.Streams.{stream_inside, code_past, bit_here}
 use Rattle.bititer.proofs.bit.Goals as goal
 
 pub returns-then-stream_length-p : goal.returns-then-stream_length-p
@@ -18,13 +18,6 @@ bounds-s-i c =
     let p = c.args.p in
     let h : p < length (stream_of s) = omega (arith, c.stream_length.ensures) in
     stream_inside s p h
-
-pub overflow_add-result : goal.overflow_add-result
-overflow_add-result c =
-    let s = c.args.s.now in
-    let p = c.args.p in
-    let h : p < length (stream_of s) = omega (arith, c.stream_length.ensures) in
-    omega (arith, length_stream s)
 
 pub returns : goal.returns
 returns c =

@@ -10,13 +10,13 @@ use Rattle.bititer.proofs.byte_from.Goals as goal
 pub returns-then-k-eq0 : goal.returns-then-k-eq0
 returns-then-k-eq0 c =
     let a = c.args in
-    sym (byte_whole a.s.now a.i a.k c.if-k-eq0.true (omega arith) (omega (arith, c.shared_slice_known-1.given a.i)))
+    sym (byte_whole a.s.now a.i a.k c.if-k-eq0.true (omega arith) (omega (arith, c.type_inv.s a.i)))
 
 pub overflow_add-result-2 : goal.overflow_add-result-2
 overflow_add-result-2 c =
     let a = c.args in
-    let x = byte_at a.k (get_or a.s.now a.i 0) c.requires.0 (omega (arith, c.shared_slice_known-2-1.given a.i)) in
-    let y = byte_at a.k (get_or a.s.now (a.i + 1) 0) c.requires.0 (omega (arith, c.shared_slice_known-3-1.given (a.i + 1))) in
+    let x = byte_at a.k (get_or a.s.now a.i 0) c.requires.0 (omega (arith, c.type_inv.s a.i)) in
+    let y = byte_at a.k (get_or a.s.now (a.i + 1) 0) c.requires.0 (omega (arith, c.type_inv.s (a.i + 1))) in
     omega (arith, x.low_fits, y.high_small)
 
 pub returns : goal.returns
@@ -24,4 +24,4 @@ returns c =
     let a = c.args in
     let h : a.i + 1 < length a.s.now = omega arith in
     sym (byte_split a.s.now a.i a.k c.requires.0 h
-    (omega (arith, c.shared_slice_known-2-1.given a.i)) (omega (arith, c.shared_slice_known-3-1.given (a.i + 1))))
+    (omega (arith, c.type_inv.s a.i)) (omega (arith, c.type_inv.s (a.i + 1))))

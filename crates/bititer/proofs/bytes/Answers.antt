@@ -1,13 +1,12 @@
--- Whole bytes into a store. The invariant: the store is as it was, with the first j of the bytes pasted in from `at` on.
--- The bytes that are left are the measure.
+-- Whole bytes into a store: refused where the stream or the store is too short, and else each at its place.
 use borrow.Author.Tests.{leb-true, leb-false}
-use mathlib.Core.Path.{◌≡◌, refl, ap, ap₂, sym, ◌∙◌}
+use mathlib.Core.Path.{◌≡◌, ap, ap₂, sym, ◌∙◌}
 use mathlib.Core.List.{List}
 use Prim.Native.Nat.{ℕ, ◌+◌, ◌*◌}
 use native.Mathlib.Numerals.{add-one}
 use native.Mathlib.Omega.{arith}
 use lib.ListN.{length, get_or, set, drop, length-set}
-use lib.Seq.{paste, paste-zero, paste-suc}
+use lib.Seq.{paste, paste-suc}
 use Rattle.report.specs.Bits.{bytes_of}
 use Rattle.scope.specs.Numbers.{stream_of}
 use Rattle.scope.specs.Reading.{got}
@@ -35,29 +34,6 @@ returns-then-not-has_room-2 c =
     let k = leb-false (a.at + a.n) (length a.store.now) (sym c.has_room-2.ensures ∙ c.if-not-has_room-2.true) in
     sym (bytes_short s a.n a.p a.store.now a.at (omega (arith, c.stream_length.ensures)) k)
 
-pub loop-j-init : goal.loop-j-init
-loop-j-init c =
-    let a = c.args in
-    let s = stream_of a.s.now in
-    let h = leb-true (a.p + 8 * a.n) c.stream_length.result
-    (sym c.has_room.ensures
-    ∙ c.if-not-has_room.false) in
-    let k = leb-true (a.at + a.n) (length a.store.now)
-    (sym c.has_room-2.ensures ∙ c.if-not-has_room-2.false) in (
-      paste-zero a.store.now a.at (bytes_of a.n (drop a.p s)),
-      omega arith,
-      refl,
-      omega (arith, c.stream_length.ensures),
-      k,
-    )
-
-pub overflow_add-first : goal.overflow_add-first
-overflow_add-first c =
-    let a = c.args in
-    let s = stream_of a.s.now in
-    let l = c.loop-j in
-    omega (arith, length_stream a.s.now)
-
 pub byte_from-b-requires : goal.byte_from-b-requires
 byte_from-b-requires c =
     let a = c.args in
@@ -73,29 +49,14 @@ loop-j-preserved c =
     let w = bytes_of a.n (drop a.p s) in
     let d = length_bytes a.n (drop a.p s) in
     let b : c.byte_from-b.result ≡ get_or w l.j 0 =
-    c.byte_from-b.ensures ∙ byte_here a.s.now a.p a.n l.j c.loop-j-test.true l.invariant.3 in (
+    c.byte_from-b.ensures ∙ byte_here a.s.now a.p a.n l.j c.loop-j-test.true l.invariant.2 in (
       ap₂ (λ (x : List ℕ) (v : ℕ). set x (a.at + l.j) v) l.invariant.0 b
           ∙ paste-suc a.store.now a.at w l.j 0 (omega arith) (omega arith)
           ∙ ap (paste a.store.now a.at w) (sym (add-one l.j)),
-      omega arith,
-      simp length-set l.invariant.2,
+      simp length-set l.invariant.1,
+      l.invariant.2,
       l.invariant.3,
-      l.invariant.4,
     )
-
-pub overflow_mul-result : goal.overflow_mul-result
-overflow_mul-result c =
-    let a = c.args in
-    let s = stream_of a.s.now in
-    let l = c.loop-j in
-    omega (arith, length_stream a.s.now)
-
-pub overflow_add-result : goal.overflow_add-result
-overflow_add-result c =
-    let a = c.args in
-    let s = stream_of a.s.now in
-    let l = c.loop-j in
-    omega (arith, length_stream a.s.now)
 
 pub returns : goal.returns
 returns c =
@@ -106,4 +67,4 @@ returns c =
     let j : l.j ≡ a.n = omega arith in
     let e : l.store ≡ placed a.store.now a.at w =
     l.invariant.0 ∙ ap (paste a.store.now a.at w) j ∙ pasted a.store.now w a.at a.n (length_bytes a.n (drop a.p s)) in
-    ap (stored (got tt (a.p + 8 * a.n))) e ∙ sym (bytes_read s a.n a.p a.store.now a.at l.invariant.3 l.invariant.4)
+    ap (stored (got tt (a.p + 8 * a.n))) e ∙ sym (bytes_read s a.n a.p a.store.now a.at l.invariant.2 l.invariant.3)

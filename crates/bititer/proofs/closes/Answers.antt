@@ -5,18 +5,17 @@ use native.Mathlib.Omega.{arith}
 use Rattle.scope.specs.Numbers.{stream_of}
 use Rattle.bititer.proofs.Streams.{stream_inside}
 use Rattle.bititer.proofs.Closing.{closes_past, closes_long, closes_end, closes_rest}
+use Rattle.bititer.proofs.closes.Goals.{then-all-p-via-then-all-p, then-all-p-via-else-all-p+then-all-p-ge8}
 use Rattle.bititer.proofs.closes.Goals as goal
 
 pub returns-then-all-p : goal.returns-then-all-p
 returns-then-all-p c =
-    let a = c.args in
-    sym (closes_past (stream_of a.s.now) a.p (omega (arith, c.stream_length-all.ensures)))
-
-pub returns-then-all-p-ge8 : goal.returns-then-all-p-ge8
-returns-then-all-p-ge8 c =
-    let a = c.args in
-    sym (closes_long (stream_of a.s.now) a.p (omega (arith, c.stream_length-all.ensures))
-    (omega (arith, c.stream_length-all.ensures)))
+    let s = stream_of c.args.s.now in
+    let p = c.args.p in
+    elim c.then-all-p.branch [
+      | then-all-p-via-then-all-p w ↦ sym (closes_past s p (omega (arith, c.stream_length-all.ensures)))
+      | then-all-p-via-else-all-p+then-all-p-ge8 w ↦ sym (closes_long s p (omega (arith, c.stream_length-all.ensures)) (omega (arith, c.stream_length-all.ensures)))
+    ]
 
 pub returns-then-all-p-2 : goal.returns-then-all-p-2
 returns-then-all-p-2 c =
@@ -32,4 +31,4 @@ pub returns : goal.returns
 returns c =
     let a = c.args in
     sym (closes_rest a.s.now a.p (omega (arith, c.stream_length-all.ensures))
-    (omega (arith, c.stream_length-all.ensures)) (omega (arith, c.shared_slice_known-2-1.given (a.p / 8))))
+    (omega (arith, c.stream_length-all.ensures)) (omega (arith, c.type_inv.s (a.p / 8))))

@@ -1,50 +1,55 @@
--- The ones that begin a natural. The invariant: the natural from p on is what as many lengths as ones were passed lead to from the
--- natural that is left. The bits that are left are the measure.
-use mathlib.Core.Path.{ap, sym, ◌∙◌}
+-- The ones that begin a natural: a zero ends them, and where the stream ends before one there is no natural.
+use mathlib.Core.Path.{◌≡◌, ap, subst, sym, ◌∙◌}
+use mathlib.Core.List.{[]}
+use Prim.Native.Nat.{ℕ, ◌+◌, ◌-◌}
 use native.Mathlib.Omega.{arith}
-use borrow.Author.Rules.{rules}
-use lib.ListN.{drop}
+use lib.ListN.{drop, drop_of_length-le}
 use Rattle.scope.specs.Numbers.{stream_of}
-use Rattle.bititer.specs.Answers.{got_code}
-use Rattle.bititer.specs.Parts.{of_lengths}
+use Rattle.scope.specs.Naturals.{read_natural}
+use Rattle.bititer.specs.Parts.{OnesMean, of_lengths}
 use Rattle.bititer.proofs.Streams.{length_stream, bit_got, bit_ended}
 use Rattle.bititer.proofs.Naturals.{natural_none, natural_zero, natural_one, lengths_none, lengths_more, lengths_ended}
 use Rattle.bititer.proofs.ones.Goals as goal
 
-pub loop-b-init : goal.loop-b-init
-loop-b-init c = (sym (lengths_none _), search rules, search rules)
+pub loop-at-init : goal.loop-at-init
+loop-at-init c =
+    let none : c.args.p - c.args.p ≡ 0 = omega arith in
+    sym (ap (λ (k : ℕ). of_lengths k (read_natural (drop c.args.p (stream_of c.args.s.now)))) none ∙ lengths_none _)
 
-pub returns-in_default : goal.returns-in_default
-returns-in_default c =
+pub returns-in_err-b : goal.returns-in_err-b
+returns-in_err-b c =
     let s = stream_of c.args.s.now in
-    let l = c.loop-b in
-    let e = bit_ended s l.at (sym c.bit.ensures ∙ ap got_code c.in_default.is) in
-    l.invariant.0 ∙ ap (of_lengths l.count) (natural_none (drop l.at s) e) ∙ lengths_ended l.count
+    let l = c.loop-at in
+    let e = bit_ended s l.at (sym c.in_err-b.ensures) in
+    subst (OnesMean s c.args.p) (sym c.from_residual.ensures)
+    (l.invariant ∙ ap (of_lengths (l.at - c.args.p)) (natural_none (drop l.at s) e) ∙ lengths_ended (l.at - c.args.p))
 
 pub returns-then-b-eq0 : goal.returns-then-b-eq0
 returns-then-b-eq0 c =
     let s = stream_of c.args.s.now in
-    let l = c.loop-b in
-    let h = bit_got s l.at c.in-Read.b c.in-Read.next (sym c.bit.ensures ∙ ap got_code c.in-Read.is) in
-    (l.invariant.0 ∙ ap (of_lengths l.count) (natural_zero _ _ c.in-Read.b h.2 c.if-b-eq0.true), omega arith, omega arith)
+    let l = c.loop-at in
+    let h = bit_got s l.at c.in_ok-b.b c.in_ok-b.next (sym c.in_ok-b.ensures) in
+    (l.invariant ∙ ap (of_lengths (l.at - c.args.p)) (natural_zero _ _ c.in_ok-b.b h.2 c.if-b-eq0.true), omega arith, omega arith)
 
-pub overflow_add-count : goal.overflow_add-count
-overflow_add-count c =
-    let s = stream_of c.args.s.now in
-    let l = c.loop-b in
-    let h = bit_got s l.at c.in-Read.b c.in-Read.next (sym c.bit.ensures ∙ ap got_code c.in-Read.is) in
+pub overflow_cast-result : goal.overflow_cast-result
+overflow_cast-result c =
+    let l = c.loop-at in
     omega (arith, length_stream c.args.s.now)
 
-pub loop-b-smaller : goal.loop-b-smaller
-loop-b-smaller c =
+pub loop-at-preserved : goal.loop-at-preserved
+loop-at-preserved c =
     let s = stream_of c.args.s.now in
-    let l = c.loop-b in
-    let h = bit_got s l.at c.in-Read.b c.in-Read.next (sym c.bit.ensures ∙ ap got_code c.in-Read.is) in
-    omega arith
+    let l = c.loop-at in
+    let h = bit_got s l.at c.in_ok-b.b c.in_ok-b.next (sym c.in_ok-b.ensures) in
+    let count : l.at + 1 - c.args.p ≡ l.at - c.args.p + 1 = omega arith in
+    l.invariant ∙ ap (of_lengths (l.at - c.args.p)) (natural_one _ _ c.in_ok-b.b h.2 c.if-b-eq0.false)
+    ∙ sym (lengths_more (l.at - c.args.p) _)
+    ∙ ap (λ (k : ℕ). of_lengths k (read_natural (drop c.in_ok-b.next s))) (sym count)
+    ∙ ap (λ (k : ℕ). of_lengths (l.at + 1 - c.args.p) (read_natural (drop k s))) h.1
 
-pub loop-b-preserved : goal.loop-b-preserved
-loop-b-preserved c =
+pub returns : goal.returns
+returns c =
     let s = stream_of c.args.s.now in
-    let l = c.loop-b in
-    let h = bit_got s l.at c.in-Read.b c.in-Read.next (sym c.bit.ensures ∙ ap got_code c.in-Read.is) in
-    (l.invariant.0 ∙ ap (of_lengths l.count) (natural_one _ _ c.in-Read.b h.2 c.if-b-eq0.false) ∙ sym (lengths_more l.count _), omega arith, omega arith)
+    let l = c.loop-at in
+    let over : drop l.at s ≡ [] = drop_of_length-le s {i = l.at} (omega (arith, c.stream_length-at-end.ensures)) in
+    l.invariant ∙ ap (of_lengths (l.at - c.args.p)) (natural_none (drop l.at s) over) ∙ lengths_ended (l.at - c.args.p)

@@ -1,24 +1,10 @@
 -- Bits of a source put into the cells. The invariant: putting the bits that the whole bytes left is putting those left into the list as it is now.
 -- Those bits are the measure.
-use Rattle.cells.proofs.Parts.{put_turn, put_done}
+use Rattle.cells.proofs.Parts.{put_done}
 use Rattle.report.specs.Bits.{bits_of}
 use Prim.Native.Nat.{◌+◌}
-use mathlib.Core.Path.{refl, sym, ◌∙◌}
-use borrow.Author.Rules.{rules}
+use mathlib.Core.Path.{sym, ◌∙◌}
 use Rattle.cells.proofs.put_bits.Goals as goal
-
-pub loop-put-init : goal.loop-put-init
-loop-put-init c = (refl, c.put_front-put.ensures.0, refl)
-
-pub loop-put-preserved : goal.loop-put-preserved
-loop-put-preserved c =
-    let a = c.args in
-    let l = c.loop-put in
-    let r = c.put_step-put in (
-      l.invariant.0 ∙ put_turn (bits_of l.cells) _ (bits_of a.source.now) a.p a.at a.n l.put r.result r.ensures.2,
-      search rules,
-      search rules,
-    )
 
 pub returns : goal.returns
 returns c =

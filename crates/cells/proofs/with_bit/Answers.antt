@@ -1,26 +1,7 @@
 -- A byte with one bit set. That nothing wraps, and that the bits are right, is what was computed for all bytes.
 use Rattle.cells.proofs.Bytes.{bit_set}
-use native.Mathlib.Omega.{arith}
 use borrow.Author.Rules.{rules}
 use Rattle.cells.proofs.with_bit.Goals as goal
-
-pub overflow_mul-result : goal.overflow_mul-result
-overflow_mul-result c =
-    let a = c.args in
-    let h = bit_set a.x a.k a.b (search rules) c.requires.0 c.requires.1 in
-    omega arith
-
-pub overflow_sub-result : goal.overflow_sub-result
-overflow_sub-result c =
-    let a = c.args in
-    let h = bit_set a.x a.k a.b (search rules) c.requires.0 c.requires.1 in
-    h.held_fits
-
-pub overflow_mul-result-2 : goal.overflow_mul-result-2
-overflow_mul-result-2 c =
-    let a = c.args in
-    let h = bit_set a.x a.k a.b (search rules) c.requires.0 c.requires.1 in
-    record { fits = h.unit_fits }
 
 pub overflow_add-result : goal.overflow_add-result
 overflow_add-result c =

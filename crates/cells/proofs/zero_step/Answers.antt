@@ -15,9 +15,3 @@ returns-then-at-eq0 c =
       zero_step l _ a.at a.n 8 h
           (eight_zeros l _ a.at (c.if-at-eq0.true) c.put_byte.ensures),
     )
-
-pub returns : goal.returns
-returns c =
-    let a = c.args in
-    let l = bits_of a.cells.now in
-    (search rules, search rules, zero_step l _ a.at a.n 1 (search rules) c.put_cell.ensures)

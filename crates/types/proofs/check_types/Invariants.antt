@@ -1,7 +1,7 @@
 -- `types::check_types` meets its contract. The loop goes up: what is found from the first record on is what is found from record i on,
 -- and both arrays hold the numbers of the records before i. Each end is one law of the whole table.
 use mathlib.Core.Path.{◌≡◌}
-use Prim.Native.Nat.{◌-◌, ◌≤◌}
+use Prim.Native.Nat.{◌≤◌}
 use lib.ListN.{length}
 use Rattle.limits.specs.Limits.{type_count}
 use Rattle.scope.specs.Types.{type_records, type_rule}
@@ -19,6 +19,3 @@ invariant-loop-i l =
     × (l.count ≤ type_count)
     × (length l.widths ≡ type_count)
     × (length l.next ≡ type_count)
-
-abbrev pub decreases-loop-i : goal.decreases-loop-i
-decreases-loop-i l = l.count - l.i

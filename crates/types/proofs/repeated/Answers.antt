@@ -1,39 +1,35 @@
--- `types::repeated` meets its contract. The loop goes down from i: that an earlier record equals record i is that one below j does.
-use mathlib.Core.Path.{refl, ◌≡◌, ap₂, sym, ◌∙◌}
-use Prim.Native.Nat.{◌-◌}
-use native.Mathlib.Omega.{arith}
+-- `types::repeated` meets its contract: an earlier record equals record i exactly if `any` finds one.
+use Rattle.std.proofs.Common.{◌≡◌, refl, sym, ap, ◌∙◌, ℕ, ◌<◌, arith, rules, length, get_or}
+use Rattle.std.specs.Prelude.{Bool, true, false}
+use Rattle.std.specs.Bool.{MatchBool}
+use Rattle.std.specs.List.{range_with_len, HoldsAt, AllWithin}
+use Rattle.std.proofs.lemmas.Iterator.{cases_from_any, YieldsList-from_range}
+use Rattle.std.proofs.lemmas.List.FromFn.{length-range_with_len, get_or-range_with_len}
+use borrow.Author.Tests.{tests}
+use Rattle.scope.specs.Numbers.{every, any_below}
 use Rattle.scope.specs.Types.{type_records, same_type}
-use Rattle.types.specs.Table.{same_record}
-use Rattle.common.specs.Checks.{any_found, any_later, any_none}
+use Rattle.common.specs.Checks.{some_below, below_none}
 use Rattle.types.proofs.repeated.Goals as goal
 
-pub loop-j-init : goal.loop-j-init
-loop-j-init c = (c.record_at-own.ensures, refl, omega arith)
+-- what `any` answers over the numbers below n
+module _ (test : ℕ → Bool) (n : ℕ) where
+  itself : (j : ℕ) → j < n → j ≡ get_or (range_with_len 0 n) j 0
+  itself j l = omega (arith, get_or-range_with_len 0 n j 0 l)
 
-pub returns-then-same : goal.returns-then-same
-unfolding same_type
-returns-then-same c =
-    let l = c.loop-j in
-    let a = c.args in
-    let T = type_records a.types.now in
-    let test = same_type T a.i in
-    let s : c.same.result ≡ test (l.j - 1) = c.same.ensures ∙ ap₂ same_record l.invariant.0 c.record_at.ensures in
-    sym (l.invariant.1 ∙ any_found l.j test (omega arith) (sym s ∙ c.if-same.true))
-
-pub loop-j-preserved : goal.loop-j-preserved
-unfolding same_type
-loop-j-preserved c =
-    let l = c.loop-j in
-    let a = c.args in
-    let T = type_records a.types.now in
-    let test = same_type T a.i in
-    let s : c.same.result ≡ test (l.j - 1) = c.same.ensures ∙ ap₂ same_record l.invariant.0 c.record_at.ensures in
-    (l.invariant.0, l.invariant.1 ∙ any_later l.j test (omega arith) (sym s ∙ c.if-same.false), omega arith)
+  any_told : (r : Bool)
+      → MatchBool r ((j : ℕ) × (j < length (range_with_len 0 n)) × HoldsAt (λ k. test k ≡ true) (range_with_len 0 n) j)
+      (AllWithin (λ k. test k ≡ false) (range_with_len 0 n) 0 (length (range_with_len 0 n)))
+      → r ≡ any_below n test
+  any_told true (j, h, found) =
+      let l : j < n = omega (arith, length-range_with_len 0 n) in
+      sym (some_below n test j l (ap test (itself j l) ∙ found 0))
+  any_told false none =
+      sym (below_none n test (λ j l. ap test (itself j l) ∙ none j 0 (omega arith) (omega (arith, length-range_with_len 0 n))))
 
 pub returns : goal.returns
+unfolding same_type every
 returns c =
-    let l = c.loop-j in
-    let a = c.args in
-    let T = type_records a.types.now in
-    let test = same_type T a.i in
-    sym (l.invariant.1 ∙ any_none l.j test (omega arith))
+    let test = same_type (type_records c.args.types.now) c.args.i in
+    any_told test c.args.i c.any.result
+    (cases_from_any _ _ _ (λ j. test j ≡ true) (λ j. test j ≡ false) c.any.ensures.ran (YieldsList-from_range 0 c.args.i c.args.i refl (omega arith))
+    (λ x q k. search (rules, tests)) (λ x q k. search (rules, tests)))

@@ -5,5 +5,5 @@ use Rattle.types.proofs.types_hold.Goals as goal
 
 pub returns : goal.returns
 returns c =
-    c.without_count.ensures ∙ answer_says c.args.types.now c.check_types-table.result
-    c.check_types-table.ensures
+    c.without_count.ensures ∙ answer_says c.args.types.now c.check_types.result
+    c.check_types.ensures
