@@ -1,4 +1,3 @@
-pub mod Tests
 pub mod KindNumbers
 pub mod Stages
 pub mod Judged

@@ -22,5 +22,5 @@ arrow_at κs a s t x y p q = arrow_tells s t (p ∙ sym q)
 pub arrow_fits : OneResult 3 arrow-fits-kinds.ps arrow-fits-kinds.r arrow-fits-reads.Post
 arrow_fits κs a s t x y p q = p ∙ sym q
 
-pub check_arrows_lem : OneResult 5 check-arrows-kinds.ps check-arrows-kinds.r check-arrows-reads.Post
+pub check_arrows_lem : OneResult 2 check-arrows-kinds.ps check-arrows-kinds.r check-arrows-reads.Post
 check_arrows_lem κs a s t x y p q = check_tells s t (p ∙ sym q)

@@ -1,20 +1,19 @@
 -- What each way out of the pass over the arrows answers, of the checks that it is made of.
-use mathlib.Core.Path.{◌≡◌, ◌∙◌}
+use mathlib.Core.Path.{◌≡◌, ap, ◌∙◌}
 use mathlib.Core.List.{List, []}
 use Prim.Native.Nat.{ℕ}
 use lib.Dec.{eqb}
 use lib.ListN.{length}
+use Rattle.std.specs.Borrow.{Bor}
 use Rattle.limits.specs.Limits.{node_count}
-use Rattle.refusal.specs.declared.Refusal.{Refusal}
 use Rattle.refusal.specs.declared.Refusal.TheVariants.{OneChildDisconnect, Arrow as BadArrow}
-use Rattle.scope.specs.Check.{Check, passed, refused, ◌>>=◌, require, each}
+use Rattle.scope.specs.Check.{Check, passed, ◌>>=◌, require, each}
 use Rattle.scope.specs.Types.{type_records}
 use Rattle.scope.specs.Nodes.{node_records}
 use Rattle.scope.specs.Arrows.{arrow_records, no_one_child}
 use Rattle.scope.specs.Stages.{counted}
 use Rattle.table.specs.Lent.{lent_nodes}
-use Rattle.common.specs.Answers.{in_turn}
-use Rattle.common.specs.Checks.{then_then, stops, passes}
+use Rattle.common.specs.Checks.{passes}
 use Rattle.arrow.specs.Stage.{lent_rule, lent_refusal, counted_arrows}
 
 module _ (types nodes arrows program hashes : List ℕ) where
@@ -34,11 +33,11 @@ module _ (types nodes arrows program hashes : List ℕ) where
     unfolding counted_arrows
     arrows_counted = passes some (λ x. whole >>= λ one. one_each >>= λ count. judged)
 
-    arrows_by : (in_turn whole one_each >>= λ both. judged) ≡ counted_arrows types nodes arrows program hashes
-    arrows_by = then_then whole (λ one. one_each) (λ both. judged) ∙ arrows_counted
-
-    pub arrows_stop : {why : Refusal} → in_turn whole one_each ≡ refused why → in_turn whole one_each ≡ counted_arrows types nodes arrows program hashes
-    arrows_stop e = stops e (λ both. judged) ∙ arrows_by
-
-    pub arrows_judged : in_turn whole one_each ≡ passed tt → judged ≡ counted_arrows types nodes arrows program hashes
-    arrows_judged e = passes e (λ both. judged) ∙ arrows_by
+-- the same of a counted table of these nodes
+pub table_counted : (types arrows program hashes : List ℕ) (lent nodes : Bor (List ℕ)) → lent ≡ nodes
+    → counted (length (node_records nodes.now)) node_count ≡ passed tt
+    → (whole types lent.now arrows program hashes >>= λ one. one_each types lent.now arrows program hashes
+    >>= λ count. judged types lent.now arrows program hashes) ≡ counted_arrows types nodes.now arrows program hashes
+table_counted types arrows program hashes lent nodes same some =
+    arrows_counted types lent.now arrows program hashes (ap (λ (n : Bor (List ℕ)). counted (length (node_records n.now)) node_count) same ∙ some)
+    ∙ ap (λ (n : Bor (List ℕ)). counted_arrows types n.now arrows program hashes) same

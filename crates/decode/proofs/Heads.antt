@@ -1,30 +1,32 @@
 -- Readers one after the other at a node, and what each part of a node's head gives once what it reads first is known.
-use mathlib.Core.Path.{◌≡◌, refl, sym, ap, ap₂, ◌∙◌}
+use mathlib.Core.Path.{◌≡◌, refl, sym, ap, ap₂, subst, ◌∙◌}
 use mathlib.Core.Bool.{Bool, true, false}
 use mathlib.Core.List.{List, []}
 use Prim.Native.Nat.{ℕ, zero, suc, ◌+◌, ◌-◌, ◌/◌, ◌%◌, ◌^◌, ◌<◌, ◌≤◌}
-use native.Mathlib.Nat.{zero-add}
 use native.Mathlib.Omega.{arith}
 use lib.Dec.{eqb}
-use lib.ListN.{length}
+use lib.ListN.{length, take, drop, length-drop}
+use lib.Seq.{length-take-le}
 use borrow.Author.Tests.{eq-eqb, ne_eqb}
 use Rattle.limits.specs.Limits.{dossier_bytes, word_most, hash_bytes}
 use Rattle.refusal.specs.declared.Refusal.{Refusal}
 use Rattle.refusal.specs.declared.Refusal.TheVariants.{StreamEnded, Jet}
-use Rattle.report.specs.Bits.{Bit}
+use Rattle.report.specs.Bits.{Bit, number_from, bits_of}
 use Rattle.scope.specs.Check.{Check, passed, refused}
 use Rattle.scope.specs.Numbers.{stream_of}
 use Rattle.scope.specs.Reading.{Got, got, fault, Fault, stream_ended, a_jet, refusal_at, Reader, ◌>>=◌, give, stop, here, Item, item, next, code, natural_up_to, child, octets, combinator, word_item, node}
 use Rattle.common.specs.Checks.{clash}
-use Rattle.common.specs.Bits.{length_within}
+use Rattle.common.specs.Bits.{AreBits, below_take, below_drop, are_bits, stream_within, length_within}
+use Rattle.std.specs.Prelude.{Option, Some, None}
+use Rattle.std.specs.Option.{ok_or}
+use Rattle.bititer.specs.Answers.{got_code}
 use Rattle.bititer.specs.Windows.{window_bits}
-use Rattle.bititer.proofs.Streams.{next_within, next_past}
-use Rattle.bititer.proofs.Windows.{window_code}
+use Rattle.bititer.proofs.Streams.{next_within, next_past, code_got, stream_some}
+use Rattle.bititer.proofs.Windows.{number_below, window_code}
 use Rattle.exactness.proofs.Stream.{then_reads}
-use Rattle.decode.specs.declared.NumberRead.{NumberRead}
 use Rattle.decode.specs.declared.Follows.{Follows}
 use Rattle.decode.specs.Answers.{number_of}
-use Rattle.decode.specs.Heads.{at_node, with_one, bytes_after, followed, head_of, two_children, one_child, third, last, word_from}
+use Rattle.decode.specs.Heads.{at_node, bytes_after, followed, two_children, one_child, third, last, word_from}
 
 -- a result that passed at a node was read
 pub at_got : {X : Type 0} (i : ℕ) (g : Got X) (x : X) (n : ℕ) → at_node i g ≡ passed (x, n) → g ≡ got x n
@@ -52,12 +54,26 @@ pub at_ended : {X : Type 0} (i : ℕ) (g : Got X) → g ≡ fault stream_ended �
 unfolding at_node refusal_at
 at_ended i g e = sym (ap (at_node i) e)
 
--- a number that was read, or refused
-pub number_got : (i : ℕ) (g : Got ℕ) (r : NumberRead) (n next : ℕ) → number_of r ≡ at_node i g → r ≡ NumberRead.Number n next → g ≡ got n next
-number_got i g r n next e told = at_got i g n next (sym e ∙ ap number_of told)
+-- what was read at a node
+pub was_read : {X : Type 0} (i : ℕ) (g : Got X) {x : X} {n : ℕ} → passed (x, n) ≡ at_node i g → g ≡ got x n
+was_read i g {x} {n} e = at_got i g x n (sym e)
 
-pub number_stopped : (i : ℕ) (g : Got ℕ) (r : NumberRead) (why : Refusal) → number_of r ≡ at_node i g → r ≡ NumberRead.Refused why → at_node i g ≡ refused why
-number_stopped i g r why e told = sym e ∙ ap number_of told
+-- bits that are there were read, and bits that are not are refused with the stream's end
+pub code_told : (i : ℕ) (o : Option (ℕ × ℕ)) {g : Got ℕ} → got_code o ≡ g → number_of (ok_or o (StreamEnded i)) ≡ at_node i g
+unfolding at_node refusal_at
+code_told i (Some (v, n)) e = ap (at_node i) e
+code_told i None e = ap (at_node i) e
+
+-- a subcode of two bits
+pub subcode : (program : List ℕ) (at v n : ℕ) → code (stream_of program) 2 at ≡ got v n → v < 4
+subcode program at v n e =
+    let bits = stream_of program in
+    let c = code_got bits 2 at v n e in
+    let d = stream_within program (stream_some program at (omega arith)) in
+    let are : AreBits (drop at bits) = subst (λ (l : List Bit). AreBits (drop at l)) (sym d) (below_drop 2 at (bits_of program) (are_bits program)) in
+    let two : length (take 2 (drop at bits)) ≡ 2 = length-take-le 2 (drop at bits) (omega (arith, length-drop at bits)) in
+    subst (λ (x : ℕ). x < 4) (sym c.2)
+    (subst (λ (k : ℕ). number_from 0 (take 2 (drop at bits)) < 2 ^ k) two (number_below (take 2 (drop at bits)) (below_take 2 2 (drop at bits) are)))
 
 module _ (bits : List Bit) (i at : ℕ) where
   -- a child whose distance is refused, or read
@@ -88,11 +104,14 @@ module _ (bits : List Bit) (i at : ℕ) where
   both_read kind a m b n e f = ap (at_node i) (sym (after_first_lem kind a m e ∙ then_reads (child bits i) (λ b. item kind a b []) m b n f))
 
   -- one child, refused or read
-  pub one_head : (kind : ℕ) (r : NumberRead) → number_of r ≡ at_node i (child bits i at) → head_of bits i (with_one kind r) ≡ at_node i (one_child bits kind i at)
+  pub only_stops : (kind : ℕ) (why : Refusal) → at_node i (child bits i at) ≡ refused why → refused why ≡ at_node i (one_child bits kind i at)
+  unfolding one_child
+  only_stops kind why e = sym (stops i (child bits i) (λ a. item kind a 0 []) at why e)
+
+  pub only_read : (kind a n : ℕ) → child bits i at ≡ got a n
+      → at_node i (followed bits (record { kind = kind; first = a; second = 0; third = 0 }) Follows.Nothing n) ≡ at_node i (one_child bits kind i at)
   unfolding one_child followed bytes_after ◌>>=◌ give item
-  one_head kind (NumberRead.Number a n) e =
-      ap (at_node i) (sym (then_reads (child bits i) (λ a. item kind a 0 []) at a n (at_got i (child bits i at) a n (sym e))))
-  one_head kind (NumberRead.Refused why) e = sym (stops i (child bits i) (λ a. item kind a 0 []) at why (sym e))
+  only_read kind a n e = ap (at_node i) (sym (then_reads (child bits i) (λ a. item kind a 0 []) at a n e))
 
   -- the third group by its code
   pub third_child : (held sub : ℕ) → sub ≡ 3 → third bits i held sub at ≡ one_child bits 11 i at
@@ -104,18 +123,18 @@ module _ (bits : List Bit) (i at : ℕ) where
   unfolding third followed bytes_after item
   third_fail held sub e = sym (rw (ne_eqb sub 3 (λ q. omega arith), eq-eqb sub 2 e, third))
 
-  pub third_leaf : (held sub : ℕ) → (sub ≡ 3 → ⊥) → (sub ≡ 2 → ⊥)
-      → followed bits (record { kind = 8 + sub; first = 0; second = 0; third = 0 }) Follows.Nothing at ≡ third bits i held sub at
+  pub third_leaf : (held sub kind : ℕ) → kind ≡ 8 + sub → sub < 2
+      → followed bits (record { kind = kind; first = 0; second = 0; third = 0 }) Follows.Nothing at ≡ third bits i held sub at
   unfolding third followed bytes_after item give ◌>>=◌
-  third_leaf held sub m n = sym (rw (ne_eqb sub 3 m, ne_eqb sub 2 n, third))
+  third_leaf held sub kind e h = rw e (sym (rw (ne_eqb sub 3 (λ q. omega arith), ne_eqb sub 2 (λ q. omega arith), third)))
 
-  -- the last group: its bit is not there, or tells a witness from a hidden node
+  -- the last group: its bit is refused, or tells a witness from a hidden node
   abbrev by_last_bit : (held : ℕ) → Bool → Reader Item
   by_last_bit held b = elim b [ true ↦ item 12 0 0 [] | false ↦ (octets bits hash_bytes >>= λ bytes. item 13 held 0 bytes) ]
 
-  pub last_ended : (held : ℕ) → code bits 1 at ≡ fault stream_ended → last bits held at ≡ fault stream_ended
+  pub last_stops : (held : ℕ) (why : Refusal) → at_node i (code bits 1 at) ≡ refused why → refused why ≡ at_node i (last bits held at)
   unfolding last
-  last_ended held e = stops_with (code bits 1) _ at stream_ended e
+  last_stops held why e = sym (stops i (code bits 1) (λ sub. by_last_bit held (eqb sub 1)) at why e)
 
   pub last_witness : (held sub n : ℕ) → code bits 1 at ≡ got sub n → sub ≡ 1
       → followed bits (record { kind = 12; first = 0; second = 0; third = 0 }) Follows.Nothing n ≡ last bits held at
@@ -137,19 +156,18 @@ module _ (bits : List Bit) (i at : ℕ) where
   combinator-last held (suc (suc zero)) h = absurd (omega arith)
   combinator-last held (suc (suc (suc k))) h = refl
 
-  pub combinator_ended : (held two : ℕ) → two < 3 → code bits 2 at ≡ fault stream_ended → combinator bits i held two at ≡ fault stream_ended
+  pub combinator_stops : (held two : ℕ) (why : Refusal) → two < 3 → at_node i (code bits 2 at) ≡ refused why
+      → refused why ≡ at_node i (combinator bits i held two at)
   unfolding combinator
-  combinator_ended held zero h e = stops_with (code bits 2) _ at stream_ended e
-  combinator_ended held (suc zero) h e = stops_with (code bits 2) _ at stream_ended e
-  combinator_ended held (suc (suc zero)) h e = stops_with (code bits 2) _ at stream_ended e
-  combinator_ended held (suc (suc (suc k))) h e = absurd (omega arith)
+  combinator_stops held zero why h e = sym (stops i (code bits 2) _ at why e)
+  combinator_stops held (suc zero) why h e = sym (stops i (code bits 2) _ at why e)
+  combinator_stops held (suc (suc zero)) why h e = sym (stops i (code bits 2) _ at why e)
+  combinator_stops held (suc (suc (suc k))) why h e = absurd (omega arith)
 
-  pub combinator_two : (held two sub n : ℕ) → two ≡ 0 → code bits 2 at ≡ got sub n → combinator bits i held two at ≡ two_children bits (0 + sub) i n
+  pub combinator_two : (held two sub n : ℕ) → two ≡ 0 → code bits 2 at ≡ got sub n → combinator bits i held two at ≡ two_children bits sub i n
   unfolding combinator two_children
   combinator_two held two sub n h e =
-      ap (λ (k : ℕ). combinator bits i held k at) h
-      ∙ then_reads (code bits 2) (λ sub. two_children bits sub i) at sub n e
-      ∙ ap (λ (k : ℕ). two_children bits k i n) (sym (zero-add sub))
+      ap (λ (k : ℕ). combinator bits i held k at) h ∙ then_reads (code bits 2) (λ sub. two_children bits sub i) at sub n e
 
   pub combinator_one : (held two sub n : ℕ) → two ≡ 1 → code bits 2 at ≡ got sub n → combinator bits i held two at ≡ one_child bits (4 + sub) i n
   unfolding combinator one_child
@@ -171,9 +189,9 @@ module _ (bits : List Bit) (i at : ℕ) where
   word_read n first e = then_reads (natural_up_to bits word_most) (λ n. here >>= λ first. next bits (2 ^ (n - 1)) >>= λ bs. item 14 n first []) at n first e
 
   -- a node by its first bits
-  pub node_ended : (held : ℕ) → code bits 1 at ≡ fault stream_ended → node bits i held at ≡ fault stream_ended
+  pub node_stops : (held : ℕ) (why : Refusal) → at_node i (code bits 1 at) ≡ refused why → refused why ≡ at_node i (node bits i held at)
   unfolding node
-  node_ended held e = stops_with (code bits 1) _ at stream_ended e
+  node_stops held why e = sym (stops i (code bits 1) _ at why e)
 
   -- after the second bit of what is no combinator: a jet, or a word
   abbrev by_jet_bit : Bool → Reader Item
@@ -186,14 +204,18 @@ module _ (bits : List Bit) (i at : ℕ) where
   unfolding node
   first_bit held b n t e h = then_reads (code bits 1) (λ other. by_first_bit held (eqb other 0)) at b n e ∙ ap (λ (t : Bool). by_first_bit held t n) h
 
-  pub code_ended : (held b n : ℕ) → code bits 1 at ≡ got b n → b ≡ 0 → code bits 2 n ≡ fault stream_ended → node bits i held at ≡ fault stream_ended
-  code_ended held b n e h f = first_bit held b n true e (eq-eqb b 0 h) ∙ stops_with (code bits 2) (λ two. combinator bits i held two) n stream_ended f
+  pub code_stops : (held b n : ℕ) (why : Refusal) → code bits 1 at ≡ got b n → b ≡ 0 → at_node i (code bits 2 n) ≡ refused why
+      → refused why ≡ at_node i (node bits i held at)
+  code_stops held b n why e h f =
+      sym (ap (at_node i) (first_bit held b n true e (eq-eqb b 0 h)) ∙ stops i (code bits 2) (λ two. combinator bits i held two) n why f)
 
   pub code_read : (held b n two m : ℕ) → code bits 1 at ≡ got b n → b ≡ 0 → code bits 2 n ≡ got two m → node bits i held at ≡ combinator bits i held two m
   code_read held b n two m e h f = first_bit held b n true e (eq-eqb b 0 h) ∙ then_reads (code bits 2) (λ two. combinator bits i held two) n two m f
 
-  pub jet_ended : (held b n : ℕ) → code bits 1 at ≡ got b n → (b ≡ 0 → ⊥) → code bits 1 n ≡ fault stream_ended → node bits i held at ≡ fault stream_ended
-  jet_ended held b n e h f = first_bit held b n false e (ne_eqb b 0 h) ∙ stops_with (code bits 1) (λ jet. by_jet_bit (eqb jet 1)) n stream_ended f
+  pub jet_stops : (held b n : ℕ) (why : Refusal) → code bits 1 at ≡ got b n → (b ≡ 0 → ⊥) → at_node i (code bits 1 n) ≡ refused why
+      → refused why ≡ at_node i (node bits i held at)
+  jet_stops held b n why e h f =
+      sym (ap (at_node i) (first_bit held b n false e (ne_eqb b 0 h)) ∙ stops i (code bits 1) (λ jet. by_jet_bit (eqb jet 1)) n why f)
 
   second_bit : (held b n jet m : ℕ) (t : Bool) → code bits 1 at ≡ got b n → (b ≡ 0 → ⊥) → code bits 1 n ≡ got jet m → eqb jet 1 ≡ t
       → node bits i held at ≡ by_jet_bit t m
@@ -229,7 +251,7 @@ module _ (program : List ℕ) (i at held w : ℕ) (read : code (stream_of progra
   pub kind_two : w / 1048576 < 4 → node (stream_of program) i held at ≡ two_children (stream_of program) (w / 1048576) i (at + 5)
   kind_two h =
       first_three ∙ combinator_two (stream_of program) i (at + 1 + 2) held (w / 1048576 / 4) (w / 1048576 % 4) (at + 5) (omega arith) last_two
-      ∙ ap (λ (k : ℕ). two_children (stream_of program) k i (at + 5)) (let y : 0 + w / 1048576 % 4 ≡ w / 1048576 = omega arith in y)
+      ∙ ap (λ (k : ℕ). two_children (stream_of program) k i (at + 5)) (let y : w / 1048576 % 4 ≡ w / 1048576 = omega arith in y)
 
   pub kind_one : 4 ≤ w / 1048576 → w / 1048576 < 8 → node (stream_of program) i held at ≡ one_child (stream_of program) (w / 1048576) i (at + 5)
   kind_one g h =
@@ -240,9 +262,7 @@ module _ (program : List ℕ) (i at held w : ℕ) (read : code (stream_of progra
       → followed (stream_of program) (record { kind = w / 1048576; first = 0; second = 0; third = 0 }) Follows.Nothing (at + 5)
       ≡ node (stream_of program) i held at
   kind_none g h =
-      let y : w / 1048576 ≡ 8 + w / 1048576 % 4 = omega arith in
-      ap (λ (k : ℕ). followed (stream_of program) (record { kind = k; first = 0; second = 0; third = 0 }) Follows.Nothing (at + 5)) y
-      ∙ third_leaf (stream_of program) i (at + 5) held (w / 1048576 % 4) (λ q. omega arith) (λ q. omega arith)
+      third_leaf (stream_of program) i (at + 5) held (w / 1048576 % 4) (w / 1048576) (omega arith) (omega arith)
       ∙ sym (first_three ∙ combinator-third (stream_of program) i (at + 1 + 2) held (w / 1048576 / 4) (w / 1048576 % 4) (at + 5) (omega arith) last_two)
 
 -- a word whose bits are not all there, and one whose bits are

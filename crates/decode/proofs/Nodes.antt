@@ -1,5 +1,5 @@
 -- A whole node: its head, and the bytes that follow it in the hash store. They were stored, or the stream ended in them, or the store has no room.
-use mathlib.Core.Path.{◌≡◌, refl, sym, ap, ◌∙◌, subst}
+use mathlib.Core.Path.{◌≡◌, refl, sym, ap, ◌∙◌}
 use mathlib.Core.Bool.{Bool, true, false}
 use mathlib.Core.List.{List, [], ◌++◌}
 use Prim.Native.Nat.{ℕ, ◌+◌, ◌*◌, ◌≤◌}
@@ -15,16 +15,15 @@ use Rattle.scope.specs.Check.{refused}
 use Rattle.scope.specs.Nodes.{NodeRecord}
 use Rattle.scope.specs.Reading.{Got, got, fault, Fault, hashes_short, refusal_at, Reader, give, stop, Item, node, node_in}
 use Rattle.common.specs.Checks.{clash}
+use Rattle.std.specs.Prelude.{Result, Ok, Err}
 use Rattle.bititer.specs.Answers.{Stored, stored, placed, storing, bytes_fault, got_bytes}
 use Rattle.bititer.specs.declared.BytesFault.{BytesFault}
-use Rattle.bititer.specs.declared.BytesRead.{BytesRead}
 use Rattle.bititer.proofs.Streams.{octets-got}
 use Rattle.common.specs.Bits.{length_bytes}
 use Rattle.table.specs.Answers.{record_of}
 use Rattle.exactness.proofs.Stream.{then_reads}
 use Rattle.decode.specs.declared.Follows.{Follows}
 use Rattle.decode.specs.declared.NodeHead.{NodeHead}
-use Rattle.decode.specs.declared.HeadRead.{HeadRead}
 use Rattle.decode.specs.Answers.{size_of}
 use Rattle.decode.specs.Heads.{at_node, bytes_after, followed}
 use Rattle.decode.specs.Stores.{NodeMeans}
@@ -139,20 +138,18 @@ module _ (bits : List Bit) (i held at : ℕ) (store : List ℕ) where
             (ap (λ (f : Fault). refused (refusal_at i f)) s
             ∙ sym (ap (at_node i) (stops_with (bytes_after bits follows) (λ bytes. give (record { node = r; stored = bytes })) middle f q)) ∙ head)
 
-  -- what an answer says, once it is known which it is
-  pub told_node : (r known : HeadRead) (left : List ℕ) → r ≡ known → NodeMeans bits i held at store r left → NodeMeans bits i held at store known left
-  told_node r known left e m = subst (λ (r : HeadRead). NodeMeans bits i held at store r left) e m
-
   -- what the code's answers of head and bytes come to
   module _ (h : NodeHead) (middle : ℕ) (head : at_node i (followed bits (record_of h.node) h.follows middle) ≡ at_node i (node bits i held at))
-      (b : BytesRead) (left : List ℕ) (w : ℕ) (same : w ≡ held) (e : stored (got_bytes b) left ≡ storing (bytes_after bits h.follows middle) store w) where
-    says : (c : BytesRead) → b ≡ c → stored (got_bytes c) left ≡ storing (bytes_after bits h.follows middle) store held
-    says c told = sym (ap (λ (c : BytesRead). stored (got_bytes c) left) told) ∙ e ∙ ap (storing (bytes_after bits h.follows middle) store) same
+      (left : List ℕ) (w : ℕ) (same : w ≡ held) where
+    says : (b : Result ℕ BytesFault) → stored (got_bytes b) left ≡ storing (bytes_after bits h.follows middle) store w
+        → stored (got_bytes b) left ≡ storing (bytes_after bits h.follows middle) store held
+    says b e = e ∙ ap (storing (bytes_after bits h.follows middle) store) same
 
-    pub node_in_lem : (next : ℕ) → b ≡ BytesRead.Read next → NodeMeans bits i held at store (HeadRead.Read h next) left
-    node_in_lem next told = bytes_in (record_of h.node) h.follows middle head next left (says (BytesRead.Read next) told)
+    pub node_in_lem : (next : ℕ) → stored (got tt next) left ≡ storing (bytes_after bits h.follows middle) store w
+        → NodeMeans bits i held at store (Ok (h, next)) left
+    node_in_lem next e = bytes_in (record_of h.node) h.follows middle head next left (says (Ok next) e)
 
-    pub node_out : (f : BytesFault) (why : Refusal) → b ≡ BytesRead.Fault f → why ≡ refusal_at i (bytes_fault f)
-        → NodeMeans bits i held at store (HeadRead.Refused why) left
-    node_out f why told r =
-        bytes_out (record_of h.node) h.follows middle head (bytes_fault f) left (says (BytesRead.Fault f) told) ∙ sym (ap (λ (r : Refusal). refused r) r)
+    pub node_out : (f : BytesFault) (why : Refusal) → stored (fault (bytes_fault f)) left ≡ storing (bytes_after bits h.follows middle) store w
+        → why ≡ refusal_at i (bytes_fault f) → NodeMeans bits i held at store (Err why) left
+    node_out f why e r =
+        bytes_out (record_of h.node) h.follows middle head (bytes_fault f) left (says (Err f) e) ∙ sym (ap (λ (r : Refusal). refused r) r)

@@ -13,8 +13,8 @@ use Rattle.scope.specs.Nodes.{node_records, node_numbers_of}
 use Rattle.scope.specs.Reading.{NodeTable}
 use Rattle.scope.specs.Closing.{decode, nodes_left, hashes_left}
 use Rattle.common.specs.Checks.{clash}
+use Rattle.std.specs.Prelude.{Result, Ok, Err}
 use Rattle.decode.specs.declared.Sizes.{Sizes}
-use Rattle.decode.specs.declared.Decoded.{Decoded}
 use Rattle.decode.specs.Answers.{said_of}
 use Rattle.decode.specs.Stores.{sizes_with, Left, left, table_sizes, left_by}
 use Rattle.common.specs.Nodes.{records_back, length_numbers}
@@ -25,7 +25,7 @@ unfolding filled
 filled_front numbers store n e = take_at numbers (zeros (length store - length numbers)) n e
 
 -- the call answers r and leaves these stores
-module _ (program nodes hashes : List ℕ) (r : Decoded) (nodes' hashes' : List ℕ)
+module _ (program nodes hashes : List ℕ) (r : Result Sizes Refusal) (nodes' hashes' : List ℕ)
     (promise : left (said_of r) nodes' hashes' ≡ left_by (decode program (length nodes / node_numbers) (length hashes)) nodes hashes) where
   -- the requirements' answer
   abbrev pub wanted : Check NodeTable
@@ -55,7 +55,7 @@ module _ (program nodes hashes : List ℕ) (r : Decoded) (nodes' hashes' : List 
       }
 
   -- what either answer tells
-  pub table_told : (sizes : Sizes) → r ≡ Decoded.Table sizes → (t : NodeTable) × (wanted ≡ passed t) × Holds t
+  pub table_told : (sizes : Sizes) → r ≡ Ok sizes → (t : NodeTable) × (wanted ≡ passed t) × Holds t
   unfolding left_by table_sizes
   table_told sizes e = go wanted refl (sym (ap said_of e) ∙ ap (λ (x : Left). x.says) promise)
     where
@@ -63,7 +63,7 @@ module _ (program nodes hashes : List ℕ) (r : Decoded) (nodes' hashes' : List 
       go (passed t) d e = (t, d, holds t d)
       go (refused why) d e = clash (cc)
 
-  pub refused_told : (why : Refusal) → r ≡ Decoded.Refused why → (wanted ≡ refused why) × (nodes' ≡ zeros (length nodes)) × (hashes' ≡ zeros (length hashes))
+  pub refused_told : (why : Refusal) → r ≡ Err why → (wanted ≡ refused why) × (nodes' ≡ zeros (length nodes)) × (hashes' ≡ zeros (length hashes))
   unfolding left_by table_sizes nodes_left hashes_left
   refused_told why e = go wanted refl (sym (ap said_of e) ∙ ap (λ (x : Left). x.says) promise)
     where

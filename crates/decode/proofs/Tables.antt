@@ -18,27 +18,23 @@ use Rattle.scope.specs.Nodes.{NodeRecord, node_records, node_numbers_of, nodes_o
 use Rattle.scope.specs.Reading.{Got, got, fault, refusal_at, Item, natural_up_to, node_in, NodeTable, nodes_from, read_nodes}
 use Rattle.scope.specs.Walk.{check_walk}
 use Rattle.scope.specs.Closing.{closes, decode, nodes_left, hashes_left}
+use Rattle.std.specs.Prelude.{Result, Ok, Err}
+use Rattle.std.specs.Result.{result_unwrap_or}
 use Rattle.common.specs.Checks.{clash, counted_fine, then_then, then_refuses, then_passes}
 use Rattle.bititer.specs.Answers.{placed}
 use Rattle.bititer.proofs.Naturals.{up_to_got}
-use Rattle.common.specs.Answers.{check_of}
 use Rattle.table.specs.Answers.{record_of}
 use Rattle.table.specs.Stage.{counted_walk}
-use Rattle.common.specs.declared.Checked.{Checked}
 use Rattle.common.specs.Nodes.{length_records, numbers_back}
 use Rattle.table.proofs.Stages.{walk_then}
 use Rattle.table.proofs.AnyBits.{walk_any_bits}
 use Rattle.decode.specs.declared.NodeHead.{NodeHead}
-use Rattle.decode.specs.declared.HeadRead.{HeadRead}
 use Rattle.decode.specs.declared.Progress.{Progress}
-use Rattle.decode.specs.declared.Progressed.{Progressed}
 use Rattle.decode.specs.declared.Sizes.{Sizes}
-use Rattle.decode.specs.declared.Decoded.{Decoded}
 use Rattle.decode.specs.Answers.{size_of, said_of}
-use Rattle.decode.specs.declared.NumberRead.{NumberRead}
-use Rattle.decode.specs.Heads.{at_node, count_in, begun_of}
+use Rattle.decode.specs.Heads.{at_node, count_in}
 use Rattle.common.specs.Stores.{cleared, all_cleared}
-use Rattle.decode.specs.Stores.{record_put, NodeMeans, Room, table_in, table_of, more, StepMeans, read_all, judging, ReadMeans, JudgedMeans, DecodedMeans, settled_of, stopped_of, sizes_of, left, table_sizes, left_by}
+use Rattle.decode.specs.Stores.{record_put, NodeMeans, Room, table_in, table_of, more, StepMeans, read_all, judging, ReadMeans, JudgedMeans, DecodedMeans, sizes_with, left, table_sizes, left_by}
 use Rattle.decode.proofs.Records.{put_records}
 
 -- the front of a store after bytes were put behind it
@@ -88,9 +84,9 @@ module _ (bits : List Bit) (nodes hashes : List ℕ) (done : Progress) (room : R
       (take done.hashes hashes) done.at why held_length e
 
   pub step_read : (h : NodeHead) (next : ℕ) (nodes' hashes' : List ℕ)
-      → NodeMeans bits done.nodes done.hashes done.at hashes (HeadRead.Read h next) hashes'
+      → NodeMeans bits done.nodes done.hashes done.at hashes (Ok (h, next)) hashes'
       → nodes' ≡ record_put nodes done.nodes (record_of h.node) → (size : ℕ) → size ≡ size_of h.follows → size ≤ fail_bytes
-      → StepMeans bits nodes hashes done (Progressed.Read (record { nodes = done.nodes + 1; hashes = done.hashes + size; at = next })) nodes' hashes'
+      → StepMeans bits nodes hashes done (Ok (record { nodes = done.nodes + 1; hashes = done.hashes + size; at = next })) nodes' hashes'
   step_read h next nodes' hashes' m p size s l =
       let b : size ≡ length m.0 = s ∙ sym m.2 in
       let fits = m.3 in
@@ -124,22 +120,17 @@ ended_more bits room k nodes hashes done e = ap (λ (k : ℕ). more bits room k 
 -- a turn of the loop over the nodes: it stops, or goes on with one node less to read
 module _ (bits : List Bit) (wanted : Check NodeTable) (room count : ℕ) (nodes hashes : List ℕ) (done : Progress)
     (so_far : wanted ≡ more bits room (count - done.nodes) nodes hashes done) (left : done.nodes < count) (same : length hashes ≡ room)
-    (r : Progressed) (nodes' hashes' : List ℕ) (step : StepMeans bits nodes hashes done r nodes' hashes') where
+    (nodes' hashes' : List ℕ) where
   one_less : wanted ≡ more bits (length hashes) (suc (count - (done.nodes + 1))) nodes hashes done
   one_less =
       so_far ∙ ap₂ (λ (k m : ℕ). more bits k m nodes hashes done) (sym same) (let e : count - done.nodes ≡ suc (count - (done.nodes + 1)) = omega arith in e)
 
-  pub turn_stops : (why : Refusal) → r ≡ Progressed.Refused why → (n h : List ℕ) → ReadMeans wanted r n h
-  turn_stops why told n h =
-      let stopped = subst (λ (r : Progressed). StepMeans bits nodes hashes done r nodes' hashes') told step in
-      subst (λ (r : Progressed). ReadMeans wanted r n h) (sym told) (one_less ∙ stopped (count - (done.nodes + 1)))
+  pub turn_stops : (why : Refusal) → StepMeans bits nodes hashes done (Err why) nodes' hashes' → wanted ≡ refused why
+  turn_stops why step = one_less ∙ step (count - (done.nodes + 1))
 
-  pub turn_goes : (after : Progress) → r ≡ Progressed.Read after
-      → (after.nodes ≡ done.nodes + 1) × (after.hashes ≤ length hashes) × (after.hashes ≤ fail_bytes * after.nodes)
-      × (wanted ≡ more bits room (count - after.nodes) nodes' hashes' after)
-  turn_goes after told =
-      let m = subst (λ (r : Progressed). StepMeans bits nodes hashes done r nodes' hashes') told step in
-      (m.0, m.1, m.2, one_less ∙ m.3 (count - (done.nodes + 1)) ∙ ap₂ (λ (k m : ℕ). more bits k (count - m) nodes' hashes' after) same (sym m.0))
+  pub turn_goes : (after : Progress) → StepMeans bits nodes hashes done (Ok after) nodes' hashes'
+      → wanted ≡ more bits room (count - after.nodes) nodes' hashes' after
+  turn_goes after step = one_less ∙ step.3 (count - (done.nodes + 1)) ∙ ap₂ (λ (k m : ℕ). more bits k (count - m) nodes' hashes' after) same (sym step.0)
 
 -- the two numbers of a check that passed
 abbrev number_in : ℕ → Check (ℕ × ℕ) → ℕ
@@ -243,27 +234,8 @@ module _ (program : List ℕ) (room bytes : ℕ) where
   pub decode_judges : (t : NodeTable) → read_all program room bytes ≡ passed t → decode program room bytes ≡ judging program t
   decode_judges t e = decode_by ∙ then_passes (read_all program room bytes) (judging program) t e
 
--- a refusal of the count, of the walk and of the reading, as the stage after it hands it on
-pub begun_means : (wanted : Check NodeTable) (r : Progressed) (count : NumberRead) (why : Refusal) (nodes hashes : List ℕ)
-    → r ≡ begun_of count → count ≡ NumberRead.Refused why
-    → wanted ≡ refused why → ReadMeans wanted r nodes hashes
-begun_means wanted r count why nodes hashes e told p = subst (λ (r : Progressed). ReadMeans wanted r nodes hashes) (sym (e ∙ ap begun_of told)) p
-
-pub settled_means : (program : List ℕ) (t : NodeTable) (done : Progress) (r : Decoded) (c : Checked) (sizes : Sizes) (why : Refusal) → r ≡ settled_of c sizes
-    → c ≡ Checked.Refused why → judging program t ≡ refused why → JudgedMeans program t done r
-settled_means program t done r c sizes why e told p =
-    subst (λ (r : Decoded). JudgedMeans program t done r) (sym (e ∙ ap (λ (c : Checked). settled_of c sizes) told)) p
-
-pub stopped_means : (wanted : Check NodeTable) (r : Decoded) (read : Progressed) (why : Refusal) (nodes hashes : List ℕ)
-    → r ≡ stopped_of read → read ≡ Progressed.Refused why
-    → wanted ≡ refused why → DecodedMeans wanted r nodes hashes
-stopped_means wanted r read why nodes hashes e told p = subst (λ (r : Decoded). DecodedMeans wanted r nodes hashes) (sym (e ∙ ap stopped_of told)) p
-
-pub told_read : (wanted : Check NodeTable) (r known : Progressed) (nodes hashes : List ℕ) → r ≡ known → ReadMeans wanted r nodes hashes
-    → ReadMeans wanted known nodes hashes
-told_read wanted r known nodes hashes e m = subst (λ (r : Progressed). ReadMeans wanted r nodes hashes) e m
-
-pub read_means : (wanted other : Check NodeTable) (r : Progressed) (nodes hashes : List ℕ) → wanted ≡ other → ReadMeans other r nodes hashes
+-- reading as a whole is what is wanted where reading the nodes is
+pub read_means : (wanted other : Check NodeTable) (r : Result Progress Refusal) (nodes hashes : List ℕ) → wanted ≡ other → ReadMeans other r nodes hashes
     → ReadMeans wanted r nodes hashes
 read_means wanted other r nodes hashes e m = subst (λ (w : Check NodeTable). ReadMeans w r nodes hashes) (sym e) m
 
@@ -283,46 +255,43 @@ module _ (program nodes hashes : List ℕ) (n at : ℕ) (whole : length nodes �
   abbrev closing : Unit {0} → Check NodeTable
   closing walked = require (closes (stream_of program) at) (Closing (length (node_records nodes))) >>= λ closed. passed table
 
-  pub walk_refuses : (c : Checked) (why : Refusal) → check_of c ≡ counted_walk hashes nodes → c ≡ Checked.Refused why → judging program table ≡ refused why
+  pub walk_refuses : (why : Refusal) → refused why ≡ counted_walk hashes nodes → judging program table ≡ refused why
   unfolding judging
-  walk_refuses c why e told =
-      then_refuses (check_walk (nodes_of (stream_of program) hashes (node_records nodes))) closing why (sym walk_is ∙ sym e ∙ ap check_of told)
+  walk_refuses why e = then_refuses (check_walk (nodes_of (stream_of program) hashes (node_records nodes))) closing why (sym walk_is ∙ sym e)
 
-  after_walk : (c : Checked) → check_of c ≡ counted_walk hashes nodes → c ≡ Checked.Passed → judging program table ≡ closing tt
+  after_walk : passed tt ≡ counted_walk hashes nodes → judging program table ≡ closing tt
   unfolding judging
-  after_walk c e told = then_passes (check_walk (nodes_of (stream_of program) hashes (node_records nodes))) closing tt (sym walk_is ∙ sym e ∙ ap check_of told)
+  after_walk e = then_passes (check_walk (nodes_of (stream_of program) hashes (node_records nodes))) closing tt (sym walk_is ∙ sym e)
 
   -- the closing as it is told of n nodes
-  closing_is : (c : Checked) → check_of c ≡ require (closes (stream_of program) at) (Closing n)
-      → require (closes (stream_of program) at) (Closing (length (node_records nodes))) ≡ check_of c
+  closing_is : (c : Check (Unit {0})) → c ≡ require (closes (stream_of program) at) (Closing n)
+      → require (closes (stream_of program) at) (Closing (length (node_records nodes))) ≡ c
   closing_is c e = ap (λ (k : ℕ). require (closes (stream_of program) at) (Closing k)) count_is ∙ sym e
 
-  pub closing_refuses : (c d : Checked) (why : Refusal) → check_of c ≡ counted_walk hashes nodes → c ≡ Checked.Passed
-      → check_of d ≡ require (closes (stream_of program) at) (Closing n) → d ≡ Checked.Refused why → judging program table ≡ refused why
-  closing_refuses c d why e told f stop =
-      after_walk c e told
-      ∙ then_refuses (require (closes (stream_of program) at) (Closing (length (node_records nodes)))) (λ closed. passed table) why
-      (closing_is d f ∙ ap check_of stop)
+  pub closing_refuses : (why : Refusal) → passed tt ≡ counted_walk hashes nodes → refused why ≡ require (closes (stream_of program) at) (Closing n)
+      → judging program table ≡ refused why
+  closing_refuses why e f =
+      after_walk e
+      ∙ then_refuses (require (closes (stream_of program) at) (Closing (length (node_records nodes)))) (λ closed. passed table) why (closing_is (refused why) f)
 
-  pub all_passed : (c d : Checked) → check_of c ≡ counted_walk hashes nodes → c ≡ Checked.Passed
-      → check_of d ≡ require (closes (stream_of program) at) (Closing n) → d ≡ Checked.Passed → judging program table ≡ passed table
-  all_passed c d e told f fine =
-      after_walk c e told
-      ∙ then_passes (require (closes (stream_of program) at) (Closing (length (node_records nodes)))) (λ closed. passed table) tt
-      (closing_is d f ∙ ap check_of fine)
+  pub all_passed : passed tt ≡ counted_walk hashes nodes → passed tt ≡ require (closes (stream_of program) at) (Closing n)
+      → judging program table ≡ passed table
+  all_passed e f =
+      after_walk e
+      ∙ then_passes (require (closes (stream_of program) at) (Closing (length (node_records nodes)))) (λ closed. passed table) tt (closing_is (passed tt) f)
 
 -- what walk and closing say of the table in the stores is what decoding says
-pub judged_means : (program : List ℕ) (room bytes : ℕ) (nodes hashes : List ℕ) (done : Progress) (r : Decoded)
+pub judged_means : (program : List ℕ) (room bytes : ℕ) (nodes hashes : List ℕ) (done : Progress) (r : Result Sizes Refusal)
     → read_all program room bytes ≡ passed (table_in nodes hashes done) → node_numbers * done.nodes ≤ length nodes → done.hashes ≤ length hashes
     → JudgedMeans program (table_in nodes hashes done) done r → DecodedMeans (decode program room bytes) r nodes hashes
-judged_means program room bytes nodes hashes done (Decoded.Table sizes) e k l (j, s) =
+judged_means program room bytes nodes hashes done (Ok sizes) e k l (j, s) =
     let p : decode program room bytes ≡ passed (table_in nodes hashes done) = decode_judges program room bytes (table_in nodes hashes done) e ∙ j in
-    subst (λ (z : Sizes). DecodedMeans (decode program room bytes) (Decoded.Table z) nodes hashes) (sym s) (done.at, p, k, l)
-judged_means program room bytes nodes hashes done (Decoded.Refused why) e k l j = decode_judges program room bytes (table_in nodes hashes done) e ∙ j
+    subst (λ (z : Sizes). DecodedMeans (decode program room bytes) (Ok z) nodes hashes) (sym s) (done.at, p, k, l)
+judged_means program room bytes nodes hashes done (Err why) e k l j = decode_judges program room bytes (table_in nodes hashes done) e ∙ j
 
 -- the same, of the fronts that the code hands on
-pub fronts_mean : (program : List ℕ) (room bytes : ℕ) (nodes hashes : List ℕ) (done : Progress) (r : Decoded)
-    → ReadMeans (read_all program room bytes) (Progressed.Read done) nodes hashes
+pub fronts_mean : (program : List ℕ) (room bytes : ℕ) (nodes hashes : List ℕ) (done : Progress) (r : Result Sizes Refusal)
+    → ReadMeans (read_all program room bytes) (Ok done) nodes hashes
     → (n h : ℕ) → n ≡ done.nodes → h ≡ done.hashes → JudgedMeans program (table_of (take (node_numbers * n) nodes) (take h hashes) done) done r
     → DecodedMeans (decode program room bytes) r nodes hashes
 fronts_mean program room bytes nodes hashes done r m n h p q j =
@@ -344,11 +313,11 @@ cleared-filled store store₀ n numbers h l e =
 cleared_whole : (store store₀ : List ℕ) → length store ≡ length store₀ → cleared store 0 ≡ zeros (length store₀)
 cleared_whole store store₀ l = all_cleared store ∙ ap zeros l
 
-pub decode_leaves : (wanted : Check NodeTable) (r : Decoded) (nodes hashes nodes₀ hashes₀ : List ℕ) → DecodedMeans wanted r nodes hashes
+pub decode_leaves : (wanted : Check NodeTable) (r : Result Sizes Refusal) (nodes hashes nodes₀ hashes₀ : List ℕ) → DecodedMeans wanted r nodes hashes
     → length nodes ≡ length nodes₀ → length hashes ≡ length hashes₀
-    → left (said_of r) (cleared nodes (node_numbers * (sizes_of r).nodes)) (cleared hashes (sizes_of r).hashes) ≡ left_by wanted nodes₀ hashes₀
+    → left (said_of r) (cleared nodes (node_numbers * (result_unwrap_or r (sizes_with 0 0)).nodes)) (cleared hashes (result_unwrap_or r (sizes_with 0 0)).hashes) ≡ left_by wanted nodes₀ hashes₀
 unfolding left_by table_sizes nodes_left hashes_left
-decode_leaves wanted (Decoded.Table sizes) nodes hashes nodes₀ hashes₀ (end, e, k, l) p q =
+decode_leaves wanted (Ok sizes) nodes hashes nodes₀ hashes₀ (end, e, k, l) p q =
     let n : ℕ = sizes.nodes in
     let front : List ℕ = take (node_numbers * n) nodes in
     let f : length front ≡ node_numbers * n = length-take-le (node_numbers * n) nodes k in
@@ -358,12 +327,12 @@ decode_leaves wanted (Decoded.Table sizes) nodes hashes nodes₀ hashes₀ (end,
     (cleared-filled nodes nodes₀ (node_numbers * n) (node_numbers_of (node_records front)) k p (numbers_back n front f))
     (cleared-filled hashes hashes₀ sizes.hashes (take sizes.hashes hashes) l q refl)
     ∙ sym (ap (λ (c : Check NodeTable). left_by c nodes₀ hashes₀) e)
-decode_leaves wanted (Decoded.Refused why) nodes hashes nodes₀ hashes₀ e p q =
+decode_leaves wanted (Err why) nodes hashes nodes₀ hashes₀ e p q =
     same_left _ _ _ _ _ _ refl (cleared_whole nodes nodes₀ p) (cleared_whole hashes hashes₀ q) ∙ sym (ap (λ (c : Check NodeTable). left_by c nodes₀ hashes₀) e)
 
 -- the same, as the code clears them
-pub clearing_leaves : (wanted : Check NodeTable) (r : Decoded) (nodes hashes nodes₀ hashes₀ : List ℕ) → DecodedMeans wanted r nodes hashes
-    → length nodes ≡ length nodes₀ → length hashes ≡ length hashes₀ → (kept : Sizes) → kept ≡ sizes_of r → (n h : ℕ) → n ≡ kept.nodes → h ≡ kept.hashes
+pub clearing_leaves : (wanted : Check NodeTable) (r : Result Sizes Refusal) (nodes hashes nodes₀ hashes₀ : List ℕ) → DecodedMeans wanted r nodes hashes
+    → length nodes ≡ length nodes₀ → length hashes ≡ length hashes₀ → (kept : Sizes) → kept ≡ result_unwrap_or r (sizes_with 0 0) → (n h : ℕ) → n ≡ kept.nodes → h ≡ kept.hashes
     → (nodes' hashes' : List ℕ) → nodes' ≡ cleared nodes (node_numbers * n) → hashes' ≡ cleared hashes h
     → left (said_of r) nodes' hashes' ≡ left_by wanted nodes₀ hashes₀
 clearing_leaves wanted r nodes hashes nodes₀ hashes₀ m p q kept k n h a b nodes' hashes' c d =

@@ -1,9 +1,10 @@
 -- Reading a node in two steps, as the code does it: its head, with only the program lent, and then the bytes that follow it.
 -- A head stands for what the requirements' reader of the whole node gives from there on.
-use Rattle.std.specs.Prelude.{◌≡◌, ℕ, ◌+◌, ◌-◌, ◌^◌, ◌≤◌, leb, eqb, length, drop}
+use Rattle.std.specs.Prelude.{◌≡◌, Option, Some, None, Result, Ok, Err, ℕ, ◌+◌, ◌-◌, ◌^◌, ◌≤◌, leb, eqb, length, drop}
 use Rattle.std.proofs.Math.Bool.{true, false}
 use mathlib.Core.List.{List, []}
 use Rattle.limits.specs.Limits.{node_count, hash_bytes, fail_bytes}
+use Rattle.refusal.specs.declared.Refusal.{Refusal}
 use Rattle.refusal.specs.declared.Refusal.TheVariants.{StoreShort}
 use Rattle.report.specs.Bits.{Bit}
 use Rattle.scope.specs.Check.{Check, passed, refused}
@@ -11,12 +12,8 @@ use Rattle.scope.specs.Naturals.{natural, read_natural}
 use Rattle.scope.specs.Nodes.{NodeRecord}
 use Rattle.scope.specs.Reading.{Got, got, fault, Reader, ◌>>=◌, give, Item, item, refusal_at, next, code, natural_up_to, child, octets}
 use Rattle.table.specs.Answers.{record_of}
-use Rattle.decode.specs.declared.TableRead.{TableRead}
-use Rattle.decode.specs.declared.NumberRead.{NumberRead}
 use Rattle.decode.specs.declared.Follows.{Follows}
 use Rattle.decode.specs.declared.NodeHead.{NodeHead}
-use Rattle.decode.specs.declared.HeadRead.{HeadRead}
-use Rattle.decode.specs.declared.Progressed.{Progressed}
 
 -- what a reader gives at node i, as a check: the result with the position after it, or the fault's refusal there
 unfoldable pub at_node : {X : Type 0} → (i : ℕ) → Got X → Check (X × ℕ)
@@ -25,18 +22,13 @@ at_node i (got x next) = passed (x, next)
 at_node i (fault e) = refused (refusal_at i e)
 
 -- a natural that the table tells of, with the position after it
-abbrev pub TableMeans : List Bit → (at : ℕ) → TableRead → Type 0
-TableMeans bits at (TableRead.Read n next) = (read_natural (drop at bits) ≡ natural n (drop next bits)) × (at ≤ next) × (next ≤ length bits)
-TableMeans bits at TableRead.Longer = Unit {0}
+abbrev pub TableMeans : List Bit → (at : ℕ) → Option (ℕ × ℕ) → Type 0
+TableMeans bits at (Some (n, next)) = (read_natural (drop at bits) ≡ natural n (drop next bits)) × (at ≤ next) × (next ≤ length bits)
+TableMeans bits at None = Unit {0}
 
 -- a head of these numbers
 abbrev pub plain : (kind first second : ℕ) → Follows → NodeHead
 plain kind first second follows = record { node = record { kind = kind; first = first; second = second; third = 0 }; follows = follows }
-
--- a head with the one number that was read
-abbrev pub with_one : (kind : ℕ) → NumberRead → HeadRead
-with_one kind (NumberRead.Number n next) = HeadRead.Read (plain kind n 0 Follows.Nothing) next
-with_one kind (NumberRead.Refused why) = HeadRead.Refused why
 
 module _ (bits : List Bit) where
   -- the bytes that follow a head
@@ -54,9 +46,9 @@ module _ (bits : List Bit) where
     give (record { node = node; stored = bytes })
 
   -- what a head stands for at node i
-  abbrev pub head_of : (i : ℕ) → HeadRead → Check (Item × ℕ)
-  head_of i (HeadRead.Read h next) = at_node i (followed (record_of h.node) h.follows next)
-  head_of i (HeadRead.Refused why) = refused why
+  abbrev pub head_of : (i : ℕ) → Result (NodeHead × ℕ) Refusal → Check (Item × ℕ)
+  head_of i (Ok (h, next)) = at_node i (followed (record_of h.node) h.follows next)
+  head_of i (Err why) = refused why
 
   -- parts of the reader of a combinator, first two children
   unfoldable pub two_children : (kind i : ℕ) → Reader Item
@@ -110,8 +102,3 @@ module _ (bits : List Bit) where
     | got n next ↦ elim (leb n room) [ true ↦ passed (n, next) | false ↦ refused (StoreShort 3) ]
     | fault e ↦ refused (refusal_at 0 e)
   ]
-
--- a count that was read, before the first node
-abbrev pub begun_of : NumberRead → Progressed
-begun_of (NumberRead.Number n next) = Progressed.Read (record { nodes = 0; hashes = 0; at = next })
-begun_of (NumberRead.Refused why) = Progressed.Refused why

@@ -1,7 +1,8 @@
 -- What reading, walk and closing leave in the lent stores, beside what they say.
 -- While nodes are read the stores' filled fronts are the records and bytes that the requirements' reader has gathered.
-use Rattle.std.specs.Prelude.{◌≡◌, List, ℕ, suc, ◌+◌, ◌*◌, ◌<◌, ◌≤◌, leb, length, take, set}
+use Rattle.std.specs.Prelude.{◌≡◌, Result, Ok, Err, List, ℕ, suc, ◌+◌, ◌*◌, ◌<◌, ◌≤◌, leb, length, take, set}
 use Rattle.limits.specs.Limits.{dossier_bytes, node_count, node_numbers, fail_bytes}
+use Rattle.refusal.specs.declared.Refusal.{Refusal}
 use Rattle.refusal.specs.declared.Refusal.TheVariants.{Header, Closing}
 use Rattle.report.specs.Bits.{Bit}
 use Rattle.scope.specs.Check.{Check, passed, refused, ◌>>=◌, require}
@@ -12,12 +13,9 @@ use Rattle.scope.specs.Walk.{check_walk}
 use Rattle.scope.specs.Closing.{closes, nodes_left, hashes_left}
 use Rattle.bititer.specs.Answers.{placed}
 use Rattle.table.specs.Answers.{record_of}
-use Rattle.common.specs.declared.Checked.{Checked}
-use Rattle.decode.specs.declared.HeadRead.{HeadRead}
+use Rattle.decode.specs.declared.NodeHead.{NodeHead}
 use Rattle.decode.specs.declared.Progress.{Progress}
-use Rattle.decode.specs.declared.Progressed.{Progressed}
 use Rattle.decode.specs.declared.Sizes.{Sizes}
-use Rattle.decode.specs.declared.Decoded.{Decoded}
 use Rattle.decode.specs.Answers.{size_of}
 use Rattle.decode.specs.Heads.{at_node}
 
@@ -28,11 +26,11 @@ record_put nodes i r =
     set (set (set (set nodes at r.kind) (at + 1) r.first) (at + 2) r.second) (at + 3) r.third
 
 -- a node that was read into the hash store, or refused at node i
-abbrev pub NodeMeans : (bits : List Bit) → (i held at : ℕ) → (store : List ℕ) → HeadRead → (left : List ℕ) → Type 0
-NodeMeans bits i held at store (HeadRead.Read h next) left =
+abbrev pub NodeMeans : (bits : List Bit) → (i held at : ℕ) → (store : List ℕ) → Result (NodeHead × ℕ) Refusal → (left : List ℕ) → Type 0
+NodeMeans bits i held at store (Ok (h, next)) left =
     (bytes : List ℕ) × (node_in bits (length store) i held at ≡ got (record { node = record_of h.node; stored = bytes }) next)
     × (length bytes ≡ size_of h.follows) × (held + length bytes ≤ length store) × (left ≡ placed store held bytes)
-NodeMeans bits i held at store (HeadRead.Refused why) left = at_node i (node_in bits (length store) i held at) ≡ refused why
+NodeMeans bits i held at store (Err why) left = at_node i (node_in bits (length store) i held at) ≡ refused why
 
 -- the stores are filled so far, and there is room for a record more
 pub record Room (nodes hashes : List ℕ) (done : Progress) : Type 0 where
@@ -59,18 +57,18 @@ more bits room k nodes hashes done =
     nodes_from bits room k done.nodes (node_records (take (node_numbers * done.nodes) nodes)) (take done.hashes hashes) done.at
 
 -- one node more: whatever follows comes to the same as before
-abbrev pub StepMeans : (bits : List Bit) → (nodes hashes : List ℕ) → Progress → Progressed → (nodes' hashes' : List ℕ) → Type 0
-StepMeans bits nodes hashes done (Progressed.Read after) nodes' hashes' =
+abbrev pub StepMeans : (bits : List Bit) → (nodes hashes : List ℕ) → Progress → Result Progress Refusal → (nodes' hashes' : List ℕ) → Type 0
+StepMeans bits nodes hashes done (Ok after) nodes' hashes' =
     (after.nodes ≡ done.nodes + 1) × (after.hashes ≤ length hashes) × (after.hashes ≤ fail_bytes * after.nodes)
     × ((k : ℕ) → more bits (length hashes) (suc k) nodes hashes done ≡ more bits (length hashes) k nodes' hashes' after)
-StepMeans bits nodes hashes done (Progressed.Refused why) nodes' hashes' = (k : ℕ) → more bits (length hashes) (suc k) nodes hashes done ≡ refused why
+StepMeans bits nodes hashes done (Err why) nodes' hashes' = (k : ℕ) → more bits (length hashes) (suc k) nodes hashes done ≡ refused why
 
 -- all nodes that were wanted stand in the stores, or the reason is the wanted one
-abbrev pub ReadMeans : (wanted : Check NodeTable) → Progressed → (nodes hashes : List ℕ) → Type 0
-ReadMeans wanted (Progressed.Read done) nodes hashes =
+abbrev pub ReadMeans : (wanted : Check NodeTable) → Result Progress Refusal → (nodes hashes : List ℕ) → Type 0
+ReadMeans wanted (Ok done) nodes hashes =
     (wanted ≡ passed (table_in nodes hashes done)) × (1 ≤ done.nodes) × (done.nodes ≤ node_count)
     × (node_numbers * done.nodes ≤ length nodes) × (done.hashes ≤ length hashes)
-ReadMeans wanted (Progressed.Refused why) nodes hashes = wanted ≡ refused why
+ReadMeans wanted (Err why) nodes hashes = wanted ≡ refused why
 
 -- reading as a whole: 1, then the nodes
 unfoldable pub read_all : (program : List ℕ) → (records bytes : ℕ) → Check NodeTable
@@ -92,32 +90,17 @@ sizes_with nodes hashes = record { nodes = nodes; hashes = hashes }
 abbrev pub sizes_in : Progress → Sizes
 sizes_in done = sizes_with done.nodes done.hashes
 
--- a table that passed a check, or why it did not
-abbrev pub settled_of : Checked → Sizes → Decoded
-settled_of Checked.Passed sizes = Decoded.Table sizes
-settled_of (Checked.Refused why) sizes = Decoded.Refused why
-
--- the sizes that were read, or why reading stopped
-abbrev pub stopped_of : Progressed → Decoded
-stopped_of (Progressed.Read done) = Decoded.Table (sizes_in done)
-stopped_of (Progressed.Refused why) = Decoded.Refused why
-
 -- a table of these sizes passed, or the reason is that of walk and closing
-abbrev pub JudgedMeans : (program : List ℕ) → NodeTable → Progress → Decoded → Type 0
-JudgedMeans program t done (Decoded.Table sizes) = (judging program t ≡ passed t) × (sizes ≡ sizes_in done)
-JudgedMeans program t done (Decoded.Refused why) = judging program t ≡ refused why
+abbrev pub JudgedMeans : (program : List ℕ) → NodeTable → Progress → Result Sizes Refusal → Type 0
+JudgedMeans program t done (Ok sizes) = (judging program t ≡ passed t) × (sizes ≡ sizes_in done)
+JudgedMeans program t done (Err why) = judging program t ≡ refused why
 
 -- a table of these sizes stands in the stores, or the reason is the wanted one
-abbrev pub DecodedMeans : (wanted : Check NodeTable) → Decoded → (nodes hashes : List ℕ) → Type 0
-DecodedMeans wanted (Decoded.Table sizes) nodes hashes =
+abbrev pub DecodedMeans : (wanted : Check NodeTable) → Result Sizes Refusal → (nodes hashes : List ℕ) → Type 0
+DecodedMeans wanted (Ok sizes) nodes hashes =
     (end : ℕ) × (wanted ≡ passed (table_in nodes hashes (record { nodes = sizes.nodes; hashes = sizes.hashes; at = end })))
     × (node_numbers * sizes.nodes ≤ length nodes) × (sizes.hashes ≤ length hashes)
-DecodedMeans wanted (Decoded.Refused why) nodes hashes = wanted ≡ refused why
-
--- how much of the stores is kept
-abbrev pub sizes_of : Decoded → Sizes
-sizes_of (Decoded.Table sizes) = sizes
-sizes_of (Decoded.Refused why) = sizes_with 0 0
+DecodedMeans wanted (Err why) nodes hashes = wanted ≡ refused why
 
 -- what decoding says, and the two stores as it leaves them
 pub record Left : Type 0 where

@@ -1,10 +1,9 @@
--- The key of a record by the number of its kind, as the code tells the kinds apart, with its bucket; and the number of an arrow.
+-- The key of a record by the number of its kind, with its bucket; and the number of an arrow.
 use mathlib.Core.Path.{◌≡◌, refl, sym, ap, ap₂, ◌∙◌}
 use mathlib.Core.Bool.{Bool, true, false}
 use mathlib.Core.List.{List, [], ◌∷◌}
 use Prim.Native.Nat.{ℕ, ◌+◌, ◌*◌, ◌/◌, ◌%◌, ◌≤◌, ◌<◌}
 use native.Mathlib.Omega.{arith}
-use native.Mathlib.Decide.{dec_lt}
 use lib.Dec.{eqb}
 use lib.ListN.{length, get_or}
 use borrow.Author.Tests.{eqb-true, eq-eqb, ne_eqb}
@@ -13,48 +12,18 @@ use Rattle.scope.specs.Numbers.{be16, every, same}
 use Rattle.scope.specs.Nodes.{kind_of}
 use Rattle.scope.specs.Equal.{same_key}
 use Rattle.scope.specs.Arrows.{Arrow, no_arrow, arrow_record, arrow_records, source, target}
-use Rattle.common.specs.Checks.{every_all, every_one, keys_same}
+use Rattle.std.specs.Prelude.{Some}
+use Rattle.std.proofs.lemmas.Option.{same_Some}
+use Rattle.report.specs.Bits.{number_from}
+use Rattle.common.specs.Checks.{clash, every_all, every_one, keys_same}
 use Rattle.common.specs.Tables.{tabulate_at, tabulate_past}
 use Rattle.table.proofs.Groups.{by_kind, unknown}
 use Rattle.equal.specs.Keys.{key_from, key_at, equal_at}
-use Rattle.equal.specs.Buckets.{buckets, key_number, arrow_number, bucket_of}
+use Rattle.equal.specs.Buckets.{buckets, key_number, arrow_number, bucket_of, bucket_at}
 
 module _ (program hashes : List ℕ) (a b : ℕ) where
   abbrev key : (kind : ℕ) → List ℕ
   key kind = key_from program hashes (kind_of kind) a b
-
-  -- two children, one, none that is compared
-  pub two_key : (kind : ℕ) → kind < 3 → key kind ≡ kind ∷ a ∷ b ∷ []
-  unfolding key_from kind_of
-  two_key =
-      by_kind (λ k. k < 3 → key_from program hashes (kind_of k) a b ≡ k ∷ a ∷ b ∷ []) (λ h. refl) (λ h. refl) (λ h. refl)
-      (λ h. absurd (omega arith)) (λ h. absurd (omega arith)) (λ h. absurd (omega arith)) (λ h. absurd (omega arith))
-      (λ h. absurd (omega arith)) (λ h. absurd (omega arith)) (λ h. absurd (omega arith)) (λ h. absurd (omega arith))
-      (λ h. absurd (omega arith)) (λ h. absurd (omega arith)) (λ h. absurd (omega arith)) (λ h. absurd (omega arith))
-      (λ k g h. absurd (omega arith))
-
-  pub one_key : (kind : ℕ) → 3 < kind → kind < 8 → key kind ≡ kind ∷ a ∷ []
-  unfolding key_from kind_of
-  one_key =
-      by_kind (λ k. 3 < k → k < 8 → key_from program hashes (kind_of k) a b ≡ k ∷ a ∷ [])
-      (λ h m. absurd (omega arith)) (λ h m. absurd (omega arith)) (λ h m. absurd (omega arith)) (λ h m. absurd (omega arith))
-      (λ h m. refl) (λ h m. refl) (λ h m. refl) (λ h m. refl)
-      (λ h m. absurd (omega arith)) (λ h m. absurd (omega arith)) (λ h m. absurd (omega arith)) (λ h m. absurd (omega arith))
-      (λ h m. absurd (omega arith)) (λ h m. absurd (omega arith)) (λ h m. absurd (omega arith)) (λ k g h m. absurd (omega arith))
-
-  pub no_key : (kind : ℕ) → 7 < kind → (kind ≡ 8 → ⊥) → (kind ≡ 9 → ⊥) → (kind ≡ 10 → ⊥) → (kind ≡ 14 → ⊥) → key kind ≡ []
-  unfolding key_from kind_of
-  no_key =
-      by_kind (λ k. 7 < k → (k ≡ 8 → ⊥) → (k ≡ 9 → ⊥) → (k ≡ 10 → ⊥) → (k ≡ 14 → ⊥) → key_from program hashes (kind_of k) a b ≡ [])
-      (λ h. absurd (omega arith)) (λ h. absurd (omega arith)) (λ h. absurd (omega arith)) (λ h. absurd (omega arith))
-      (λ h. absurd (omega arith)) (λ h. absurd (omega arith)) (λ h. absurd (omega arith)) (λ h. absurd (omega arith))
-      (λ h m n o p. absurd (m refl)) (λ h m n o p. absurd (n refl)) (λ h m n o p. absurd (o refl)) (λ h m n o p. refl)
-      (λ h m n o p. refl) (λ h m n o p. refl) (λ h m n o p. absurd (p refl))
-      (λ k g h m n o p. ap (λ x. key_from program hashes x a b) (unknown k g))
-
-  -- a record whose kind is k
-  pub as_kind : (kind k : ℕ) → kind ≡ k → key k ≡ key kind
-  as_kind kind k e = ap (λ n. key_from program hashes (kind_of n) a b) (sym e)
 
   -- a key begins with its kind
   pub key_head : (kind : ℕ) → (key kind ≡ [] → ⊥) → get_or (key kind) 0 0 ≡ kind
@@ -79,10 +48,6 @@ kinds_apart program hashes k a b l c d ne = go (same_key (key program hashes a b
     go false e = sym e
 
 -- keys that begin alike are as their rests are
-pub same_rest : (x : ℕ) (xs ys : List ℕ) → same xs ys ≡ same_key (x ∷ xs) (x ∷ ys)
-unfolding same_key same
-same_rest x xs ys = sym (rw (eq-eqb x x refl, same))
-
 pub same_next : (x y : ℕ) (xs ys : List ℕ) → x ≡ y → same (x ∷ xs) (y ∷ ys) ≡ same xs ys
 unfolding same
 same_next x y xs ys e = rw (eq-eqb x y e, same)
@@ -91,39 +56,20 @@ pub same_unlike : (x y : ℕ) (xs ys : List ℕ) → (x ≡ y → ⊥) → same 
 unfolding same
 same_unlike x y xs ys ne = rw (ne_eqb x y ne, same)
 
-pub same_one : (x y : ℕ) → same (x ∷ []) (y ∷ []) ≡ eqb x y
-unfolding same
-same_one x y = go (eqb x y)
+-- the number of a key is that of a bucket
+pub key_small : (key : List ℕ) (k : ℕ) → Some k ≡ key_number key → k < buckets
+unfolding key_number
+key_small [] k e = clash (cc)
+key_small (x ∷ xs) k e = omega (arith, same_Some k (number_from x xs % buckets) e)
+
+-- and a node's bucket is one of them
+pub bucket_within : (nodes arrows program hashes : List ℕ) (i b : ℕ) → Some b ≡ bucket_at nodes arrows program hashes i → b < buckets
+unfolding bucket_at bucket_of key_number
+bucket_within nodes arrows program hashes i b e = go (key_at nodes arrows program hashes i) e
   where
-    go : (b : Bool) → elim b [ true ↦ true | false ↦ false ] ≡ b
-    go true = refl
-    go false = refl
-
--- the bucket of a key that has this number
-module _ (key : List ℕ) (k : ℕ) (e : k ≡ key_number key) where
-  pub key_small : k ≤ buckets
-  unfolding key_number
-  key_small = go key e
-    where
-      go : (key : List ℕ) → k ≡ key_number key → k ≤ buckets
-      go [] e = omega (arith, e)
-      go (x ∷ xs) e = omega (arith, e)
-
-  pub no_bucket : (arrow : ℕ) → k ≡ buckets → buckets ≡ bucket_of key arrow
-  unfolding key_number bucket_of
-  no_bucket arrow h = go key e
-    where
-      go : (key : List ℕ) → k ≡ key_number key → buckets ≡ bucket_of key arrow
-      go [] e = refl
-      go (x ∷ xs) e = absurd (omega (arith, e, h))
-
-  pub a_bucket : (arrow : ℕ) → (k ≡ buckets → ⊥) → (k + 97 * arrow) % buckets ≡ bucket_of key arrow
-  unfolding key_number bucket_of
-  a_bucket arrow h = go key e
-    where
-      go : (key : List ℕ) → k ≡ key_number key → (k + 97 * arrow) % buckets ≡ bucket_of key arrow
-      go [] e = absurd (h e)
-      go (x ∷ xs) e = ap (λ (y : ℕ). (y + 97 * arrow) % buckets) e
+    go : (key : List ℕ) → Some b ≡ bucket_of key (arrow_number (arrow_records arrows) i) → b < buckets
+    go [] e = clash (cc)
+    go (x ∷ xs) e = omega (arith, same_Some b ((number_from x xs % buckets + 97 * arrow_number (arrow_records arrows) i) % buckets) e)
 
 -- the number of an arrow in its table, and past it
 module _ (arrows : List ℕ) (i : ℕ) where
@@ -166,30 +112,3 @@ module _ (nodes arrows program hashes : List ℕ) (j i : ℕ) where
       let s : source A j ≡ source A i = omega arith in
       sym (rw (eq-eqb (source A j) (source A i) s, eq-eqb (target A j) (target A i) t)
       (every_one (same_key (key_at nodes arrows program hashes j) (key_at nodes arrows program hashes i))))
-
--- nodes with children, of one kind
-module _ (program hashes : List ℕ) (k a b c d : ℕ) where
-  abbrev alike : Bool
-  alike = same_key (key_from program hashes (kind_of k) a b) (key_from program hashes (kind_of k) c d)
-
-  pub first_unlike : k < 8 → (k ≡ 3 → ⊥) → (a ≡ c → ⊥) → false ≡ alike
-  first_unlike h ne un = elim (dec_lt k 3) [
-    | yes l ↦ sym (ap₂ same_key (two_key program hashes a b k l) (two_key program hashes c d k l) ∙ sym (same_rest k (a ∷ b ∷ []) (c ∷ d ∷ []))
-        ∙ same_unlike a c (b ∷ []) (d ∷ []) un)
-    | no l ↦ sym (ap₂ same_key (one_key program hashes a b k (more l) h) (one_key program hashes c d k (more l) h)
-        ∙ sym (same_rest k (a ∷ []) (c ∷ [])) ∙ same_unlike a c [] [] un)
-  ]
-    where
-      more : (k < 3 → ⊥) → 3 < k
-      more l = elim (dec_lt 3 k) [ yes m ↦ m | no m ↦ absurd (ne (omega arith)) ]
-
-  pub two_alike : k < 3 → a ≡ c → eqb b d ≡ alike
-  two_alike l e =
-      sym (ap₂ same_key (two_key program hashes a b k l) (two_key program hashes c d k l) ∙ sym (same_rest k (a ∷ b ∷ []) (c ∷ d ∷ []))
-      ∙ same_next a c (b ∷ []) (d ∷ []) e ∙ same_one b d)
-
-  pub one_alike : 3 < k → k < 8 → a ≡ c → true ≡ alike
-  unfolding same
-  one_alike l h e =
-      sym (ap₂ same_key (one_key program hashes a b k l h) (one_key program hashes c d k l h) ∙ sym (same_rest k (a ∷ []) (c ∷ []))
-      ∙ same_next a c [] [] e)

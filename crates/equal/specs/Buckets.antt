@@ -1,6 +1,7 @@
 -- Nodes fall into buckets by their keys and arrows, so that only nodes of one bucket are held against each other. Equal nodes are in one
 -- bucket; how well others spread is a matter of speed alone. Nodes that have no key are in none.
-use Rattle.std.specs.Prelude.{◌≡◌, List, [], ◌∷◌, ℕ, ◌+◌, ◌*◌, ◌-◌, ◌%◌, ◌≤◌, ◌<◌, get_or}
+use Rattle.std.specs.Prelude.{◌≡◌, List, [], ◌∷◌, ℕ, ◌+◌, ◌*◌, ◌-◌, ◌%◌, ◌≤◌, ◌<◌, get_or, Option, None, Some}
+use Rattle.std.specs.Option.{option_map}
 use Rattle.report.specs.Bits.{number_from}
 use Rattle.scope.specs.Arrows.{Arrow, arrow_records, source, target}
 use Rattle.equal.specs.Keys.{key_at}
@@ -9,38 +10,41 @@ use Rattle.equal.specs.Keys.{key_at}
 abbrev pub buckets : ℕ
 buckets = 8179
 
--- a key as a number: its numbers are taken as binary digits are; `buckets` where there is none
-unfoldable pub key_number : List ℕ → ℕ
+-- a key as a number: its numbers are taken as binary digits are
+unfoldable pub key_number : List ℕ → Option ℕ
 unfolding number_from
-key_number [] = buckets
-key_number (x ∷ xs) = number_from x xs % buckets
+key_number [] = None
+key_number (x ∷ xs) = Some (number_from x xs % buckets)
 
 -- an arrow as a number
 unfoldable pub arrow_number : List Arrow → (i : ℕ) → ℕ
 unfolding source target
 arrow_number arrows i = source arrows i * 65536 + target arrows i
 
--- the bucket of a key with an arrow; `buckets` where there is no key
-unfoldable pub bucket_of : List ℕ → (arrow : ℕ) → ℕ
+-- the bucket of a key with an arrow
+unfoldable pub bucket_of : List ℕ → (arrow : ℕ) → Option ℕ
 unfolding key_number
-bucket_of [] arrow = buckets
-bucket_of (x ∷ xs) arrow = (key_number (x ∷ xs) + 97 * arrow) % buckets
+bucket_of key arrow = option_map (λ k. (k + 97 * arrow) % buckets) (key_number key)
 
 module _ (nodes arrows program hashes : List ℕ) where
   -- the bucket of node i
-  unfoldable pub bucket_at : (i : ℕ) → ℕ
+  unfoldable pub bucket_at : (i : ℕ) → Option ℕ
   unfolding bucket_of key_at arrow_number arrow_records
   bucket_at i = bucket_of (key_at nodes arrows program hashes i) (arrow_number (arrow_records arrows) i)
 
   -- m is one more than the last node below i of bucket b, or 0 where there is none
   pub record Last (m i b : ℕ) : Type 0 where
     pub within : m ≤ i
-    pub none_after : (j : ℕ) → m ≤ j → j < i → bucket_at j ≡ b → ⊥
-    pub of_bucket : 0 < m → bucket_at (m - 1) ≡ b
+    pub none_after : (j : ℕ) → m ≤ j → j < i → bucket_at j ≡ Some b → ⊥
+    pub of_bucket : 0 < m → bucket_at (m - 1) ≡ Some b
+
+  -- the same of the bucket that node i is in
+  abbrev pub LastOfBucket : (m i : ℕ) → Type 0
+  LastOfBucket m i = (b : ℕ) × (bucket_at i ≡ Some b) × Last m i b
 
   -- `before` leads from each node below i to the last one before it in its bucket
   abbrev pub Chained : (before : List ℕ) → (i : ℕ) → Type 0
-  Chained before i = (a : ℕ) → a < i → bucket_at a < buckets → Last (get_or before a 0) a (bucket_at a)
+  Chained before i = (a b : ℕ) → a < i → bucket_at a ≡ Some b → Last (get_or before a 0) a b
 
   -- and `latest` leads to the last of each bucket
   abbrev pub Latest : (latest : List ℕ) → (i : ℕ) → Type 0

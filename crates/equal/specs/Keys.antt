@@ -1,6 +1,6 @@
 -- Equal nodes of lent tables. A record has a key, as its node has in the definitions, with one thing more: past the end of the program a
 -- word's bits are 0, so that every record has a key, and not only those that keep the rules of 26.
-use Rattle.std.specs.Prelude.{Bool, List, [], ◌∷◌, ℕ, min, length, get_or, take as take_l, drop as drop_l}
+use Rattle.std.specs.Prelude.{Bool, true, false, List, [], ◌∷◌, ℕ, ltb, Option, None, Some, min, length, get_or, take as take_l, drop as drop_l}
 use Rattle.std.proofs.Math.Bool.{not}
 use Rattle.std.proofs.Math.Dec.{eqb}
 use Rattle.limits.specs.Limits.{node_count, fail_bytes}
@@ -58,7 +58,10 @@ module _ (nodes arrows program hashes : List ℕ) where
   unfolding any_below equal_at
   fresh i = not (any_below i (λ j. equal_at j i))
 
-  -- the first node that an earlier one is equal to, of as many as a table may have; their count where there is none
-  unfoldable pub first_repeat : ℕ
+  -- the first node that an earlier one is equal to, of as many as a table may have
+  unfoldable pub first_repeat : Option ℕ
   unfolding first_failing fresh
-  first_repeat = first_failing fresh (min (length (node_records nodes)) node_count) 0
+  first_repeat =
+      let n = min (length (node_records nodes)) node_count in
+      let i = first_failing fresh n 0 in
+      elim (ltb i n) [ true ↦ Some i | false ↦ None ]

@@ -6,7 +6,7 @@ use Prim.Native.Nat.{ℕ, zero, suc, ◌+◌, ◌<◌, ◌≤◌}
 use native.Mathlib.Numerals.{add-one}
 use native.Mathlib.Omega.{arith}
 use lib.Dec.{eqb}
-use lib.ListN.{length, get_or, take as take_l, drop as drop_l, set, length-append, length-drop, take-append-drop}
+use lib.ListN.{length, get_or, take as take_l, drop as drop_l, set, length-append, length-drop}
 use lib.Seq.{take-suc, drop-cons, set_split, take_at, drop_at, drop-drop, take-length}
 use borrow.Author.Tests.{eq-eqb, ne_eqb}
 use Rattle.report.specs.Nodes.{Node, comp, case, pair, disconnect, injl, injr, take, drop, disconnect1, iden, unit, witness, fail, hidden, word}
@@ -16,7 +16,8 @@ use Rattle.scope.specs.Stages.{no_record}
 use Rattle.table.specs.Lent.{node_is, lent_nodes}
 use Rattle.common.specs.Nodes.{length_nodes, node_at_lem}
 use Rattle.table.proofs.Groups.{by_kind, unknown}
-use Rattle.hashes.specs.Hashes.{right_of, pushed}
+use Rattle.std.proofs.lemmas.List.{append-nil}
+use Rattle.hashes.specs.Hashes.{right_of}
 
 -- one node's right child stands before those of the nodes after it
 before_rest : (n : Node) (xs ys : List ℕ) → on_disconnect n (λ left right. right ∷ (xs ++ ys)) (xs ++ ys) ≡ on_disconnect n (λ left right. right ∷ xs) xs ++ ys
@@ -78,28 +79,22 @@ module _ (r : NodeRecord) where
   unfolding right_of
   right_short = rw (right_by [] [] r.first r.second r.kind) (short_by (eqb r.kind 3))
 
--- nothing put into a store leaves it, and one number is set
-pub pushed_none : (store : List ℕ) (at : ℕ) {numbers : List ℕ} → numbers ≡ [] → store ≡ pushed numbers store at
-unfolding pushed
-pushed_none store at e =
-    sym (rw (e, pushed) (ap (λ k. take_l at store ++ drop_l k store) (let q : at + 0 ≡ at = omega arith in q) ∙ take-append-drop at store))
+-- a number put after those that stand at the front of a store
+abbrev pub fronted : (xs store : List ℕ) → List ℕ
+fronted xs store = xs ++ drop_l (length xs) store
 
-pub pushed_one : (store : List ℕ) (at v : ℕ) {numbers : List ℕ} → numbers ≡ v ∷ [] → at < length store → set store at v ≡ pushed numbers store at
-unfolding pushed
-pushed_one store at v e h =
-    set_split store at v h ∙ sym (rw (e, pushed) (ap (λ k. take_l at store ++ v ∷ drop_l k store) (let q : at + 1 ≡ suc at = omega arith in q)))
+module _ (xs store : List ℕ) (at : ℕ) (e : at ≡ length xs) where
+  past : drop_l (suc at) (fronted xs store) ≡ drop_l (length xs + 1) store
+  past =
+      ap (λ k. drop_l k (fronted xs store)) (let q : suc at ≡ length xs + 1 = omega arith in q)
+      ∙ sym (drop-drop 1 (length xs) (fronted xs store)) ∙ ap (drop_l 1) (drop_at xs (drop_l (length xs) store) (length xs) refl) ∙ drop-drop 1 (length xs) store
 
--- numbers put after those that stand at the front of a store
-pub pushed_after : (xs ys store : List ℕ) (at : ℕ) → at ≡ length xs → length xs + length ys ≤ length store
-    → pushed ys (xs ++ drop_l (length xs) store) at ≡ (xs ++ ys) ++ drop_l (length (xs ++ ys)) store
-unfolding pushed
-pushed_after xs ys store at e h =
-    ap (λ k. take_l k (xs ++ drop_l (length xs) store) ++ (ys ++ drop_l (k + length ys) (xs ++ drop_l (length xs) store))) e
-    ∙ ap₂ (λ a b. a ++ (ys ++ b)) (take_at xs (drop_l (length xs) store) (length xs) refl)
-    (sym (drop-drop (length ys) (length xs) (xs ++ drop_l (length xs) store))
-    ∙ ap (drop_l (length ys)) (drop_at xs (drop_l (length xs) store) (length xs) refl) ∙ drop-drop (length ys) (length xs) store)
-    ∙ sym (append_assoc xs ys (drop_l (length xs + length ys) store))
-    ∙ ap (λ k. (xs ++ ys) ++ drop_l k store) (sym (length-append xs ys))
+  pub put_after : (v : ℕ) → at < length (fronted xs store) → set (fronted xs store) at v ≡ fronted (xs ++ v ∷ []) store
+  put_after v h =
+      set_split (fronted xs store) at v h
+      ∙ ap₂ (λ a b. a ++ v ∷ b) (take_at xs (drop_l (length xs) store) at (sym e)) past
+      ∙ sym (append_assoc xs (v ∷ []) (drop_l (length xs + 1) store))
+      ∙ ap (λ k. (xs ++ v ∷ []) ++ drop_l k store) (sym (length-append xs (v ∷ [])))
 
 module _ (nodes : List ℕ) where
   -- the right children among the first i nodes
@@ -132,21 +127,28 @@ module _ (nodes : List ℕ) where
   pub rights_few : length (rights (lent_nodes [] nodes)) ≤ length (node_records nodes)
   rights_few = rw (found_all (length (node_records nodes)) refl) at (found_few (length (node_records nodes)) (omega arith))
 
-  -- one node more, whose right child is put after those found
-  pub found_step : (store : List ℕ) (i count n : ℕ) (r : NodeRecord) (children after : List ℕ) → i < length (node_records nodes)
-      → length (node_records nodes) ≤ length store → r ≡ get_or (node_records nodes) i no_record
-      → count ≡ length (found i) → children ≡ found i ++ drop_l (length (found i)) store
-      → n ≡ count + length (right_of r) → after ≡ pushed (right_of r) children count
-      → (n ≡ length (found (i + 1))) × (after ≡ found (i + 1) ++ drop_l (length (found (i + 1))) store)
-  found_step store i count n r children after h l e p q s t =
-      let f : found (i + 1) ≡ found i ++ right_of r = found_more i h ∙ ap (λ x. found i ++ right_of x) (sym e) in
-      let k : length (found (i + 1)) ≡ length (found i) + length (right_of r) = ap (λ (x : List ℕ). length x) f
-      ∙ length-append (found i) (right_of r) in (
-        omega arith,
-        t ∙ ap (λ (x : List ℕ). pushed (right_of r) x count) q
-            ∙ pushed_after (found i) (right_of r) store count p (omega (arith, found_few i (omega arith), right_short r))
-            ∙ ap (λ (x : List ℕ). x ++ drop_l (length x) store) (sym f),
-      )
+  -- one node more: its right child is put after those found, or it has none
+  module _ (store children : List ℕ) (i count : ℕ) (r : NodeRecord) (h : i < length (node_records nodes)) (few : length (node_records nodes) ≤ length store)
+      (is : r ≡ get_or (node_records nodes) i no_record) (counted : count ≡ length (found i)) (front : children ≡ fronted (found i) store) where
+    own_more : {own : List ℕ} → right_of r ≡ own → found (i + 1) ≡ found i ++ own
+    own_more q = found_more i h ∙ ap (λ x. found i ++ right_of x) (sym is) ∙ ap (λ (l : List ℕ). found i ++ l) q
+
+    pub found_bound : count < length store
+    found_bound = omega (arith, found_few i (omega arith))
+
+    pub found_put : r.kind ≡ 3 → (count + 1 ≡ length (found (i + 1))) × (set children count r.second ≡ fronted (found (i + 1)) store)
+    found_put e =
+        let f = own_more (right_own r e) in (
+          omega (arith, ap (λ (l : List ℕ). length l) f, length-append (found i) (r.second ∷ [])),
+          ap (λ (l : List ℕ). set l count r.second) front
+              ∙ put_after (found i) store count counted r.second (omega (arith, found_bound, length-append (found i) (drop_l (length (found i)) store), length-drop (length (found i)) store))
+              ∙ ap (λ (l : List ℕ). fronted l store) (sym f),
+        )
+
+    pub found_kept : (r.kind ≡ 3 → ⊥) → (count ≡ length (found (i + 1))) × (children ≡ fronted (found (i + 1)) store)
+    found_kept n =
+        let f = own_more (right_none r n) ∙ append-nil (found i) in
+        (counted ∙ ap (λ (l : List ℕ). length l) (sym f), front ∙ ap (λ (l : List ℕ). fronted l store) (sym f))
 
   pub found_end : (store : List ℕ) (i count : ℕ) (children : List ℕ) → i ≡ length (node_records nodes)
       → count ≡ length (found i) → children ≡ found i ++ drop_l (length (found i)) store

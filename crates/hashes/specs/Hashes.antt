@@ -1,6 +1,6 @@
 -- The supplied hashes in the pieces in which the code judges them: the right children as a list in an array, and entries compared with the
 -- earlier ones of their child. The pass over them tests the node count first, so that places and loops stay within bounds.
-use Rattle.std.specs.Prelude.{Bool, not, List, [], ◌∷◌, ◌++◌, ℕ, ◌+◌, eqb, length, get_or, take, drop}
+use Rattle.std.specs.Prelude.{Bool, not, List, [], ◌∷◌, ℕ, eqb, length, get_or}
 use Rattle.limits.specs.Limits.{node_count}
 use Rattle.scope.specs.Check.{Check, ◌>>=◌}
 use Rattle.scope.specs.Numbers.{same, every, any_below}
@@ -12,10 +12,6 @@ use Rattle.table.specs.Lent.{node_is, lent_nodes}
 -- the right child of a record that is a disconnect with two children
 unfoldable pub right_of : NodeRecord → List ℕ
 right_of r = rights (node_is [] r ∷ [])
-
--- numbers put into a store at a place
-unfoldable pub pushed : List ℕ → (store : List ℕ) → (at : ℕ) → List ℕ
-pushed numbers store at = take at store ++ (numbers ++ drop (at + length numbers) store)
 
 -- entries d and e are for one child and unlike
 unfoldable pub unlike_at : (children given : List ℕ) → (e d : ℕ) → Bool

@@ -1,15 +1,13 @@
--- What the lookups find: what is done around two children by the node's kind, and paddings.
+-- What is done around two children, by the node's kind.
 use mathlib.Core.Path.{◌≡◌}
 use mathlib.Core.List.{List}
-use Prim.Native.Nat.{ℕ, ◌-◌, ◌≤◌, ◌<◌, max}
-use native.Mathlib.Omega.{arith}
+use Prim.Native.Nat.{ℕ}
 use borrow.Author.Tests.{eq-eqb, ne_eqb}
 use Rattle.scope.specs.Types.{type_records}
 use Rattle.scope.specs.Nodes.{NodeRecord}
 use Rattle.scope.specs.Arrows.{arrow_records}
 use Rattle.lookup.specs.declared.Around.TheVariants.{Pairing, Composing, Disconnecting}
-use Rattle.lookup.specs.declared.Padding.{Padding}
-use Rattle.lookup.specs.Lookup.{source_width, target_width, kept_width, around_by, padding_of}
+use Rattle.lookup.specs.Lookup.{source_width, target_width, kept_width, around_by}
 
 module _ (types widths arrows : List ℕ) (i : ℕ) (r : NodeRecord) where
   pub around_pair : r.kind ≡ 2 → Pairing ≡ around_by types widths arrows i r
@@ -26,16 +24,3 @@ module _ (types widths arrows : List ℕ) (i : ℕ) (r : NodeRecord) where
       (source_width widths (arrow_records arrows) r.second) ≡ around_by types widths arrows i r
   unfolding around_by
   around_disconnect n m = rw (ne_eqb r.kind 2 n, ne_eqb r.kind 0 m, around_by)
-
--- the paddings, by which part is wider
-pub wider_right : (a b : ℕ) → a < b → ◌≡◌ {A = Padding} (record { left = b - a; right = 0 }) (padding_of a b)
-wider_right a b h =
-    let l : b - a ≡ max a b - a = omega arith in
-    let r : 0 ≡ max a b - b = omega arith in
-    λ i. record { left = l i; right = r i }
-
-pub wider_left : (a b : ℕ) → b ≤ a → ◌≡◌ {A = Padding} (record { left = 0; right = a - b }) (padding_of a b)
-wider_left a b h =
-    let l : 0 ≡ max a b - a = omega arith in
-    let r : a - b ≡ max a b - b = omega arith in
-    λ i. record { left = l i; right = r i }

@@ -21,7 +21,12 @@ use Rattle.scope.specs.Hashes.{check_hashes}
 use Rattle.scope.specs.Run.{check_tables}
 use Rattle.scope.specs.Stages.{counted, record_rule, check_records, lent_tables, tables_lent, arrow_stage, hash_stage}
 use Rattle.common.specs.Checks.{both_passed, require_holds, each_holds, then_then, stops, passes}
-use Rattle.types.specs.Table.{counted_types}
+use Rattle.std.specs.Prelude.{Result, Ok, Err, IsErrAnd}
+use Rattle.std.proofs.lemmas.Result.{err_from_is_err_and}
+use Rattle.types.specs.Table.{without_count, counted_types, type_table}
+use Rattle.types.specs.declared.TypeTable.{TypeTable}
+use Rattle.types.proofs.Check.{answer_says}
+use Rattle.stages.specs.Answers.{verdict_of}
 use Rattle.table.specs.Lent.{lent_nodes}
 use Rattle.table.specs.Stage.{counted_records, counted_walk}
 use Rattle.table.proofs.AnyBits.{walk_any_bits}
@@ -30,16 +35,19 @@ use Rattle.arrow.proofs.Stages.{arrows_counted}
 use Rattle.arrow.proofs.Alike.{arrows_alike}
 use Rattle.hashes.specs.Hashes.{counted_hashes}
 use Rattle.hashes.proofs.Entries.{hashes_alike}
-use Rattle.stages.specs.Stage.{told_tables, told_arrows, told_hashes}
 
--- the tables, told what the check of the types said
-module _ (said : Check (Unit {0})) (types nodes program hashes : List ℕ) where
-  -- what is left of the checks from the types' count on, from the records, from the program's length, from the types' rules
+-- a refusal that `?` hands on is the verdict
+pub verdict_stands : {m : Check (Unit {0})} {why : Refusal} (handed : Result TypeTable Refusal)
+    → refused why ≡ m → IsErrAnd handed (λ other. other ≡ why) → verdict_of handed ≡ m
+verdict_stands handed e said = let p = err_from_is_err_and handed said in ap verdict_of p.1 ∙ ap refused p.2 ∙ e
+
+module _ (types nodes program hashes : List ℕ) where
+  -- what is left of the checks from the types' rules on, from the program's length, from the records, from the types' count
   abbrev nodes_walk : Check (Unit {0})
   nodes_walk = check_walk (nodes_of (stream_of program) hashes (node_records nodes))
 
   abbrev from_types : Check (Unit {0})
-  from_types = said >>= λ held. nodes_walk
+  from_types = check_types (type_records types) >>= λ held. nodes_walk
 
   abbrev from_length : Check (Unit {0})
   from_length = require (leb (length program) dossier_bytes) (Header 0) >>= λ fits. from_types
@@ -51,41 +59,39 @@ module _ (said : Check (Unit {0})) (types nodes program hashes : List ℕ) where
   from_count = counted (length (type_records types)) type_count >>= λ some. from_records
 
   abbrev pub tables : Check (Unit {0})
-  tables = told_tables said types nodes program hashes
+  tables = lent_tables types nodes program hashes
 
   tables_by : (counted (length (node_records nodes)) node_count >>= λ some. from_count) ≡ tables
-  unfolding told_tables
+  unfolding lent_tables
   tables_by = refl
 
-  pub nodes_stop : {why : Refusal} → counted (length (node_records nodes)) node_count ≡ refused why → counted (length (node_records nodes)) node_count
-      ≡ tables
-  nodes_stop e = stops e (λ x. from_count) ∙ tables_by
+  pub nodes_stop : {why : Refusal} → refused why ≡ counted (length (node_records nodes)) node_count → refused why ≡ tables
+  nodes_stop e = e ∙ stops (sym e) (λ x. from_count) ∙ tables_by
 
   -- once the nodes are counted
-  module _ (some : counted (length (node_records nodes)) node_count ≡ passed tt) where
+  module _ (some : passed tt ≡ counted (length (node_records nodes)) node_count) where
     from_count_lem : from_count ≡ tables
-    from_count_lem = passes some (λ x. from_count) ∙ tables_by
+    from_count_lem = passes (sym some) (λ x. from_count) ∙ tables_by
 
-    pub types_stop : {why : Refusal} → counted (length (type_records types)) type_count ≡ refused why → counted (length (type_records types)) type_count
-        ≡ tables
-    types_stop e = stops e (λ x. from_records) ∙ from_count_lem
+    pub types_stop : {why : Refusal} → refused why ≡ counted (length (type_records types)) type_count → refused why ≡ tables
+    types_stop e = e ∙ stops (sym e) (λ x. from_records) ∙ from_count_lem
 
     records_are : counted_records program hashes nodes ≡ check_records program hashes (node_records nodes)
     unfolding counted_records
-    records_are = sym (passes some (λ x. check_records program hashes (node_records nodes)))
+    records_are = sym (passes (sym some) (λ x. check_records program hashes (node_records nodes)))
 
     -- and the types
-    module _ (typed : counted (length (type_records types)) type_count ≡ passed tt) where
+    module _ (typed : passed tt ≡ counted (length (type_records types)) type_count) where
       from_records_lem : from_records ≡ tables
-      from_records_lem = passes typed (λ x. from_records) ∙ from_count_lem
+      from_records_lem = passes (sym typed) (λ x. from_records) ∙ from_count_lem
 
-      pub records_stop : {why : Refusal} → counted_records program hashes nodes ≡ refused why → counted_records program hashes nodes ≡ tables
-      records_stop e = records_are ∙ stops (sym records_are ∙ e) (λ x. from_length) ∙ from_records_lem
+      pub records_stop : {why : Refusal} → refused why ≡ counted_records program hashes nodes → refused why ≡ tables
+      records_stop e = e ∙ records_are ∙ stops (sym (e ∙ records_are)) (λ x. from_length) ∙ from_records_lem
 
       -- and the records keep their rules
-      module _ (records : counted_records program hashes nodes ≡ passed tt) where
+      module _ (records : passed tt ≡ counted_records program hashes nodes) where
         from_length_lem : from_length ≡ tables
-        from_length_lem = passes (sym records_are ∙ records) (λ x. from_length) ∙ from_records_lem
+        from_length_lem = passes (sym (records ∙ records_are)) (λ x. from_length) ∙ from_records_lem
 
         pub too_long_lem : dossier_bytes < length program → refused (Header 0) ≡ tables
         unfolding require ◌>>=◌
@@ -97,21 +103,29 @@ module _ (said : Check (Unit {0})) (types nodes program hashes : List ℕ) where
           unfolding require ◌>>=◌
           from_types_lem = rw (le-leb (length program) dossier_bytes fits) at from_length_lem
 
-          pub rules_stop : {why : Refusal} → said ≡ refused why → said ≡ tables
-          rules_stop e = stops e (λ x. nodes_walk) ∙ from_types_lem
+          -- the check of the types counts them again
+          module _ (table : TypeTable) (made : table ≡ type_table types) where
+            rules_are : without_count table.answer ≡ check_types (type_records types)
+            unfolding counted_types
+            rules_are = answer_says types table made ∙ sym (passes (sym typed) (λ x. check_types (type_records types)))
 
-          pub walk_last : said ≡ passed tt → counted_walk hashes nodes ≡ tables
-          unfolding counted_walk
-          walk_last e =
-              sym (passes some (λ x. check_walk (lent_nodes hashes nodes))) ∙ sym (walk_any_bits (stream_of program) hashes (node_records nodes))
-              ∙ passes e (λ x. nodes_walk) ∙ from_types_lem
+            pub rules_stop : {why : Refusal} → table.answer ≡ Err why → refused why ≡ tables
+            rules_stop was =
+                let e = sym rules_are ∙ ap without_count was in
+                sym e ∙ stops e (λ x. nodes_walk) ∙ from_types_lem
+
+            pub walk_last : {n : ℕ} → table.answer ≡ Ok n → counted_walk hashes nodes ≡ tables
+            unfolding counted_walk
+            walk_last was =
+                sym (passes (sym some) (λ x. check_walk (lent_nodes hashes nodes))) ∙ sym (walk_any_bits (stream_of program) hashes (node_records nodes))
+                ∙ passes (sym rules_are ∙ ap without_count was) (λ x. nodes_walk) ∙ from_types_lem
 
   -- tables that passed have a fine count of nodes
-  pub tables-counted : tables ≡ passed tt → counted (length (node_records nodes)) node_count ≡ passed tt
+  tables-counted : tables ≡ passed tt → counted (length (node_records nodes)) node_count ≡ passed tt
   tables-counted e = (both_passed (counted (length (node_records nodes)) node_count) (λ x. from_count) tt (tables_by ∙ e)).1
 
   -- a program within the limit, and records that keep their rules
-  pub tables_kept : tables ≡ passed tt → (length program ≤ dossier_bytes)
+  tables_kept : tables ≡ passed tt → (length program ≤ dossier_bytes)
       × ((i : ℕ) → i < length (node_records nodes) → record_rule (8 * length program) (length hashes) (node_records nodes) i ≡ true)
   unfolding check_records
   tables_kept e =
@@ -125,77 +139,42 @@ module _ (said : Check (Unit {0})) (types nodes program hashes : List ℕ) where
 
   -- their arrows, and their hashes
   module _ (arrows : List ℕ) where
-    pub told_arrows_stop : {why : Refusal} → tables ≡ refused why → tables ≡ told_arrows said types nodes arrows program hashes
-    unfolding told_arrows
-    told_arrows_stop e = stops e _
+    pub arrows_stop : {why : Refusal} → refused why ≡ tables → refused why ≡ arrow_stage types nodes arrows program hashes
+    unfolding arrow_stage tables_lent
+    arrows_stop e = e ∙ stops (sym e) _
 
-    pub told_arrows_last : tables ≡ passed tt → counted_arrows types nodes arrows program hashes ≡ told_arrows said types nodes arrows program hashes
-    unfolding told_arrows
-    told_arrows_last e =
-        sym (arrows_counted types nodes arrows program hashes (tables-counted e))
-        ∙ arrows_alike types nodes arrows program hashes (tables_kept e).0 (tables_kept e).1
-        ∙ passes e (λ x. check_arrows (type_records types) (nodes_of (stream_of program) hashes (node_records nodes)) (arrow_records arrows))
+    pub arrows_last : passed tt ≡ tables → counted_arrows types nodes arrows program hashes ≡ arrow_stage types nodes arrows program hashes
+    unfolding arrow_stage tables_lent
+    arrows_last e =
+        sym (arrows_counted types nodes arrows program hashes (tables-counted (sym e)))
+        ∙ arrows_alike types nodes arrows program hashes (tables_kept (sym e)).0 (tables_kept (sym e)).1
+        ∙ passes (sym e) (λ x. check_arrows (type_records types) (nodes_of (stream_of program) hashes (node_records nodes)) (arrow_records arrows))
 
     -- arrows that passed have a fine count of nodes
-    arrows_some : told_arrows said types nodes arrows program hashes ≡ passed tt → counted (length (node_records nodes)) node_count ≡ passed tt
-    unfolding told_arrows
+    arrows_some : arrow_stage types nodes arrows program hashes ≡ passed tt → counted (length (node_records nodes)) node_count ≡ passed tt
+    unfolding arrow_stage tables_lent
     arrows_some e =
         tables-counted
         (both_passed tables (λ x. check_arrows (type_records types) (nodes_of (stream_of program) hashes (node_records nodes)) (arrow_records arrows)) tt
         e).1
 
     module _ (given : List ℕ) where
-      pub told_hashes_stop : {why : Refusal} → told_arrows said types nodes arrows program hashes ≡ refused why
-          → told_arrows said types nodes arrows program hashes ≡ told_hashes said types nodes arrows program hashes given
-      unfolding told_hashes
-      told_hashes_stop e = stops e _
+      -- the stage of the hashes goes on where that of the arrows passed
+      pub hash_stage_by : (arrow_stage types nodes arrows program hashes >>= λ arrowed. check_hashes (nodes_of (stream_of program) hashes (node_records nodes)) given)
+          ≡ hash_stage types nodes arrows program hashes given
+      unfolding arrow_stage hash_stage check_tables tables_lent
+      hash_stage_by =
+          then_then (lent_tables types nodes program hashes)
+          (λ x. check_arrows (type_records types) (nodes_of (stream_of program) hashes (node_records nodes)) (arrow_records arrows))
+          (λ arrowed. check_hashes (nodes_of (stream_of program) hashes (node_records nodes)) given)
 
-      pub told_hashes_last : told_arrows said types nodes arrows program hashes ≡ passed tt
-          → counted_hashes nodes given ≡ told_hashes said types nodes arrows program hashes given
-      unfolding counted_hashes told_hashes
-      told_hashes_last e =
-          sym (passes (arrows_some e) (λ x. check_hashes (lent_nodes [] nodes) given))
+      pub hashes_stop : {why : Refusal} → refused why ≡ arrow_stage types nodes arrows program hashes → refused why ≡ hash_stage types nodes arrows program hashes given
+      hashes_stop e = e ∙ stops (sym e) _ ∙ hash_stage_by
+
+      pub hashes_last : passed tt ≡ arrow_stage types nodes arrows program hashes → counted_hashes nodes given ≡ hash_stage types nodes arrows program hashes given
+      unfolding counted_hashes
+      hashes_last e =
+          sym (passes (arrows_some (sym e)) (λ x. check_hashes (lent_nodes [] nodes) given))
           ∙ sym (hashes_alike (stream_of program) hashes (node_records nodes) given)
-          ∙ passes e (λ arrowed. check_hashes (nodes_of (stream_of program) hashes (node_records nodes)) given)
-
--- TOLD WHAT THE CHECK OF THE TYPES SAYS, THE TABLES ARE THE STAGES
-module _ (types nodes program hashes : List ℕ) where
-  tables_told : told_tables (counted_types types) types nodes program hashes ≡ lent_tables types nodes program hashes
-  unfolding told_tables counted_types lent_tables ◌>>=◌
-  tables_told =
-      go (counted (length (node_records nodes)) node_count) (counted (length (type_records types)) type_count)
-      (check_records program hashes (node_records nodes)) (require (leb (length program) dossier_bytes) (Header 0))
-      (check_types (type_records types)) (check_walk (nodes_of (stream_of program) hashes (node_records nodes)))
-    where
-      go : (some typed records fits rules walked : Check (Unit {0}))
-          → (some >>= λ x. typed >>= λ x. records >>= λ x. fits >>= λ x. (typed >>= λ x. rules) >>= λ x. walked)
-          ≡ (some >>= λ x. typed >>= λ x. records >>= λ x. fits >>= λ x. rules >>= λ x. walked)
-      go (refused r) typed records fits rules walked = refl
-      go (passed x) (refused r) records fits rules walked = refl
-      go (passed x) (passed y) records fits rules walked = refl
-
-  module _ (arrows : List ℕ) where
-    pub arrows_told : (said : Check (Unit {0})) → said ≡ counted_types types → told_arrows said types nodes arrows program hashes
-        ≡ arrow_stage types nodes arrows program hashes
-    unfolding told_arrows arrow_stage tables_lent
-    arrows_told said is =
-        ap (λ (c : Check (Unit {0})). c >>= λ tables. check_arrows (type_records types) (nodes_of (stream_of program) hashes (node_records nodes))
-        (arrow_records arrows))
-        (ap (λ (c : Check (Unit {0})). told_tables c types nodes program hashes) is ∙ tables_told)
-
-    -- the stage of the hashes goes on where that of the arrows passed
-    pub hash_stage_by : (given : List ℕ) → (arrow_stage types nodes arrows program hashes >>= λ arrowed. check_hashes
-        (nodes_of (stream_of program) hashes (node_records nodes)) given)
-        ≡ hash_stage types nodes arrows program hashes given
-    unfolding arrow_stage hash_stage check_tables tables_lent
-    hash_stage_by given =
-        then_then (lent_tables types nodes program hashes)
-        (λ x. check_arrows (type_records types) (nodes_of (stream_of program) hashes (node_records nodes)) (arrow_records arrows))
-        (λ arrowed. check_hashes (nodes_of (stream_of program) hashes (node_records nodes)) given)
-
-    pub hashes_told : (given : List ℕ) (said : Check (Unit {0})) → said ≡ counted_types types
-        → told_hashes said types nodes arrows program hashes given ≡ hash_stage types nodes arrows program hashes given
-    unfolding told_hashes
-    hashes_told given said is =
-        ap (λ (c : Check (Unit {0})). c >>= λ arrowed. check_hashes (nodes_of (stream_of program) hashes (node_records nodes)) given)
-        (arrows_told said is) ∙ hash_stage_by given
+          ∙ passes (sym e) (λ arrowed. check_hashes (nodes_of (stream_of program) hashes (node_records nodes)) given)
+          ∙ hash_stage_by

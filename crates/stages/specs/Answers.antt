@@ -1,8 +1,9 @@
--- What a stage hands back, in the definitions: its verdict, and the checked type table.
-use Rattle.scope.specs.Check.{Check}
-use Rattle.common.specs.Answers.{check_of}
+-- What a stage's answer stands for in the definitions, without the type table that it hands back.
+use Rattle.std.specs.Prelude.{Result, Ok, Err}
+use Rattle.refusal.specs.declared.Refusal.{Refusal}
+use Rattle.scope.specs.Check.{Check, passed, refused}
 use Rattle.types.specs.declared.TypeTable.{TypeTable}
-use Rattle.stages.specs.declared.Staged.{Staged}
 
-abbrev pub staged_of : Staged → Check (Unit {0}) × TypeTable
-staged_of s = (check_of s.answer, s.table)
+abbrev pub verdict_of : Result TypeTable Refusal → Check (Unit {0})
+verdict_of (Ok table) = passed tt
+verdict_of (Err why) = refused why

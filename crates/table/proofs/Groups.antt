@@ -1,17 +1,14 @@
--- What the groups of kinds have in common: how many children, which rule of numbers, whether hidden.
--- A law is shown kind by kind, and the code meets it as a test on the kind's number.
+-- What the groups of kinds have in common: how many children, whether hidden. A law is shown kind by kind.
 use mathlib.Core.Path.{◌≡◌, refl, sym, ap, ◌∙◌}
 use mathlib.Core.Bool.{true, false}
 use mathlib.Core.List.{List, [], ◌∷◌}
 use Prim.Native.Nat.{ℕ, zero, suc, ◌<◌, ◌≤◌}
 use native.Mathlib.Omega.{arith}
-use lib.Dec.{eqb, ltb, leb}
+use lib.Dec.{eqb}
 use lib.ListN.{length, get_or, take, length-take, get_or-eq_default}
-use borrow.Author.Tests.{lt-leb, ne_eqb}
+use borrow.Author.Tests.{ne_eqb}
 use Rattle.report.specs.Canonical.{children}
-use Rattle.scope.specs.Numbers.{every}
 use Rattle.scope.specs.Nodes.{Kind, k_comp, k_case, k_pair, k_disconnect, k_injl, k_injr, k_take, k_drop, k_iden, k_unit, k_fail, k_disconnect1, k_witness, k_hidden, k_word, k_unknown, kind_of, node_of, on_hidden}
-use Rattle.scope.specs.Stages.{numbers_rule}
 use Rattle.table.specs.Lent.{child_count, hidden_kind, hash_is}
 
 -- the children are the first numbers, as many as the kind has
@@ -129,15 +126,6 @@ unknown k h =
     (k_comp ∷ k_case ∷ k_pair ∷ k_disconnect ∷ k_injl ∷ k_injr ∷ k_take ∷ k_drop ∷ k_iden ∷ k_unit ∷ k_fail ∷ k_disconnect1 ∷ k_witness ∷ k_hidden ∷ k_word ∷ [])
     k_unknown h
 
--- how many children a kind has, by the tests on its number
-pub count_by : (k : ℕ) → child_count k ≡ elim (leb k 3) [ true ↦ 2 | false ↦ elim (leb k 7) [ true ↦ 1 | false ↦ elim (eqb k 11) [ true ↦ 1 | false ↦ 0 ] ] ]
-unfolding child_count children node_of kind_of
-count_by =
-    by_kind (λ k. child_count k ≡ elim (leb k 3) [ true ↦ 2 | false ↦ elim (leb k 7) [ true ↦ 1 | false ↦ elim (eqb k 11) [ true ↦ 1 | false ↦ 0 ] ] ])
-    refl refl refl refl refl refl refl refl refl refl refl refl refl refl refl
-    (λ k h. ap (λ (x : Kind). length (children (node_of [] [] x 0 0))) (unknown k h)
-    ∙ (rw (lt-leb k 3 (omega arith), lt-leb k 7 (omega arith), ne_eqb k 11 (omega arith))))
-
 -- whether a kind is hidden
 pub hidden_by : (k : ℕ) → hidden_kind k ≡ eqb k 13
 unfolding hidden_kind on_hidden node_of kind_of
@@ -155,32 +143,3 @@ no_hash hashes k a b =
     (λ n. absurd (n refl)) (λ n. refl)
     (λ k h n. ap (λ (x : Kind). hash_is (node_of [] hashes x a b)) (unknown k h))
     k
-
--- the rule of a record's numbers: two children, one, no number, and the kinds from fail on
-pub rule_by : (bits bytes i a b c k : ℕ) → numbers_rule bits bytes i (kind_of k) a b c
-    ≡ elim (leb k 3) [
-      | true ↦ every (ltb a i ∷ ltb b i ∷ eqb c 0 ∷ [])
-      | false ↦ elim (leb k 7) [
-        | true ↦ every (ltb a i ∷ eqb b 0 ∷ eqb c 0 ∷ [])
-        | false ↦ elim (leb k 9) [ true ↦ every (eqb a 0 ∷ eqb b 0 ∷ eqb c 0 ∷ []) | false ↦ numbers_rule bits bytes i (kind_of k) a b c ]
-      ]
-    ]
-unfolding numbers_rule kind_of
-rule_by bits bytes i a b c =
-    by_kind (λ k. numbers_rule bits bytes i (kind_of k) a b c
-    ≡ elim (leb k 3) [
-      | true ↦ every (ltb a i ∷ ltb b i ∷ eqb c 0 ∷ [])
-      | false ↦ elim (leb k 7) [
-        | true ↦ every (ltb a i ∷ eqb b 0 ∷ eqb c 0 ∷ [])
-        | false ↦ elim (leb k 9) [ true ↦ every (eqb a 0 ∷ eqb b 0 ∷ eqb c 0 ∷ []) | false ↦ numbers_rule bits bytes i (kind_of k) a b c ]
-      ]
-    ])
-    refl refl refl refl refl refl refl refl refl refl refl refl refl refl refl
-    (λ k h. rw (lt-leb k 3 (omega arith), lt-leb k 7 (omega arith), lt-leb k 9 (omega arith)))
-
-pub above_kinds : (k : ℕ) → 9 < k → (k ≡ 10 → ⊥) → (k ≡ 11 → ⊥) → (k ≡ 12 → ⊥) → (k ≡ 13 → ⊥) → (k ≡ 14 → ⊥) → 14 < k
-above_kinds k h a b c d e = omega arith
-
-pub rule_unknown : (bits bytes i a b c k : ℕ) → 14 < k → numbers_rule bits bytes i (kind_of k) a b c ≡ false
-unfolding numbers_rule
-rule_unknown bits bytes i a b c k h = ap (λ (x : Kind). numbers_rule bits bytes i x a b c) (unknown k h)

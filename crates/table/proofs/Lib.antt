@@ -1,5 +1,6 @@
 pub mod Tests
 pub mod Groups
+pub mod KindNumbers
 pub mod Hashes
 pub mod Steps
 pub mod AnyBits

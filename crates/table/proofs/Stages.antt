@@ -1,16 +1,16 @@
 -- The passes and the stage over a lent table, in the order in which the code finds their answers.
-use mathlib.Core.Path.{◌≡◌, refl, sym, ap, ◌∙◌}
+use mathlib.Core.Path.{◌≡◌, sym, ap, ◌∙◌}
 use mathlib.Core.Bool.{Bool, not}
 use mathlib.Core.List.{List, []}
 use Prim.Native.Nat.{ℕ, ◌*◌, ◌-◌, ◌/◌, ◌<◌, ◌≤◌}
-use native.Mathlib.Omega.{arith}
 use lib.Dec.{leb}
 use lib.ListN.{length, get_or}
-use borrow.Author.Tests.{eq-eqb, ne_eqb, le-leb, lt-leb}
+use borrow.Author.Tests.{le-leb, lt-leb}
 use Rattle.limits.specs.Limits.{node_count, node_numbers, dossier_bytes}
+use Rattle.std.specs.Prelude.{Result, IsErrAnd}
 use Rattle.refusal.specs.declared.Refusal.{Refusal}
 use Rattle.refusal.specs.declared.Refusal.TheVariants.{Header, HiddenElsewhere, NodeRecord as BadNodeRecord}
-use Rattle.scope.specs.Check.{passed, refused, ◌>>=◌, require, first_failing, each}
+use Rattle.scope.specs.Check.{Check, passed, refused, ◌>>=◌, require, each}
 use Rattle.scope.specs.Numbers.{stream_of}
 use Rattle.scope.specs.Nodes.{kind_of, NodeRecord, node_records, nodes_of}
 use Rattle.scope.specs.Walk.{hidden_at, check_walk}
@@ -18,8 +18,7 @@ use Rattle.scope.specs.Stages.{counted, numbers_rule, no_record, record_rule, ch
 use Rattle.common.specs.Checks.{both_passed, then_then, then_passes, then_refuses}
 use Rattle.exactness.specs.Walk.{walk_count}
 use Rattle.exactness.proofs.Walk.{check_walk_count}
-use Rattle.common.specs.declared.Checked.{Checked}
-use Rattle.common.specs.declared.Checked.TheVariants.{Refused}
+use Rattle.std.proofs.lemmas.Result.{err_from_is_err_and}
 use Rattle.common.specs.Answers.{check_of}
 use Rattle.table.specs.Lent.{lent_nodes}
 use Rattle.table.specs.Stage.{counted_records, counted_walk}
@@ -27,18 +26,11 @@ use Rattle.common.specs.Nodes.{length_records, length_nodes}
 use Rattle.table.proofs.Hashes.{hidden_alike}
 use Rattle.table.proofs.AnyBits.{walk_any_bits}
 
--- 4 refuses before 26 and before the walk
-pub count_refuses : (program hashes nodes : List ℕ) (c : Checked) (why : Refusal) → check_of c ≡ counted (length (node_records nodes)) node_count → c ≡ Refused why
-    → check_of c ≡ counted_records program hashes nodes
-unfolding counted_records
-count_refuses program hashes nodes c why e told =
-    ap check_of told ∙ sym (then_refuses _ (λ some. check_records program hashes (node_records nodes)) why (sym e ∙ ap check_of told))
-
-pub count_refuses_walk : (hashes nodes : List ℕ) (c : Checked) (why : Refusal) → check_of c ≡ counted (length (node_records nodes)) node_count → c ≡ Refused why
-    → check_of c ≡ counted_walk hashes nodes
-unfolding counted_walk
-count_refuses_walk hashes nodes c why e told =
-    ap check_of told ∙ sym (then_refuses _ (λ some. check_walk (lent_nodes hashes nodes)) why (sym e ∙ ap check_of told))
+-- a refusal that `?` hands on is the answer of all that follows the check
+pub refusal_stands : {m : Check (Unit {0})} {why : Refusal} (handed : Result (Unit {0}) Refusal)
+    → refused why ≡ m → IsErrAnd handed (λ other. other ≡ why) → (f : Unit {0} → Check (Unit {0})) → check_of handed ≡ (m >>= f)
+refusal_stands {m = m} {why = why} handed e said f =
+    let p = err_from_is_err_and handed said in ap check_of p.1 ∙ ap refused p.2 ∙ sym (then_refuses m f why (sym e))
 
 -- what a table's records are held to
 abbrev pub rule_of : (program hashes nodes : List ℕ) → ℕ → Bool
@@ -51,20 +43,12 @@ rule_is program hashes nodes i r e =
     ap (λ (x : NodeRecord). numbers_rule (8 * length program) (length hashes) i (kind_of x.kind) x.first x.second x.third) e
 
 module _ (program hashes nodes : List ℕ) (fine : counted (length (node_records nodes)) node_count ≡ passed tt) where
-  -- 26 after a count that is fine: the first record that breaks its rule, or none
-  records_then : counted_records program hashes nodes ≡ check_records program hashes (node_records nodes)
-  unfolding counted_records
-  records_then = then_passes _ (λ some. check_records program hashes (node_records nodes)) tt fine
-
-  pub record_breaks : (i : ℕ) → first_failing (rule_of program hashes nodes) (length nodes / node_numbers) 0 ≡ i → i < length nodes / node_numbers
-      → refused (BadNodeRecord i) ≡ counted_records program hashes nodes
-  unfolding check_records each require
-  record_breaks i e h = sym (records_then ∙ (rw (length_records nodes, e, ne_eqb i (length nodes / node_numbers) (omega arith))))
-
-  pub records_hold : first_failing (rule_of program hashes nodes) (length nodes / node_numbers) 0 ≡ length nodes / node_numbers
-      → passed tt ≡ counted_records program hashes nodes
-  unfolding check_records each require
-  records_hold e = sym (records_then ∙ (rw (length_records nodes, e, eq-eqb (length nodes / node_numbers) (length nodes / node_numbers) refl)))
+  -- 26 after a count that is fine
+  pub records_then : each (length nodes / node_numbers) (rule_of program hashes nodes) BadNodeRecord ≡ counted_records program hashes nodes
+  unfolding counted_records check_records
+  records_then =
+      ap (λ (n : ℕ). each n (rule_of program hashes nodes) BadNodeRecord) (sym (length_records nodes))
+      ∙ sym (then_passes _ (λ some. check_records program hashes (node_records nodes)) tt fine)
 
 module _ (hashes nodes : List ℕ) (fine : counted (length (node_records nodes)) node_count ≡ passed tt) where
   -- the walk after a count that is fine
@@ -96,15 +80,12 @@ module _ (hashes nodes : List ℕ) (fine : counted (length (node_records nodes))
 
 -- the stage: 4 and 26 refuse, or the program is too long, or the walk answers
 module _ (program hashes nodes : List ℕ) where
-  stage_by : walk_stage program hashes nodes
+  pub stage_by : walk_stage program hashes nodes
       ≡ (counted_records program hashes nodes >>= λ records. require (leb (length program) dossier_bytes) (Header 0)
       >>= λ fits. check_walk (nodes_of (stream_of program) hashes (node_records nodes)))
   unfolding walk_stage counted_records
   stage_by = sym (then_then (counted (length (node_records nodes)) node_count) (λ some. check_records program hashes (node_records nodes))
       (λ records. require (leb (length program) dossier_bytes) (Header 0) >>= λ fits. check_walk (nodes_of (stream_of program) hashes (node_records nodes))))
-
-  pub stage_refused : (why : Refusal) → counted_records program hashes nodes ≡ refused why → refused why ≡ walk_stage program hashes nodes
-  stage_refused why e = sym (stage_by ∙ then_refuses _ _ why e)
 
   pub stage_too_long : counted_records program hashes nodes ≡ passed tt → dossier_bytes < length program → refused (Header 0) ≡ walk_stage program hashes nodes
   unfolding require ◌>>=◌

@@ -21,7 +21,7 @@ use Rattle.scope.specs.Numbers.{every}
 use Rattle.scope.specs.Nodes.{Kind, kind_of, NodeRecord, node_records, node_of, node_at, on_hidden}
 use Rattle.scope.specs.Walk.{hidden_at, none_hidden, allowed, walk_each, walk_make, walk_from}
 use Rattle.scope.specs.Stages.{no_record}
-use Rattle.common.specs.Checks.{clash, require_holds, both_passed, then_same, then_then, then_nothing}
+use Rattle.common.specs.Checks.{clash, require_holds, then_same, then_nothing, then_passes, then_refuses, then_then, both_passed}
 use Rattle.common.specs.Tables.{before_none}
 use Rattle.exactness.specs.Walk.{length-up_from, up_from_more, done_below, arrive, arrive_count, count, walk_count, walks_before, walk_node}
 use Rattle.exactness.proofs.Walk.{walk_at, walk_is_count}
@@ -264,22 +264,22 @@ module _ (hashes nodes : List ℕ) (i : ℕ) (r : NodeRecord) (is : r ≡ get_or
       both_pass a b m d e p f q = sym (step_on ∙ (rw (← e, p, ← f, q) (ap (λ (n : Node). arrive_count (lent_nodes hashes nodes) i n d) (sym node_is_lem))))
 
 -- what is said of node i when its turn comes: its order is judged, then what it asks
-module _ (nodes : List Node) (i : ℕ) (n : Node) (k : ℕ) (order asked both : Check (Unit {0}))
-    (on-order : order ≡ require (eqb i k) (CanonicalOrder k)) (on-asked : asked ≡ allowed nodes i n) (on_both : both ≡ (order >>= λ x. asked)) where
-  arrive_by : arrive_count nodes i n k ≡ (both >>= λ x. passed (suc k))
-  unfolding arrive_count
-  arrive_by =
-      ap₂ (λ (c d : Check (Unit {0})). c >>= λ next. d >>= λ fine. passed (suc k)) (sym on-order) (sym on-asked)
-      ∙ sym (then_then order (λ x. asked) (λ x. passed (suc k))) ∙ ap (λ (c : Check (Unit {0})). c >>= λ x. passed (suc k)) (sym on_both)
+module _ (nodes : List Node) (i : ℕ) (n : Node) (k : ℕ) where
+  turn : Check (Unit {0})
+  turn = require (eqb i k) (CanonicalOrder k) >>= λ x. allowed nodes i n
 
-  pub turn_refused : (why : Refusal) → both ≡ refused why → refused why ≡ arrive_count nodes i n k
-  unfolding ◌>>=◌
-  turn_refused why e = sym (arrive_by ∙ (rw e))
+  arrive_by : arrive_count nodes i n k ≡ (turn >>= λ x. passed (suc k))
+  unfolding arrive_count turn
+  arrive_by = sym (then_then (require (eqb i k) (CanonicalOrder k)) (λ x. allowed nodes i n) (λ x. passed (suc k)))
 
-  pub turn_passed : both ≡ passed tt → passed (i + 1) ≡ arrive_count nodes i n k
-  unfolding ◌>>=◌
+  pub turn_refused : (why : Refusal) → (require (eqb i k) (CanonicalOrder k) >>= λ x. allowed nodes i n) ≡ refused why → refused why ≡ arrive_count nodes i n k
+  unfolding turn
+  turn_refused why e = sym (arrive_by ∙ then_refuses turn (λ x. passed (suc k)) why e)
+
+  pub turn_passed : (require (eqb i k) (CanonicalOrder k) >>= λ x. allowed nodes i n) ≡ passed tt → passed (i + 1) ≡ arrive_count nodes i n k
+  unfolding turn
   turn_passed e =
-      let p = both_passed order (λ x. asked) tt (sym on_both ∙ e) in
-      let next = eqb-true i k (require_holds (eqb i k) (CanonicalOrder k) p.0 (sym on-order ∙ p.1)) in
+      let p = both_passed (require (eqb i k) (CanonicalOrder k)) (λ x. allowed nodes i n) tt e in
+      let next = eqb-true i k (require_holds (eqb i k) (CanonicalOrder k) p.0 p.1) in
       let m : suc k ≡ i + 1 = omega arith in
-      sym (arrive_by ∙ (rw e) ∙ ap {B = Check ℕ} passed m)
+      sym (arrive_by ∙ then_passes turn (λ x. passed (suc k)) tt e ∙ ap {B = Check ℕ} passed m)

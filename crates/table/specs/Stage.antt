@@ -1,7 +1,8 @@
 -- The passes over a lent table that stages are made of. Each tests the count first, so that places and the depth of calls stay within bounds.
-use Rattle.std.specs.Prelude.{List, ℕ, length}
+use Rattle.std.specs.Prelude.{List, ℕ, length, Result, Ok, Err}
 use Rattle.limits.specs.Limits.{node_count}
-use Rattle.scope.specs.Check.{Check, ◌>>=◌}
+use Rattle.refusal.specs.declared.Refusal.{Refusal}
+use Rattle.scope.specs.Check.{Check, passed, refused, ◌>>=◌}
 use Rattle.scope.specs.Nodes.{node_records}
 use Rattle.scope.specs.Walk.{check_walk}
 use Rattle.scope.specs.Stages.{counted, check_records}
@@ -16,3 +17,8 @@ counted_records program hashes nodes = counted (length (node_records nodes)) nod
 unfoldable pub counted_walk : (hashes nodes : List ℕ) → Check (Unit {0})
 unfolding ◌>>=◌ counted check_walk
 counted_walk hashes nodes = counted (length (node_records nodes)) node_count >>= λ some. check_walk (lent_nodes hashes nodes)
+
+-- what a count's check said where a table comes of it
+abbrev pub passed_of : {X : Type 0} → Result X Refusal → Check (Unit {0})
+passed_of (Ok x) = passed tt
+passed_of (Err why) = refused why

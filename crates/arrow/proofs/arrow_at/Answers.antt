@@ -1,7 +1,7 @@
 -- `arrow::arrow_at` meets its contract.
-use mathlib.Core.Path.{sym, ap₂, ◌∙◌}
+use mathlib.Core.Path.{sym, ap, ap₂, ◌∙◌}
 use Prim.Native.Nat.{◌/◌}
-use lib.ListN.{length}
+use lib.ListN.{length, get_or}
 use Rattle.limits.specs.Limits.{arrow_bytes}
 use Rattle.scope.specs.Arrows.{no_arrow, arrow_record, arrow_records}
 use Rattle.common.specs.Tables.{tabulate_at, tabulate_past}
@@ -10,13 +10,14 @@ use Rattle.arrow.proofs.arrow_at.Goals as goal
 pub returns-then-k-arrows : goal.returns-then-k-arrows
 unfolding arrow_records arrow_record
 returns-then-k-arrows c =
-    let args = c.args in
-    let if1-found = c.if-k-arrows in
-    ap₂ (λ s t. record { source = s; target = t }) c.half_at.ensures c.half_at-then-k-arrows.ensures
-    ∙ sym (tabulate_at (arrow_record args.arrows.now) (length args.arrows.now / arrow_bytes) args.i no_arrow if1-found.true)
+    let bytes = c.args.arrows.now in
+    ap₂ (λ s t. record { source = s; target = t }) (c.from.ensures ∙ c.half_at.ensures) (c.from-then-k-arrows.ensures ∙ c.half_at-then-k-arrows.ensures)
+    ∙ sym (tabulate_at (arrow_record bytes) (length bytes / arrow_bytes) c.place-k.result no_arrow c.if-k-arrows.true)
+    ∙ ap (λ k. get_or (arrow_records bytes) k no_arrow) c.place-k.ensures.0
 
 pub returns : goal.returns
 unfolding arrow_records arrow_record
 returns c =
-    let args = c.args in
-    sym (tabulate_past (arrow_record args.arrows.now) (length args.arrows.now / arrow_bytes) args.i no_arrow c.if-k-arrows.false)
+    let bytes = c.args.arrows.now in
+    sym (tabulate_past (arrow_record bytes) (length bytes / arrow_bytes) c.place-k.result no_arrow c.if-k-arrows.false)
+    ∙ ap (λ k. get_or (arrow_records bytes) k no_arrow) c.place-k.ensures.0

@@ -1,23 +1,25 @@
 -- `arrow::disconnect_fits` meets its contract.
-use mathlib.Core.Path.{refl, ◌∙◌}
+use mathlib.Core.Path.{◌≡◌, ◌∙◌}
+use mathlib.Core.List.{[], ◌∷◌}
+use lib.Dec.{eqb}
+use native.Mathlib.Omega.{arith}
+use Rattle.std.proofs.lemmas.Grind.{common_steps}
+use Rattle.scope.specs.Numbers.{every}
+use Rattle.scope.specs.Types.{type_records, is_product, is_word}
 use Rattle.scope.specs.Arrows.{arrow_records}
-use Rattle.scope.specs.Types.{type_records}
 use Rattle.arrow.proofs.KindNumbers.{disconnect_is}
-use Rattle.arrow.proofs.Tests.{all_five}
 use Rattle.arrow.proofs.disconnect_fits.Goals as goal
 
-pub returns : goal.returns
-returns c =
-    let args = c.args in
-    let arrow-at-call = c.arrow_at-a in
-    let arrow-at2-call = c.arrow_at-b in
-    let left-of-call = c.left_of-word in
-    let left-of2-call = c.left_of-kept in
-    let right-of-call = c.right_of-handed in
-    let is-product-call = c.is_product in
-    let is-word-call = c.is_word in
-    let is-product2-call = c.is_product-2 in
-    λ ns. c.all5.ensures ∙ all_five is-product-call.ensures is-word-call.ensures is-product2-call.ensures refl
-    c.is_product-3.ensures
-    ∙ disconnect_is (type_records args.types.now) ns (arrow_records args.arrows.now) args.from args.to args.s args.t _ _ _ _ _
-    arrow-at-call.ensures arrow-at2-call.ensures left-of-call.ensures left-of2-call.ensures right-of-call.ensures
+pub returns-else-b-handed : goal.returns-else-b-handed
+unfolding every
+returns-else-b-handed c =
+    let types = type_records c.args.types.now in
+    let a = c.arrow_at-a.result in
+    let b = c.arrow_at-b.result in
+    let word = c.left_of-word.result in
+    let kept = c.left_of-kept.result in
+    let handed = c.right_of-handed.result in
+    let e : c.if-is_product-2.value ≡ every (is_product types a.source word c.args.from ∷ is_word types 8 word ∷ is_product types a.target kept handed
+    ∷ eqb b.source handed ∷ is_product types c.args.to kept b.target ∷ []) = grind (arith, common_steps) in
+    λ ns. e ∙ disconnect_is types ns (arrow_records c.args.arrows.now) c.args.from c.args.to c.args.s c.args.t _ _ _ _ _
+    c.arrow_at-a.ensures c.arrow_at-b.ensures c.left_of-word.ensures c.left_of-kept.ensures c.right_of-handed.ensures

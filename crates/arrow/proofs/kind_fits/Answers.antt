@@ -1,16 +1,34 @@
--- `arrow::kind_fits` meets its contract.
-use mathlib.Core.List.{[]}
-use Rattle.scope.specs.Arrows.{arrow_records}
-use Rattle.table.specs.Lent.{lent_nodes}
+-- `arrow::kind_fits` meets its contract: the kinds without children, whose rules are told here.
+use borrow.Author.Rules.{rules}
+use Rattle.scope.specs.Numbers.{every}
+use Rattle.scope.specs.Nodes.{node_of}
+use Rattle.scope.specs.Arrows.{kind_rule}
 use Rattle.arrow.proofs.kind_fits.Goals as goal
 
-pub returns-then-r-le-DISCONNECT : goal.returns-then-r-le-DISCONNECT
-returns-then-r-le-DISCONNECT c = c.two_fits.ensures
+pub returns-in_default : goal.returns-in_default
+unfolding kind_rule node_of every
+returns-in_default c = search rules
 
-pub returns-then-r-le-DROP : goal.returns-then-r-le-DROP
-returns-then-r-le-DROP c = c.one_fits.ensures (lent_nodes [] c.args.nodes.now)
+pub returns-in-Iden : goal.returns-in-Iden
+unfolding kind_rule node_of every
+returns-in-Iden c = search rules
 
-pub returns : goal.returns
-returns c =
-    let args = c.args in
-    c.other_fits.ensures (lent_nodes [] args.nodes.now) (arrow_records args.arrows.now)
+pub returns-in-Unit : goal.returns-in-Unit
+unfolding kind_rule node_of every
+returns-in-Unit c = search rules
+
+pub returns-in-Fail : goal.returns-in-Fail
+unfolding kind_rule node_of every
+returns-in-Fail c = search rules
+
+pub returns-in-Disconnect1 : goal.returns-in-Disconnect1
+unfolding kind_rule node_of every
+returns-in-Disconnect1 c = search rules
+
+pub returns-then-from-eq0 : goal.returns-then-from-eq0
+unfolding kind_rule node_of every
+returns-then-from-eq0 c = search rules
+
+pub returns-else-from-eq0 : goal.returns-else-from-eq0
+unfolding kind_rule node_of every
+returns-else-from-eq0 c = search rules

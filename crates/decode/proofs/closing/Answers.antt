@@ -9,6 +9,6 @@ pub returns-then-closes : goal.returns-then-closes
 unfolding require
 returns-then-closes c = ap (λ (t : Bool). require t (Closing c.args.done.nodes)) (sym c.if-closes.true ∙ c.closes.ensures)
 
-pub returns : goal.returns
+pub returns-else-closes : goal.returns-else-closes
 unfolding require
-returns c = ap (λ (t : Bool). require t (Closing c.args.done.nodes)) (sym c.if-closes.false ∙ c.closes.ensures)
+returns-else-closes c = ap (λ (t : Bool). require t (Closing c.args.done.nodes)) (sym c.if-closes.false ∙ c.closes.ensures)

@@ -1,30 +1,30 @@
 -- `decode::judged` meets its contract: the walk refuses, or the closing, or the table passes.
-use Rattle.decode.specs.Stores.{table_of}
-use Rattle.decode.proofs.Tables.{settled_means, walk_refuses, closing_refuses, all_passed}
+use mathlib.Core.Path.{refl, sym, subst}
+use Rattle.common.specs.Answers.{handed_on}
+use Rattle.decode.specs.Stores.{table_of, JudgedMeans}
+use Rattle.decode.proofs.Tables.{walk_refuses, closing_refuses, all_passed}
 use Rattle.decode.proofs.judged.Goals as goal
 
-pub returns-in_default : goal.returns-in_default
-returns-in_default c =
+pub returns-in_err-walk : goal.returns-in_err-walk
+returns-in_err-walk c =
     let program = c.args.program.now in
     let nodes = c.args.nodes.now in
     let hashes = c.args.hashes.now in
     let done = c.args.done in
     let p = c.requires in
-    settled_means program (table_of nodes hashes done) done _ _ _ _ c.settled.ensures c.in_default.is
-    (walk_refuses program nodes hashes done.nodes done.at p.0 p.1 p.2 _ _
-    c.walk-walked.ensures c.in_default.is)
+    subst (JudgedMeans program (table_of nodes hashes done) done) (sym (handed_on c.from_residual.result c.in_err-walk.was c.from_residual.ensures.1))
+    (walk_refuses program nodes hashes done.nodes done.at p.0 p.1 p.2 _ c.in_err-walk.ensures)
 
-pub returns-in_default-closed : goal.returns-in_default-closed
-returns-in_default-closed c =
+pub returns-in_err-closing : goal.returns-in_err-closing
+returns-in_err-closing c =
     let program = c.args.program.now in
     let nodes = c.args.nodes.now in
     let hashes = c.args.hashes.now in
     let done = c.args.done in
     let p = c.requires in
-    settled_means program (table_of nodes hashes done) done _ _ _ _ c.settled-in_default-closed.ensures c.in_default-closed.is
-    (closing_refuses program nodes hashes done.nodes done.at p.0 p.1 p.2 _ _ _
-    c.walk-walked.ensures c.in-Passed.is
-    c.closing-closed.ensures c.in_default-closed.is)
+    let handed = c.from_residual-in_err-closing in
+    subst (JudgedMeans program (table_of nodes hashes done) done) (sym (handed_on handed.result c.in_err-closing.was handed.ensures.1))
+    (closing_refuses program nodes hashes done.nodes done.at p.0 p.1 p.2 _ c.in_ok-walk.ensures c.in_err-closing.ensures)
 
 pub returns : goal.returns
 returns c =
@@ -32,9 +32,5 @@ returns c =
     let nodes = c.args.nodes.now in
     let hashes = c.args.hashes.now in
     let done = c.args.done in
-    let p = c.requires in (
-      all_passed program nodes hashes done.nodes done.at p.0 p.1 p.2 _ _
-          c.walk-walked.ensures c.in-Passed.is
-          c.closing-closed.ensures c.in-Passed-closed.is,
-      c.sized-sizes.ensures,
-    )
+    let p = c.requires in
+    (all_passed program nodes hashes done.nodes done.at p.0 p.1 p.2 c.in_ok-walk.ensures c.in_ok-closing.ensures, refl)

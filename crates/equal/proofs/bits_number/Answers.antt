@@ -12,7 +12,7 @@ loop-left-preserved-then-left-ge8 c =
     let l = c.loop-left in (
       l.invariant.0
           ∙ number_by_eight c.args.s.now l.at l.left l.number
-          c.read_eight-x.result c.if-left-ge8.true c.read_eight-x.ensures,
+          c.from-x.result c.if-left-ge8.true (c.from-x.ensures ∙ c.read_eight.ensures),
       omega (arith, l.invariant.1, c.if-left-ge8.true),
       l.invariant.2,
       omega arith,
@@ -23,8 +23,8 @@ loop-left-preserved c =
     let l = c.loop-left in (
       l.invariant.0
           ∙ number_by_one c.args.s.now l.at l.left l.number
-          c.read_eight-x.result c.loop-left-test.true
-          c.read_eight-x.ensures (omega arith),
+          c.from-x.result c.loop-left-test.true
+          (c.from-x.ensures ∙ c.read_eight.ensures) (omega arith),
       omega (arith, l.invariant.1, c.loop-left-test.true),
       l.invariant.2,
       omega arith,

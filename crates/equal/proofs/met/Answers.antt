@@ -5,37 +5,20 @@ use Rattle.equal.proofs.Chains.{search_starts, search_finds, search_goes_on, sea
 use Rattle.equal.proofs.met.Goals as goal
 
 pub loop-m-init : goal.loop-m-init
-loop-m-init c =
-    let a = c.args in
-    search_starts a.nodes.now a.arrows.now a.program.now a.hashes.now a.i a.last c.requires.3
+loop-m-init c = rw c.from-m.ensures (search_starts _ _ _ _ _ _ c.requires.2)
 
 pub returns-then-equal : goal.returns-then-equal
-returns-then-equal c =
-    let a = c.args in
-    let l = c.loop-m in
-    search_finds a.nodes.now a.arrows.now a.program.now a.hashes.now a.i l.m l.invariant
-    c.loop-m-test.true (sym c.equal.ensures ∙ c.if-equal.true)
+returns-then-equal c = search_finds _ _ _ _ _ _ c.loop-m.invariant c.loop-m-test.true (sym c.equal.ensures ∙ c.if-equal.true)
 
 pub loop-m-smaller : goal.loop-m-smaller
 loop-m-smaller c =
-    let a = c.args in
-    let l = c.loop-m in
-    (search_goes_on a.nodes.now a.arrows.now a.program.now a.hashes.now a.i l.m a.before.now l.invariant
-    c.loop-m-test.true c.requires.1
-    c.requires.2
-    (sym c.equal.ensures ∙ c.if-equal.false)).0
+    rw c.from-m-in-loop-m.ensures
+    (search_goes_on _ _ _ _ _ _ _ _ c.loop-m.invariant c.loop-m-test.true c.requires.2.1 c.requires.1 (sym c.equal.ensures ∙ c.if-equal.false)).0
 
 pub loop-m-preserved : goal.loop-m-preserved
 loop-m-preserved c =
-    let a = c.args in
-    let l = c.loop-m in
-    (search_goes_on a.nodes.now a.arrows.now a.program.now a.hashes.now a.i l.m a.before.now l.invariant
-    c.loop-m-test.true c.requires.1
-    c.requires.2
-    (sym c.equal.ensures ∙ c.if-equal.false)).1
+    rw c.from-m-in-loop-m.ensures
+    (search_goes_on _ _ _ _ _ _ _ _ c.loop-m.invariant c.loop-m-test.true c.requires.2.1 c.requires.1 (sym c.equal.ensures ∙ c.if-equal.false)).1
 
 pub returns : goal.returns
-returns c =
-    let a = c.args in
-    let l = c.loop-m in
-    search_ends a.nodes.now a.arrows.now a.program.now a.hashes.now a.i l.m l.invariant (omega (arith, c.loop-m-test.false))
+returns c = search_ends _ _ _ _ _ _ c.loop-m.invariant (omega arith)

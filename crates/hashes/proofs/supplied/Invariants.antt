@@ -2,7 +2,7 @@
 -- for node j from entry e on, among the disconnects from node i on.
 use mathlib.Core.Path.{◌≡◌}
 use mathlib.Core.List.{List}
-use Prim.Native.Nat.{ℕ, ◌-◌, ◌≤◌}
+use Prim.Native.Nat.{ℕ, ◌≤◌}
 use Rattle.promise.specs.Parts.{Part}
 use Rattle.hashes.proofs.Branch.{from_node}
 use Rattle.hashes.proofs.supplied.Given as goal
@@ -12,7 +12,4 @@ abbrev pub lying : ℕ × ℕ → List ℕ → Part
 lying place bytes = record { place = place; bytes = bytes }
 
 abbrev pub invariant-loop-i : goal.invariant-loop-i
-invariant-loop-i l = ((place : ℕ × ℕ) → from_node l.nodes (lying place l.given) l.j 0 0 ≡ from_node l.nodes (lying place l.given) l.j l.i l.e) × (l.i ≤ l.count) × (l.e ≤ l.i)
-
-abbrev pub decreases-loop-i : goal.decreases-loop-i
-decreases-loop-i l = l.count - l.i
+invariant-loop-i l = ((place : ℕ × ℕ) → from_node l.nodes (lying place l.given) l.j 0 0 ≡ from_node l.nodes (lying place l.given) l.j l.i l.e) × (l.e ≤ l.i)

@@ -1,14 +1,16 @@
 -- `stages::hash_tables` meets its contract.
 use mathlib.Core.Path.{◌∙◌}
-use Rattle.types.proofs.Check.{answer_says}
-use Rattle.stages.proofs.Lent.{hashes_told}
+use Rattle.stages.proofs.Lent.{verdict_stands, hashes_stop, hashes_last}
 use Rattle.stages.proofs.hash_tables.Goals as goal
 
-pub returns : goal.returns
-returns c =
-    let args = c.args in
-    let made = c.check_types-table.ensures in
-    let says = c.without_count-held.ensures ∙ answer_says args.types.now c.check_types-table.result made in
-    let answers = c.told_hashes-answer.ensures
-    ∙ hashes_told args.types.now args.nodes.now args.program.now args.hashes.now args.arrows.now args.given.now _ says in
-    λ k. (answers k, made k)
+pub returns-in_err-table-clause-verdict : goal.returns-in_err-table-clause-verdict
+returns-in_err-table-clause-verdict c =
+    verdict_stands c.from_residual.result (hashes_stop _ _ _ _ _ _ c.in_err-table.ensures.verdict) c.from_residual.ensures.1
+
+pub returns-in_err-check_hashes-clause-verdict : goal.returns-in_err-check_hashes-clause-verdict
+returns-in_err-check_hashes-clause-verdict c =
+    let handed = c.from_residual-in_err-check_hashes in
+    verdict_stands handed.result (c.in_err-check_hashes.ensures ∙ hashes_last _ _ _ _ _ _ c.in_ok-table.ensures.verdict) handed.ensures.1
+
+pub returns-clause-verdict : goal.returns-clause-verdict
+returns-clause-verdict c = c.in_ok-check_hashes.ensures ∙ hashes_last _ _ _ _ _ _ c.in_ok-table.ensures.verdict

@@ -1,21 +1,17 @@
--- `table::hidden_before` meets its contract. The loop's invariant: a node below i hides the hash exactly if one below j does.
-use Rattle.common.specs.Checks.{any_found, any_later, any_none}
+-- `table::hidden_before` meets its contract: the nodes below i are tried one by one.
+use borrow.Author.Rules.{rules}
+use borrow.Author.Tests.{tests}
 use native.Mathlib.Omega.{arith}
-use mathlib.Core.Path.{sym, refl, ◌∙◌}
+use mathlib.Core.Path.{refl, ◌∙◌}
+use Rattle.std.proofs.lemmas.Iterator.{YieldsList-from_range}
+use Rattle.std.proofs.lemmas.Iterator.Search.{any_from_yields_List}
+use Rattle.scope.specs.Walk.{hides}
+use Rattle.table.specs.Lent.{lent_nodes}
+use Rattle.table.proofs.Tests.{any_tried}
 use Rattle.table.proofs.hidden_before.Goals as goal
 
-pub loop-j-init : goal.loop-j-init
-loop-j-init c = (refl, omega arith)
-
-pub returns-then-hides : goal.returns-then-hides
-returns-then-hides c = sym (c.loop-j.invariant.0 ∙ any_found _ _ c.loop-j-test.true (sym c.hides.ensures ∙ c.if-hides.true))
-
-pub loop-j-preserved : goal.loop-j-preserved
-loop-j-preserved c = (
-  c.loop-j.invariant.0
-      ∙ any_later _ _ c.loop-j-test.true (sym c.hides.ensures ∙ c.if-hides.false),
-  omega arith,
-)
-
 pub returns : goal.returns
-returns c = sym (c.loop-j.invariant.0 ∙ any_none _ _ c.loop-j-test.false)
+returns c =
+    let test = hides (lent_nodes c.args.hashes.now c.args.nodes.now) c.args.hash.now in
+    any_from_yields_List test _ _ c.any.result c.any.ensures.ran (YieldsList-from_range 0 c.args.i c.args.i refl (omega arith)) (λ x b q k. search (rules, tests))
+    ∙ any_tried test c.args.i
