@@ -1,8 +1,7 @@
 pub mod Sums
 pub mod HeldRows
-pub mod RowKinds
 pub mod Tables
-pub mod Totals
+pub mod Whole
 pub mod Programs
 pub mod Stage
 pub mod Pins

@@ -5,8 +5,9 @@ use Rattle.scope.specs.Bounds as scope
 use Rattle.common.specs.Checks.{clash}
 use Rattle.promise.specs.Outcomes.{OneResult}
 use Rattle.analysis.specs.Limits.{bounded_of}
-use Rattle.analysis.specs.declared.BoundsAnswer.{BoundsAnswer}
-use Rattle.analysis.specs.declared.BoundsAnswer.TheVariants.{Bounded, Refused}
+use Rattle.std.specs.Prelude.{Result, Ok, Err}
+use Rattle.refusal.specs.declared.Refusal.{Refusal}
+use Rattle.analysis.specs.declared.Totals.{Totals}
 use Rattle.analysis.proofs.Cost.add.Kinds as add-kinds
 use Rattle.analysis.proofs.Cost.add.Reads as add_reads
 use Rattle.analysis.proofs.node_rows.Kinds as node-rows-kinds
@@ -17,13 +18,13 @@ use Rattle.analysis.proofs.bounds_stage.Kinds as bounds-stage-kinds
 use Rattle.analysis.proofs.bounds_stage.Reads as bounds-stage-reads
 
 -- an answer's numbers tell it, and its refusal does
-bounds_tell : (r q : BoundsAnswer) → bounded_of r ≡ bounded_of q → r ≡ q
-bounds_tell (Bounded a b c) (Bounded d e f) p =
-    let own : ◌≡◌ {A = scope.Bound} (record { cells = a; frames = b; cost = c }) (record { cells = d; frames = e; cost = f }) = cc in
-    ap (λ (x : scope.Bound). Bounded x.cells x.frames x.cost) own
-bounds_tell (Bounded a b c) (Refused why) p = clash (cc)
-bounds_tell (Refused why) (Bounded a b c) p = clash (cc)
-bounds_tell (Refused why) (Refused other) p = ap Refused (cc)
+bounds_tell : (r q : Result Totals Refusal) → bounded_of r ≡ bounded_of q → r ≡ q
+bounds_tell (Ok b) (Ok d) p =
+    let own : ◌≡◌ {A = scope.Bound} (record { cells = b.cells; frames = b.frames; cost = b.cost }) (record { cells = d.cells; frames = d.frames; cost = d.cost }) = cc in
+    ap (λ (x : scope.Bound). Ok (record { cells = x.cells; frames = x.frames; cost = x.cost })) own
+bounds_tell (Ok b) (Err why) p = clash (cc)
+bounds_tell (Err why) (Ok b) p = clash (cc)
+bounds_tell (Err why) (Err other) p = ap Err (cc)
 
 pub cost_add : OneResult 0 add-kinds.ps add-kinds.r add_reads.Post
 cost_add κs a s t x y p q = ap (λ (n : ℕ). record { units = n }) (p ∙ sym q)
@@ -34,5 +35,5 @@ node_rows κs a s t x y p q = p ∙ sym q
 pub bounds : OneResult 4 bounds-kinds.ps bounds-kinds.r bounds-reads.Post
 bounds κs a s t x y p q = bounds_tell s t (p ∙ sym q)
 
-pub bounds_stage_lem : OneResult 5 bounds-stage-kinds.ps bounds-stage-kinds.r bounds-stage-reads.Post
+pub bounds_stage_lem : OneResult 2 bounds-stage-kinds.ps bounds-stage-kinds.r bounds-stage-reads.Post
 bounds_stage_lem κs a s t x y p q = bounds_tell s t (p ∙ sym q)

@@ -24,7 +24,8 @@ use Rattle.types.proofs.Parts.{left_type}
 use Rattle.stages.proofs.Passed.{LentPassed, lent_passed, lent_below, stage_passed}
 use Rattle.analysis.specs.Rows.{bound_at}
 use Rattle.analysis.specs.Limits.{bounded_of, limited, lent_totals, counted_bounds, program_totals, stage_bounds}
-use Rattle.analysis.specs.declared.BoundsAnswer.TheVariants.{Bounded, Refused}
+use Rattle.std.specs.Prelude.{Ok, Err}
+use Rattle.analysis.specs.declared.Totals.{Totals}
 use Rattle.analysis.proofs.Programs.{bounds_are, limits_judge}
 
 -- a program's numbers, where they are within the limits
@@ -43,14 +44,14 @@ module _ (P : Program) where
   judged_refused (passed x) why d e = clash (cc)
   judged_refused (refused r) why d e = ap (λ (w : Refusal). refused w) (cc)
 
-  pub bounded_says : (cells frames cost : ℕ) → bounded_of (Bounded cells frames cost) ≡ judged_bounds P
-      → (check_bounds P ≡ passed tt) × (cells ≡ whole_cells P) × (frames ≡ whole_frames P) × (cost ≡ whole_cost P)
+  pub bounded_says : (b : Totals) → bounded_of (Ok b) ≡ judged_bounds P
+      → (check_bounds P ≡ passed tt) × (b.cells ≡ whole_cells P) × (b.frames ≡ whole_frames P) × (b.cost ≡ whole_cost P)
   unfolding program_totals
-  bounded_says cells frames cost e =
+  bounded_says b e =
       let p = judged_passed (check_bounds P) _ (program_totals P) e in
       (p.0, ap (λ (b : Bound). b.cells) p.1, ap (λ (b : Bound). b.frames) p.1, ap (λ (b : Bound). b.cost) p.1)
 
-  pub refused_says : (why : Refusal) → bounded_of (Refused why) ≡ judged_bounds P → check_bounds P ≡ refused why
+  pub refused_says : (why : Refusal) → bounded_of (Err why) ≡ judged_bounds P → check_bounds P ≡ refused why
   refused_says why e = judged_refused (check_bounds P) why (program_totals P) e
 
 module _ (types nodes arrows program hashes : List ℕ) where

@@ -1,6 +1,7 @@
 -- The whole program's bounds as lent tables give them, and what the limits say of them: the numbers, or 14 at the first over its limit.
-use Rattle.std.specs.Prelude.{List, [], ℕ, ◌+◌, ◌-◌, length}
+use Rattle.std.specs.Prelude.{Result, Ok, Err, List, [], ℕ, ◌+◌, ◌-◌, length}
 use Rattle.limits.specs.Limits.{node_count}
+use Rattle.refusal.specs.declared.Refusal.{Refusal}
 use Rattle.scope.specs.Check.{Check, passed, refused, ◌>>=◌}
 use Rattle.scope.specs.Types.{TypeRecord, type_records}
 use Rattle.scope.specs.Nodes.{NodeRecord, node_records}
@@ -9,22 +10,14 @@ use Rattle.scope.specs.Program.{Program}
 use Rattle.scope.specs.Bounds.{Bound, check_limits, whole_cells, whole_frames, whole_cost}
 use Rattle.scope.specs.Run.{program_of}
 use Rattle.scope.specs.Stages.{counted, tables_lent, bounds_stage}
-use Rattle.common.specs.declared.Checked.{Checked}
-use Rattle.common.specs.declared.Checked.TheVariants.{Passed, Refused as Stopped}
 use Rattle.lookup.specs.Lookup.{source_width, target_width}
 use Rattle.analysis.specs.Rows.{bound_at}
-use Rattle.analysis.specs.declared.BoundsAnswer.{BoundsAnswer}
-use Rattle.analysis.specs.declared.BoundsAnswer.TheVariants.{Bounded, Refused}
+use Rattle.analysis.specs.declared.Totals.{Totals}
 
 -- what the code's answer stands for: the numbers of the whole program, or why there are none
-abbrev pub bounded_of : BoundsAnswer → Check Bound
-bounded_of (Bounded cells frames cost) = passed (record { cells = cells; frames = frames; cost = cost })
-bounded_of (Refused why) = refused why
-
--- a refusal of an earlier check, as this answer
-abbrev pub refused_of : Checked → BoundsAnswer
-refused_of Passed = Bounded 0 0 0
-refused_of (Stopped why) = Refused why
+abbrev pub bounded_of : Result Totals Refusal → Check Bound
+bounded_of (Ok b) = passed (record { cells = b.cells; frames = b.frames; cost = b.cost })
+bounded_of (Err why) = refused why
 
 -- numbers within the limits, or the first that is over its limit
 unfoldable pub limited : Bound → Check Bound

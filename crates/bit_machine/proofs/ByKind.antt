@@ -2,8 +2,9 @@
 -- r is the node's record as the code holds it, m the machine before the node's own work, m' the machine after it.
 use mathlib.Core.Path.{◌≡◌, refl, sym, ap, ◌∙◌, subst}
 use mathlib.Core.Bool.{Bool, true, false}
+use mathlib.Core.Logic.{◌⊎◌, inl, inr}
 use mathlib.Core.List.{List, []}
-use Prim.Native.Nat.{ℕ, zero, suc, ◌+◌, ◌-◌, ◌^◌, ◌≤◌, ◌<◌}
+use Prim.Native.Nat.{ℕ, ◌+◌, ◌-◌, ◌^◌, ◌≤◌, ◌<◌}
 use native.Mathlib.Omega.{arith}
 use lib.ListN.{length, get_or, take, drop, length-drop}
 use lib.Seq.{length-take-le}
@@ -14,7 +15,7 @@ use Rattle.report.specs.Nodes.{Node}
 use Rattle.report.specs.Meaning.{done, failed, pruned}
 use Rattle.scope.specs.Numbers.{stream_of}
 use Rattle.scope.specs.Types.{type_records, ty_at, left_at}
-use Rattle.scope.specs.Nodes.{NodeRecord, kind_of, node_of, node_at, nodes_of, node_records}
+use Rattle.scope.specs.Nodes.{NodeRecord, kind_of, kind_number, node_of, node_at, nodes_of, node_records}
 use Rattle.scope.specs.Walk.{hidden_at}
 use Rattle.scope.specs.Arrows.{arrow_records, source, target}
 use Rattle.scope.specs.Hashes.{branch_hash}
@@ -25,6 +26,10 @@ use Rattle.layout.specs.Mach.{Mach}
 use Rattle.layout.specs.Rules.{bit_written, bits_written, skipped, copied, forwarded, peeked}
 use Rattle.layout.specs.Exec.{run_term}
 use Rattle.layout.specs.Safe.{WriteOk, ReadOk, CopyOk, Safe}
+use Rattle.table.specs.Answers.{kind_meant}
+use Rattle.table.specs.declared.Kind.{Kind as Known}
+use Rattle.table.specs.declared.Kind.TheVariants.{Fail, Disconnect1, Hidden}
+use Rattle.table.proofs.Groups.{unknown}
 use Rattle.table.proofs.Hashes.{hidden_kind_lem}
 use Rattle.lookup.specs.Lookup.{padding_in, record_at, around_by, around_in}
 use Rattle.ready.specs.Lent.{program_at, Reads, Shown}
@@ -110,34 +115,24 @@ module _ {types widths next nodes arrows program hashes given witnesses position
     pub word_run : (m' : Mach) → m' ≡ bits_written (take n (drop r.second (bits_of program))) m → run_term (term_at P i) m ≡ done m'
     word_run = Nodes.run_word P (Lent.children_below_lem shown i) i m (take n (drop r.second (bits_of program))) r.first _ is_word_lem bits_are
 
-  -- what is left of the kinds above 7 can only fail: a fail node, or a kind that no node has
-  abbrev Left : ℕ → Type 0
-  Left k = (7 < k) × (k ≡ 9 → ⊥) × (k ≡ 8 → ⊥) × (k ≡ 12 → ⊥) × (k ≡ 14 → ⊥)
-
-  fail_by : (k : ℕ) → Is (node_of (stream_of program) hashes (kind_of k) r.first r.second) → Left k → run_term (term_at P i) m ≡ failed i m
+  -- a fail node can only fail; a disconnect of one child and a hidden node are never run; what has no kind can only fail
+  fail_run : r.kind ≡ 10 → run_term (term_at P i) m ≡ failed i m
   unfolding kind_of node_of
-  fail_by zero e h = absurd (omega (arith, h.0))
-  fail_by (suc zero) e h = absurd (omega (arith, h.0))
-  fail_by (suc (suc zero)) e h = absurd (omega (arith, h.0))
-  fail_by (suc (suc (suc zero))) e h = absurd (omega (arith, h.0))
-  fail_by (suc (suc (suc (suc zero)))) e h = absurd (omega (arith, h.0))
-  fail_by (suc (suc (suc (suc (suc zero))))) e h = absurd (omega (arith, h.0))
-  fail_by (suc (suc (suc (suc (suc (suc zero)))))) e h = absurd (omega (arith, h.0))
-  fail_by (suc (suc (suc (suc (suc (suc (suc zero))))))) e h = absurd (omega (arith, h.0))
-  fail_by (suc (suc (suc (suc (suc (suc (suc (suc zero)))))))) e h = absurd (h.2 refl)
-  fail_by (suc (suc (suc (suc (suc (suc (suc (suc (suc zero))))))))) e h = absurd (h.1 refl)
-  fail_by (suc (suc (suc (suc (suc (suc (suc (suc (suc (suc zero)))))))))) e h = Nodes.run_fail P (Lent.children_below_lem shown i) i m _ e
-  fail_by (suc (suc (suc (suc (suc (suc (suc (suc (suc (suc (suc zero))))))))))) e h =
-      absurd (Nodes.never_one_child P (Lent.children_below_lem shown i) i m _ e safe)
-  fail_by (suc (suc (suc (suc (suc (suc (suc (suc (suc (suc (suc (suc zero)))))))))))) e h = absurd (h.3 refl)
-  fail_by (suc (suc (suc (suc (suc (suc (suc (suc (suc (suc (suc (suc (suc zero))))))))))))) e h =
-      absurd (Nodes.never_hidden P (Lent.children_below_lem shown i) i m _ e safe)
-  fail_by (suc (suc (suc (suc (suc (suc (suc (suc (suc (suc (suc (suc (suc (suc zero)))))))))))))) e h = absurd (h.4 refl)
-  fail_by (suc (suc (suc (suc (suc (suc (suc (suc (suc (suc (suc (suc (suc (suc (suc k))))))))))))))) e h =
-      Nodes.run_fail P (Lent.children_below_lem shown i) i m _ e
+  fail_run e = Nodes.run_fail P (Lent.children_below_lem shown i) i m _ (by_kind 10 e)
 
-  pub fail_run : Left r.kind → run_term (term_at P i) m ≡ failed i m
-  fail_run h = fail_by r.kind (by_kind r.kind refl) h
+  pub no_run : (kind : Known) → r.kind ≡ kind_number (kind_meant kind)
+      → (kind ≡ Fail) ⊎ ((kind ≡ Disconnect1) ⊎ (kind ≡ Hidden)) → run_term (term_at P i) m ≡ failed i m
+  unfolding kind_of node_of
+  no_run kind number (inl e) = fail_run (number ∙ ap (λ k. kind_number (kind_meant k)) e)
+  no_run kind number (inr (inl e)) = absurd (Nodes.never_one_child P (Lent.children_below_lem shown i) i m _
+      (by_kind 11 (number ∙ ap (λ k. kind_number (kind_meant k)) e)) safe)
+  no_run kind number (inr (inr e)) = absurd (Nodes.never_hidden P (Lent.children_below_lem shown i) i m _
+      (by_kind 13 (number ∙ ap (λ k. kind_number (kind_meant k)) e)) safe)
+
+  pub unknown_run : 14 < r.kind → run_term (term_at P i) m ≡ failed i m
+  unfolding node_of
+  unknown_run h = Nodes.run_fail P (Lent.children_below_lem shown i) i m _
+      (by_kind r.kind refl ∙ ap (λ kind. node_of (stream_of program) hashes kind r.first r.second) (unknown r.kind h))
 
   -- nodes with one child
 

@@ -8,8 +8,8 @@ use lib.Seq.{length-take-le}
 use Rattle.limits.specs.Limits.{node_numbers, frame_numbers, cell_count}
 use Rattle.refusal.specs.declared.Refusal.{Refusal}
 use Rattle.refusal.specs.declared.Refusal.TheVariants.{FailReached, PrunedReached}
-use Rattle.refusal.specs.declared.Answer.{Answer}
-use Rattle.refusal.specs.declared.Answer.TheVariants.{Value, Refused}
+use Rattle.refusal.specs.Answers.{Answer}
+use Rattle.std.specs.Prelude.{Ok as Value, Err as Refused}
 use Rattle.report.specs.Bits.{Bit, bits_of}
 use Rattle.report.specs.Types.{Ty, width}
 use Rattle.report.specs.Values.{Val, compact, value_at}
@@ -38,12 +38,13 @@ use Rattle.common.specs.Nodes.{length_records, length_nodes}
 use Rattle.ready.specs.Lent.{program_at, Shown}
 use Rattle.bit_machine.proofs.Lent
 use Rattle.bit_machine.specs.Machine.{Within}
-use Rattle.bit_machine.specs.Whole.{cells_after, end_of, refusal_of, node_end, NodeOk, ready_of, RunOk}
+use Rattle.bit_machine.specs.Whole.{stopped_end, cells_after, end_of, refusal_of, node_end, NodeOk, ready_of, RunOk}
 use Rattle.bit_machine.specs.declared.Heights.{Heights}
 use Rattle.bit_machine.specs.declared.Reason.{Reason}
 use Rattle.bit_machine.specs.declared.Reason.TheVariants.{Failed, Pruned}
-use Rattle.bit_machine.specs.declared.Ran.{Ran}
-use Rattle.bit_machine.specs.declared.Ran.TheVariants.{Done, Stopped}
+use Rattle.std.specs.Prelude.{Result, Ok, Err}
+use Rattle.bit_machine.specs.declared.Heights.{Heights}
+use Rattle.bit_machine.specs.declared.Stopped.{Stopped}
 
 -- as many nodes as the lent table has records
 pub nodes_many : (types nodes arrows program hashes given witnesses positions : List ℕ)
@@ -192,17 +193,17 @@ module _ {P : Program} {input : List ℕ} {size most : ℕ} {cells frames answer
     ran_is o e = ap (λ (o : Step). ends P o cells frames answer) e
 
     -- the run ended with the output in the answer store
-    pub ends_done : (r : Ran) (h : Heights) → r ≡ Done h → end_of r (bits_of part) ≡ node_end P i input lent_on
+    pub ends_done : (r : Result Heights Stopped) (h : Heights) → r ≡ Ok h → end_of r (bits_of part) ≡ node_end P i input lent_on
         → (B : Ty) (at : ℕ) → B ≡ whole_target P → at ≡ width (whole_source P) → (n : ℕ) (answer-after : List ℕ)
         → n ≡ length (compact (value_at B (cells_of after) at)) → answer-after ≡ written (compact (value_at B (cells_of after) at)) answer
         → Ended (left_with (Value n) after numbers_after answer-after)
     unfolding cells_after laid_out ends
-    ends_done r h how e B at e_b ea n answer-after told wrote = go step refl (ap (λ (r : Ran). end_of r (bits_of part)) (sym how) ∙ e ∙ same_end i ei) reached
+    ends_done r h how e B at e_b ea n answer-after told wrote = go step refl (ap (λ (r : Result Heights Stopped). end_of r (bits_of part)) (sym how) ∙ e ∙ same_end i ei) reached
       where
         found : value_at B (cells_of after) at ≡ value_at (whole_target P) (cells_of after) (width (whole_source P))
         found = ap₂ (λ (B : Ty) (at : ℕ). value_at B (cells_of after) at) e_b ea
 
-        go : (o : Step) → step ≡ o → end_of (Done h) (bits_of part) ≡ cells_after (laid_out (8 * bytes_for (whole_cells P)) (whole_frames P) o)
+        go : (o : Step) → step ≡ o → end_of (Ok h) (bits_of part) ≡ cells_after (laid_out (8 * bytes_for (whole_cells P)) (whole_frames P) o)
             → Ends (whole_cells P) (whole_frames P) (cells_of cells) o → Ended (left_with (Value n) after numbers_after answer-after)
         go (done s) eo q r =
             let is : bits_of part ≡ tabulate (8 * bytes_for (whole_cells P)) s.cells = cc in
@@ -215,12 +216,12 @@ module _ {P : Program} {input : List ℕ} {size most : ℕ} {cells frames answer
         go stuck eo q r = absurd r
 
     -- the run stopped
-    stopped : (why : Reason) (h : Heights) → end_of (Stopped why h) (bits_of part) ≡ node_end P i input lent_on
+    stopped : (why : Reason) → stopped_end why (bits_of part) ≡ node_end P i input lent_on
         → Ended (left_with (Refused (refusal_of why)) after numbers_after answer)
     unfolding cells_after laid_out ends
-    stopped (Failed at) h e = go step refl (e ∙ same_end i ei) reached
+    stopped (Failed at) e = go step refl (e ∙ same_end i ei) reached
       where
-        go : (o : Step) → step ≡ o → end_of (Stopped (Failed at) h) (bits_of part) ≡ cells_after (laid_out (8 * bytes_for (whole_cells P)) (whole_frames P) o)
+        go : (o : Step) → step ≡ o → stopped_end (Failed at) (bits_of part) ≡ cells_after (laid_out (8 * bytes_for (whole_cells P)) (whole_frames P) o)
             → Ends (whole_cells P) (whole_frames P) (cells_of cells) o → Ended (left_with (Refused (FailReached at)) after numbers_after answer)
         go (done s) eo q r = clash (cc)
         go (failed place s) eo q r =
@@ -229,9 +230,9 @@ module _ {P : Program} {input : List ℕ} {size most : ℕ} {cells frames answer
             same_left (ap (λ (k : ℕ). Refused (FailReached k)) there) (cells_are_lem s r is) frames_cleared refl ∙ sym (ran_is (failed place s) eo)
         go (pruned place s) eo q r = clash (cc)
         go stuck eo q r = absurd r
-    stopped (Pruned at) h e = go step refl (e ∙ same_end i ei) reached
+    stopped (Pruned at) e = go step refl (e ∙ same_end i ei) reached
       where
-        go : (o : Step) → step ≡ o → end_of (Stopped (Pruned at) h) (bits_of part) ≡ cells_after (laid_out (8 * bytes_for (whole_cells P)) (whole_frames P) o)
+        go : (o : Step) → step ≡ o → stopped_end (Pruned at) (bits_of part) ≡ cells_after (laid_out (8 * bytes_for (whole_cells P)) (whole_frames P) o)
             → Ends (whole_cells P) (whole_frames P) (cells_of cells) o → Ended (left_with (Refused (PrunedReached at)) after numbers_after answer)
         go (done s) eo q r = clash (cc)
         go (failed place s) eo q r = clash (cc)
@@ -241,8 +242,8 @@ module _ {P : Program} {input : List ℕ} {size most : ℕ} {cells frames answer
             same_left (ap (λ (k : ℕ). Refused (PrunedReached k)) there) (cells_are_lem s r is) frames_cleared refl ∙ sym (ran_is (pruned place s) eo)
         go stuck eo q r = absurd r
 
-    pub ends_stopped : (r : Ran) (why : Reason) (h : Heights) → r ≡ Stopped why h → end_of r (bits_of part) ≡ node_end P i input lent_on
-        → (refusal : Refusal) → refusal ≡ refusal_of why → Ended (left_with (Refused refusal) after numbers_after answer)
-    ends_stopped r why h how e refusal ew =
-        ap (λ (refusal : Refusal). left_with (Refused refusal) after numbers_after answer) ew
-        ∙ stopped why h (ap (λ (r : Ran). end_of r (bits_of part)) (sym how) ∙ e)
+    pub ends_stopped : (r : Result Heights Stopped) (stop : Stopped) → r ≡ Err stop → end_of r (bits_of part) ≡ node_end P i input lent_on
+        → (said : Answer) (refusal : Refusal) → said ≡ Refused refusal → refusal ≡ refusal_of stop.why → Ended (left_with said after numbers_after answer)
+    ends_stopped r stop how e said refusal es ew =
+        ap (λ (said : Answer). left_with said after numbers_after answer) (es ∙ ap Refused ew)
+        ∙ stopped stop.why (ap (λ (r : Result Heights Stopped). end_of r (bits_of part)) (sym how) ∙ e)

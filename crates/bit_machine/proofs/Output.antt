@@ -23,8 +23,7 @@ use Rattle.bititer.proofs.Octets.{bytes_taken}
 use Rattle.types.proofs.Sound.{passed_table}
 use Rattle.value.specs.Shapes.{shape_at}
 use Rattle.value.specs.Bits.{room, Unpadded, unpadding, unpad_stage}
-use Rattle.value.specs.declared.ValueWritten.{ValueWritten}
-use Rattle.value.specs.declared.ValueWritten.TheVariants.{Bits, Short}
+use Rattle.std.specs.Prelude.{Option, Some, None}
 use Rattle.value.proofs.Ways.{room_inside, sets-append}
 use Rattle.value.proofs.Sound.{unpadded_to, unpad_is}
 use Rattle.ready.specs.Lent.{TypesShown}
@@ -100,9 +99,9 @@ module _ {types widths next : List ℕ} (shown : TypesShown types widths next) (
   pub output_short : length output ≤ get_or widths k 0
   output_short = omega (arith, compact_fits (value_typed A (cells_of cells) at), wide)
 
-  module _ (says : ValueWritten) (bits : List Bit)
+  module _ (says : Option ℕ) (bits : List Bit)
       (e : unpadding says bits ≡ unpad_stage (shape_at types widths next k) (get_or widths k 0) (bits_of cells) (cells_of cells) at (bits_of answer) 0) where
-    done : unpadding says bits ≡ unpadding (Bits (length output)) (sets (bits_of answer) 0 output)
+    done : unpadding says bits ≡ unpadding (Some (length output)) (sets (bits_of answer) 0 output)
     unfolding unpadded_to every
     done =
         let right : unpad_stage (shape_at types widths next k) (get_or widths k 0) (bits_of cells) (cells_of cells) at (bits_of answer) 0
@@ -114,17 +113,17 @@ module _ {types widths next : List ℕ} (shown : TypesShown types widths next) (
         room_fits (width A) 0 (bits_of answer) (omega (arith, wide, length_bits answer)) (omega (arith, wide)) in
         e ∙ right ∙ rw (read, write, unpadded_to)
 
-    pub output_says : says ≡ Bits (length output)
+    pub output_says : says ≡ Some (length output)
     output_says = ap (λ (u : Unpadded). u.says) done
 
     pub output_bits : bits ≡ sets (bits_of answer) 0 output
     output_bits = ap (λ (u : Unpadded). u.bits) done
 
-    pub output_not_short : {X : Type 0} → says ≡ Short → X
+    pub output_not_short : {X : Type 0} → says ≡ None → X
     output_not_short e = let f = output_says in clash (cc)
 
     -- how many bits were told, and the store with its last byte filled
-    module _ (n : ℕ) (told : says ≡ Bits n) where
+    module _ (n : ℕ) (told : says ≡ Some n) where
       pub output_count : n ≡ length output
       output_count = let f = output_says in cc
 

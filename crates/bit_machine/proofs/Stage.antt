@@ -5,7 +5,7 @@ use Prim.Native.Nat.{ℕ}
 use native.Mathlib.Omega.{arith}
 use lib.ListN.{length}
 use Rattle.refusal.specs.declared.Refusal.{Refusal}
-use Rattle.refusal.specs.declared.Answer.TheVariants.{Refused}
+use Rattle.std.specs.Prelude.{Result, Ok, Err}
 use Rattle.report.specs.Values.{Val}
 use Rattle.report.specs.Meaning.{stuck}
 use Rattle.scope.specs.Nodes.{node_records}
@@ -17,26 +17,25 @@ use Rattle.scope.specs.Stages.{tables_lent, run_stage}
 use Rattle.common.specs.Nodes.{length_records}
 use Rattle.ready.specs.Lent.{program_at, Shown}
 use Rattle.ready.specs.declared.Prepared.{Prepared}
-use Rattle.ready.specs.declared.RunAnswer.TheVariants.{Bounds, Refused as NoRun}
 use Rattle.ready.proofs.Shown as Shows
 use Rattle.ready.proofs.Told.{found, IsReady, told_ready, stage_runs, told_refused}
 use Rattle.bit_machine.specs.Whole.{ready_of, RunOk}
 use Rattle.bit_machine.proofs.Ends.{nodes_many}
 
 module _ (types nodes arrows program hashes given witness : List ℕ) (witness_bits : ℕ) (input : List ℕ)
-    (input_bits : ℕ) (cells frames answer : List ℕ) (p : Prepared)
-    (is : p ≡ found types nodes arrows program hashes given witness witness_bits input input_bits cells frames answer) where
+    (input_bits : ℕ) (cells frames answer : List ℕ) (r : Result Prepared Refusal)
+    (is : r ≡ found types nodes arrows program hashes given witness witness_bits input input_bits cells frames answer) where
   abbrev Staged : Left → Type 0
   Staged left = left ≡ run_stage types nodes arrows program hashes given witness witness_bits input input_bits cells frames answer
 
   -- no run
-  pub not_begun : (why : Refusal) → p.answer ≡ NoRun why → Staged (left_with (Refused why) cells frames answer)
-  not_begun why e = sym (told_refused types nodes arrows program hashes given witness witness_bits input input_bits cells frames answer p is why e)
+  pub not_begun : (why : Refusal) → r ≡ Err why → Staged (left_with (Err why) cells frames answer)
+  not_begun why e = sym (told_refused types nodes arrows program hashes given witness witness_bits input input_bits cells frames answer r is why e)
 
   -- a run
-  module _ (size most : ℕ) (e : p.answer ≡ Bounds size most) where
-    told : IsReady types nodes arrows program hashes given witness witness_bits input input_bits cells frames answer p size most
-    told = told_ready types nodes arrows program hashes given witness witness_bits input input_bits cells frames answer p is size most e
+  module _ (p : Prepared) (e : r ≡ Ok p) where
+    told : IsReady types nodes arrows program hashes given witness witness_bits input input_bits cells frames answer p
+    told = told_ready types nodes arrows program hashes given witness witness_bits input input_bits cells frames answer r is p e
 
     abbrev R : Ready
     R = told.ready
@@ -73,9 +72,9 @@ module _ (types nodes arrows program hashes given witness : List ℕ) (witness_b
     pub begun_ran : (left : Left) → left ≡ ran (ready_of P input) cells frames answer → Staged left
     begun_ran left q =
         q ∙ ap (λ (R : Ready). ran R cells frames answer) same_ready
-        ∙ sym (stage_runs types nodes arrows program hashes given witness witness_bits input input_bits cells frames answer p is size most told)
+        ∙ sym (stage_runs types nodes arrows program hashes given witness witness_bits input input_bits cells frames answer r is p told)
 
-    fit : RunOk R.program input size most cells frames answer
+    fit : RunOk R.program input p.cells p.frames cells frames answer
     fit =
         let n = Shows.nodes_counted types nodes arrows program hashes given witness witness_bits input input_bits told.tables_pass in
         let l : length R.program.nodes ≡ length (node_records nodes) =
@@ -84,7 +83,7 @@ module _ (types nodes arrows program hashes given witness : List ℕ) (witness_b
         ∙ sym (length_records nodes) in
         let h = Shows.input_held types nodes arrows program hashes given witness witness_bits input input_bits
         told.tables_pass cells frames answer R told.ready_pass in
-        let r = Shows.room types nodes arrows program hashes given witness witness_bits input input_bits
+        let room = Shows.room types nodes arrows program hashes given witness witness_bits input input_bits
         told.tables_pass cells frames answer R told.ready_pass in
         let w = Shows.within_limits types nodes arrows program hashes given witness witness_bits input input_bits
         told.tables_pass cells frames answer R told.ready_pass in
@@ -96,9 +95,9 @@ module _ (types nodes arrows program hashes given witness : List ℕ) (witness_b
           most_is = told.frames_are;
           size_fits = rw told.cells_are w.0;
           most_fits = rw told.frames_are w.1;
-          cells_fit = rw told.cells_are r.0;
-          frames_fit = rw told.frames_are r.1;
-          answer_fits = r.2;
+          cells_fit = rw told.cells_are room.0;
+          frames_fit = rw told.frames_are room.1;
+          answer_fits = room.2;
           goes = subst
               (λ (v : Val). machine (whole_cells R.program) (whole_frames R.program) (whole R.program) (whole_source R.program)
               (whole_target R.program) v (cells_of cells) ≡ stuck → ⊥)
@@ -108,5 +107,5 @@ module _ (types nodes arrows program hashes given witness : List ℕ) (witness_b
         }
 
     -- what the run rests on
-    pub begun_ok : RunOk P input size most cells frames answer
-    begun_ok = subst (λ (P : Program). RunOk P input size most cells frames answer) (sym same_program) fit
+    pub begun_ok : RunOk P input p.cells p.frames cells frames answer
+    begun_ok = subst (λ (P : Program). RunOk P input p.cells p.frames cells frames answer) (sym same_program) fit

@@ -48,9 +48,10 @@ use Rattle.ready.specs.Positions.{positions_of}
 use Rattle.ready.proofs.Shown as Shows
 use Rattle.bit_machine.specs.Machine.{machine_of, Within}
 use Rattle.bit_machine.specs.Engine.{out_of}
+use Rattle.bit_machine.specs.Tables.{program_in}
 use Rattle.bit_machine.specs.declared.Heights.{Heights}
 
-module _ (κs : Lfts 3) where
+module _ (κs : Lfts 4) where
   -- what the function is lent, what it answers, and the stores as it leaves them
   abbrev pub Args : Type 0
   Args = Dens κs kinds.ps
@@ -59,7 +60,7 @@ module _ (κs : Lfts 3) where
   Result = (res_t kinds.r κs).Denot
 
   abbrev pub Exit : Type 0
-  Exit = AtExit (ended_of 3 kinds.ps kinds.r) κs
+  Exit = AtExit (ended_of 4 kinds.ps kinds.r) κs
 
   -- what it asks for, and what it promises
   abbrev pub Pre : Args → Type 0
@@ -70,25 +71,25 @@ module _ (κs : Lfts 3) where
 
   -- the tables that it is lent
   pub record Lends (a : Args) (types widths next nodes arrows program hashes given witness positions : List ℕ) : Type 0 where
-    pub types_are : a.0.now ≡ types
-    pub widths_are : a.1.0.now ≡ widths
-    pub next_are : a.1.1.0.now ≡ next
-    pub nodes_are : a.1.1.1.0.now ≡ nodes
-    pub arrows_are : a.1.1.1.1.0.now ≡ arrows
-    pub program_is : a.1.1.1.1.1.0.now ≡ program
-    pub hashes_are : a.1.1.1.1.1.1.0.now ≡ hashes
-    pub given_are : a.1.1.1.1.1.1.1.0.now ≡ given
-    pub witness_is : a.1.1.1.1.1.1.1.1.0.now ≡ witness
-    pub positions_are : a.1.1.1.1.1.1.1.1.1.0.now ≡ positions
+    pub types_are : a.0.now.types.now ≡ types
+    pub widths_are : a.0.now.widths.now ≡ widths
+    pub next_are : a.0.now.next.now ≡ next
+    pub nodes_are : a.0.now.nodes.now ≡ nodes
+    pub arrows_are : a.0.now.arrows.now ≡ arrows
+    pub program_is : a.0.now.program.now ≡ program
+    pub hashes_are : a.0.now.hashes.now ≡ hashes
+    pub given_are : a.0.now.given.now ≡ given
+    pub witness_is : a.0.now.witness.now ≡ witness
+    pub positions_are : a.0.now.positions.now ≡ positions
 
   -- the machine in the stores that it is lent, with the heights; and the node
   abbrev pub machine_in : Args → Mach
   machine_in a =
-      machine_of (bits_of a.1.1.1.1.1.1.1.1.1.1.0.now) a.1.1.1.1.1.1.1.1.1.1.1.0.now
-      a.1.1.1.1.1.1.1.1.1.1.1.1.1.0
+      machine_of (bits_of a.1.0.now) a.1.1.0.now
+      a.1.1.1.1.0
 
   abbrev pub node_in : Args → ℕ
-  node_in a = a.1.1.1.1.1.1.1.1.1.1.1.1.0
+  node_in a = a.1.1.1.0
 
   -- the tables of a run, beside them the widths and the entries of the types and the positions of the witness values
   abbrev pub LendsRun : Args → (types nodes arrows program hashes given witness : List ℕ) → (witness_bits : ℕ) → Type 0
@@ -98,7 +99,7 @@ module _ (κs : Lfts 3) where
 
   -- how it ended, with the machine in the stores as it leaves them
   abbrev pub outcome : Result → Exit → Outcome
-  outcome r x = out_of r (bits_of x.1.1.1.1.1.1.1.1.1.1.0.now) x.1.1.1.1.1.1.1.1.1.1.1.0.now
+  outcome r x = out_of r (bits_of x.1.0.now) x.1.1.0.now
 
 -- the same tables, shown and read as a program
 tables_shown : {t w n m r p h g v q t' w' n' m' r' p' h' g' v' q' : List ℕ} → t ≡ t' → w ≡ w' → n ≡ n' → m ≡ m' → r ≡ r' → p ≡ p' → h ≡ h'
@@ -166,12 +167,10 @@ module _ (types nodes arrows program hashes given witness : List ℕ) (witness_b
     same = Theorems.term_same lent_cells (whole_cells P) (whole_frames P) (omega arith) (term_at P i) s fits (node_goes means)
 
     -- the engine's function is lent the tables, node i and that state's layout
-    module _ (κs : Lfts 3) (a : Args κs) (lends : LendsRun κs a types nodes arrows program hashes given witness witness_bits)
+    module _ (κs : Lfts 4) (a : Args κs) (lends : LendsRun κs a types nodes arrows program hashes given witness witness_bits)
         (node : node_in κs a ≡ i) (holds : machine_in κs a ≡ layout lent_cells (whole_frames P) s) where
       -- the program of its tables is the run's, so its term is the node's
-      term_is : term_at (program_at a.0.now a.1.1.1.0.now a.1.1.1.1.0.now a.1.1.1.1.1.0.now
-          a.1.1.1.1.1.1.0.now a.1.1.1.1.1.1.1.0.now
-          a.1.1.1.1.1.1.1.1.0.now a.1.1.1.1.1.1.1.1.1.0.now) (node_in κs a) ≡ term_at P i
+      term_is : term_at (program_in a.0.now) (node_in κs a) ≡ term_at P i
       term_is =
           ap₂ term_at
           (tables_program lends.types_are lends.nodes_are lends.arrows_are lends.program_is lends.hashes_are lends.given_are

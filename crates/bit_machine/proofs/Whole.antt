@@ -22,10 +22,14 @@ use Rattle.layout.specs.Exec.{run_term, with_input, with_output, run_whole}
 use Rattle.layout.specs.Safe.{PushOk, MoveOk, WriteOk, InputOk}
 use Rattle.ready.specs.Lent.{program_at, Reads, Shown}
 use Rattle.bit_machine.specs.Engine.{out_of}
-use Rattle.bit_machine.specs.Whole.{cells_after, end_of, input_of, node_end, NodeOk}
+use Rattle.bit_machine.specs.Whole.{stopped_end, cells_after, end_of, input_of, node_end, NodeOk}
 use Rattle.bit_machine.specs.declared.Reason.TheVariants.{Failed, Pruned}
-use Rattle.bit_machine.specs.declared.Ran.{Ran}
-use Rattle.bit_machine.specs.declared.Ran.TheVariants.{Done, Stopped}
+use Rattle.std.specs.Prelude.{Result, Ok, Err}
+use Rattle.bit_machine.specs.declared.Heights.{Heights}
+use Rattle.bit_machine.specs.declared.Reason.{Reason}
+use Rattle.bit_machine.specs.declared.Stopped.{Stopped}
+use Rattle.bit_machine.specs.Engine.{stop_of}
+use Rattle.bit_machine.specs.Machine.{machine_of}
 use Rattle.bit_machine.proofs.Lent
 
 -- an input and an output of width 0, and wider ones
@@ -75,11 +79,14 @@ pub input_as : {n : ℕ} {bits : List Bit} {m m' : Mach} → m' ≡ m → InputO
 input_as {n} {bits} e h = subst (λ (m : Mach). InputOk n bits m) (sym e) h
 
 -- an answer, with the cells alone
-pub end_is : (r : Ran) (bits numbers : List ℕ) → end_of r bits ≡ cells_after (out_of r bits numbers)
+pub end_is : (r : Result Heights Stopped) (bits numbers : List ℕ) → end_of r bits ≡ cells_after (out_of r bits numbers)
 unfolding cells_after
-end_is (Done h) bits numbers = refl
-end_is (Stopped (Failed place) h) bits numbers = refl
-end_is (Stopped (Pruned place) h) bits numbers = refl
+end_is (Ok h) bits numbers = refl
+end_is (Err stop) bits numbers = go stop.why
+  where
+    go : (why : Reason) → stopped_end why bits ≡ cells_after (stop_of why (machine_of bits numbers stop.heights))
+    go (Failed place) = refl
+    go (Pruned place) = refl
 
 -- node i of lent tables, on its input
 module _ {types widths next nodes arrows program hashes given witnesses positions : List ℕ}
@@ -126,7 +133,7 @@ module _ {types widths next nodes arrows program hashes given witnesses position
     output_is m' q = q ∙ ap (λ (n : ℕ). with_output n opened) (e ∙ Lent.target_wide shown i)
 
   -- the whole run, from the run of the node's term
-  pub whole_end : (r : Ran) (bits numbers : List ℕ) (m' : Mach) → m' ≡ with_output (width (target_ty P i)) opened → out_of r bits numbers ≡ run_term (term_at P i) m'
+  pub whole_end : (r : Result Heights Stopped) (bits numbers : List ℕ) (m' : Mach) → m' ≡ with_output (width (target_ty P i)) opened → out_of r bits numbers ≡ run_term (term_at P i) m'
       → end_of r bits ≡ node_end P i input m
   unfolding run_whole
   whole_end r bits numbers m' em q = end_is r bits numbers ∙ ap cells_after (q ∙ ap (run_term (term_at P i)) em)

@@ -20,8 +20,7 @@ use Rattle.scope.specs.Program.{value_from}
 use Rattle.types.proofs.Sound.{passed_table}
 use Rattle.value.specs.Shapes.{shape_at}
 use Rattle.value.specs.Bits.{room, Padded, padding, pad_stage}
-use Rattle.value.specs.declared.ValueRead.{ValueRead}
-use Rattle.value.specs.declared.ValueRead.TheVariants.{Next}
+use Rattle.std.specs.Prelude.{Option, Some}
 use Rattle.value.proofs.Ways.{room_inside}
 use Rattle.value.proofs.Types.{read_fit}
 use Rattle.value.proofs.Sound.{padded_to, pad_is}
@@ -90,7 +89,7 @@ module _ {types widths next : List ℕ} (shown : TypesShown types widths next) (
   pub value_none : n ≡ 0 → (m : Mach) → m ≡ bits_written cells m
   value_none e m = sym (none_written cells m (value_long ∙ e))
 
-  padded_cells : (bits : List ℕ) (at : ℕ) → (n ≡ 0 → ⊥) → at + n ≤ length bits → length bits ≤ cell_count → (says : ValueRead) (bits' : List ℕ)
+  padded_cells : (bits : List ℕ) (at : ℕ) → (n ≡ 0 → ⊥) → at + n ≤ length bits → length bits ≤ cell_count → (says : Option ℕ) (bits' : List ℕ)
       → padding says bits' ≡ pad_stage (shape_at types widths next k) (get_or widths k 0) stream p bits at → bits' ≡ sets bits at cells
   unfolding padded_to
   padded_cells bits at some fits few says bits' e =
@@ -98,12 +97,12 @@ module _ {types widths next : List ℕ} (shown : TypesShown types widths next) (
       let roomy : room (width A) at bits ≡ true = rw (sym wide) (room_inside n at bits some fits ∙ le-leb (at + n) cell_count (omega arith)) in
       let right : pad_stage (shape_at types widths next k) (get_or widths k 0) stream p bits at ≡ padded_to A p bits at (read_value A (drop p stream)) =
       rw (shown.widths_are, shown.next_are) (pad_is types shown.count (passed_table types shown.count shown.passes) k stream p bits at) in
-      let done : padded_to A p bits at (read_value A (drop p stream)) ≡ padding (Next (p + length (compact v))) (sets bits at (padded A v)) =
+      let done : padded_to A p bits at (read_value A (drop p stream)) ≡ padding (Some (p + length (compact v))) (sets bits at (padded A v)) =
       rw (reads.2, roomy, padded_to) in
       ap (λ (z : Padded). z.cells) (e ∙ right ∙ done) ∙ ap (λ (v : Val). sets bits at (padded A v)) (sym value_is)
 
   pub value_written : (bits : List ℕ) (rs : List Frame) (w r x : ℕ) → (n ≡ 0 → ⊥) → WriteOk (length bits) n (mach bits rs w r x) → length bits ≤ cell_count
-      → (cursor : ℕ) → cursor ≡ (active_write (mach bits rs w r x)).cursor → (says : ValueRead) (bits' : List ℕ)
+      → (cursor : ℕ) → cursor ≡ (active_write (mach bits rs w r x)).cursor → (says : Option ℕ) (bits' : List ℕ)
       → padding says bits' ≡ pad_stage (shape_at types widths next k) (get_or widths k 0) stream p bits cursor
       → skipped n (mach bits' rs w r x) ≡ bits_written cells (mach bits rs w r x)
   value_written bits rs w r x some ok few cursor ec says bits' e =

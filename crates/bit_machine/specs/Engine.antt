@@ -1,5 +1,5 @@
 -- What the engine's answers say, with the cells and the frame records beside them; and what a node's own work promises.
-use Rattle.std.specs.Prelude.{◌≡◌, List, ℕ, ◌+◌, ◌<◌, ◌≤◌}
+use Rattle.std.specs.Prelude.{◌≡◌, Result, Ok, Err, List, ℕ, ◌+◌, ◌<◌, ◌≤◌}
 use Rattle.report.specs.Bits.{Bit}
 use Rattle.report.specs.Types.{width, word_ty}
 use Rattle.report.specs.Meaning.{done, failed, pruned}
@@ -15,8 +15,8 @@ use Rattle.lookup.specs.declared.Around.{Around}
 use Rattle.lookup.specs.declared.Around.TheVariants.{Pairing, Composing, Disconnecting}
 use Rattle.bit_machine.specs.declared.Reason.{Reason}
 use Rattle.bit_machine.specs.declared.Reason.TheVariants.{Failed, Pruned}
-use Rattle.bit_machine.specs.declared.Ran.{Ran}
-use Rattle.bit_machine.specs.declared.Ran.TheVariants.{Done, Stopped}
+use Rattle.bit_machine.specs.declared.Heights.{Heights}
+use Rattle.bit_machine.specs.declared.Stopped.{Stopped}
 use Rattle.bit_machine.specs.declared.Plan.{Plan}
 use Rattle.bit_machine.specs.declared.Plan.TheVariants.{Rest, Stop, One, Two}
 
@@ -26,9 +26,9 @@ stop_of (Failed place) m = failed place m
 stop_of (Pruned place) m = pruned place m
 
 -- an answer with the cells and the frame store's numbers
-abbrev pub out_of : Ran → (bits numbers : List ℕ) → Outcome
-out_of (Done h) bits numbers = done (machine_of bits numbers h)
-out_of (Stopped why h) bits numbers = stop_of why (machine_of bits numbers h)
+abbrev pub out_of : Result Heights Stopped → (bits numbers : List ℕ) → Outcome
+out_of (Ok h) bits numbers = done (machine_of bits numbers h)
+out_of (Err stop) bits numbers = stop_of stop.why (machine_of bits numbers stop.heights)
 
 -- what is done around two children, with the hash of a disconnect's right child
 abbrev pub around_of : Around → (hash : List Bit) → Layout.Around

@@ -1,3 +1,4 @@
 pub mod Machine
 pub mod Engine
 pub mod Whole
+pub mod Tables

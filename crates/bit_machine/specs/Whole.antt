@@ -1,5 +1,5 @@
 -- A whole run of the last node from no frame: what it needs of tables, input, bounds and stores, and how it ends.
-use Rattle.std.specs.Prelude.{◌≡◌, List, ℕ, ◌/◌, ◌≤◌, ◌<◌, length}
+use Rattle.std.specs.Prelude.{◌≡◌, Result, Ok, Err, List, ℕ, ◌/◌, ◌≤◌, ◌<◌, length}
 use Rattle.limits.specs.Limits.{node_count, cell_count, frame_count, frame_numbers}
 use Rattle.refusal.specs.declared.Refusal.{Refusal}
 use Rattle.refusal.specs.declared.Refusal.TheVariants.{FailReached, PrunedReached}
@@ -17,8 +17,8 @@ use Rattle.layout.specs.Safe.{WholeOk}
 use Rattle.ready.specs.Lent.{Reads}
 use Rattle.bit_machine.specs.declared.Reason.{Reason}
 use Rattle.bit_machine.specs.declared.Reason.TheVariants.{Failed, Pruned}
-use Rattle.bit_machine.specs.declared.Ran.{Ran}
-use Rattle.bit_machine.specs.declared.Ran.TheVariants.{Done, Stopped}
+use Rattle.bit_machine.specs.declared.Heights.{Heights}
+use Rattle.bit_machine.specs.declared.Stopped.{Stopped}
 
 -- an end of which only the cells are told
 abbrev pub End : Type 0
@@ -31,10 +31,13 @@ cells_after (pruned place m) = pruned place m.bits
 cells_after stuck = stuck
 
 -- an answer with the cells
-abbrev pub end_of : Ran → (bits : List ℕ) → End
-end_of (Done h) bits = done bits
-end_of (Stopped (Failed place) h) bits = failed place bits
-end_of (Stopped (Pruned place) h) bits = pruned place bits
+abbrev pub stopped_end : Reason → (bits : List ℕ) → End
+stopped_end (Failed place) bits = failed place bits
+stopped_end (Pruned place) bits = pruned place bits
+
+abbrev pub end_of : Result Heights Stopped → (bits : List ℕ) → End
+end_of (Ok h) bits = done bits
+end_of (Err stop) bits = stopped_end stop.why bits
 
 -- why a run stopped, as a refusal
 abbrev pub refusal_of : Reason → Refusal

@@ -9,146 +9,39 @@ ghost use Rattle.scope.specs.Program.{term_at};
 ghost use Rattle.layout.specs.Exec.{run_term, first_of, second_of, third_of};
 ghost use Rattle.layout.specs.Safe.{Fed, Safe, FirstOk, SecondOk, ThirdOk, HandOk};
 ghost use Rattle.bit_machine.specs.Machine.{machine_of, Within};
+ghost use Rattle.bit_machine.specs.Tables.{program_in, ShownIn};
 ghost use Rattle.lookup.specs.Lookup.{record_at};
-ghost use Rattle.ready.specs.Lent.{program_at, Shown};
 ghost use Rattle.bit_machine.specs.Engine.{out_of, around_of, handed, TwoKind, Planned};
 
-use crate::{Heights, Plan, Ran, Reason, rules, values};
+use crate::{Heights, Plan, Reason, Stopped, Tables, rules, values};
 use lookup::Around;
-
-// A node with no child: unit, iden, witness or word; any other can only fail.
-fn leaf<'a>(
-    types: &'a [u8],
-    widths: &'a [u32],
-    next: &'a [u16],
-    nodes: &'a [u32],
-    arrows: &'a [u8],
-    program: &'a [u8],
-    hashes: &'a [u8],
-    given: &'a [u8],
-    witness: &'a [u8],
-    positions: &'a [u32],
-    cells: &mut [u8],
-    frames: &mut [u32],
-    i: u32,
-    h: Heights,
-) -> Plan
-    requires shown { Shown types.now widths.now next.now nodes.now arrows.now program.now hashes.now given.now witness.now positions.now }
-    requires within { Within cells.old frames.old }
-    requires safe { Safe (term_at (program_at types.now nodes.now arrows.now program.now hashes.now given.now witness.now positions.now) i)
-        (machine_of (bits_of cells.old) frames.old h) }
-    requires bound { 7 < (record_at nodes.now i).kind }
-    ensures { Planned result nodes.now (program_at types.now nodes.now arrows.now
-        program.now hashes.now given.now witness.now positions.now) i
-        (machine_of (bits_of cells.old) frames.old h) (machine_of (bits_of cells.new) frames.new h) }
-{
-    let record = table::record_at(nodes, i);
-    if record.kind == table::UNIT {
-        return Plan::Rest;
-    }
-    if record.kind == table::IDEN {
-        rules::copy(cells, frames, h, lookup::source_width(arrows, widths, i));
-        return Plan::Rest;
-    }
-    if record.kind == table::WITNESS {
-        let k = lookup::target_at(arrows, i);
-        let p = lookup::position_at(positions, i);
-        values::write_value(types, widths, next, k, witness, p, cells, frames, h);
-        return Plan::Rest;
-    }
-    if record.kind == table::WORD {
-        let n = lookup::target_width(arrows, widths, i);
-        rules::write_bits(program, record.second, n, cells, frames, h);
-        return Plan::Rest;
-    }
-    Plan::Stop(Reason::Failed(i))
-}
-
-// A node with one child: injl, injr, take or drop.
-fn one_child<'a>(
-    types: &'a [u8],
-    widths: &'a [u32],
-    next: &'a [u16],
-    nodes: &'a [u32],
-    arrows: &'a [u8],
-    program: &'a [u8],
-    hashes: &'a [u8],
-    given: &'a [u8],
-    witness: &'a [u8],
-    positions: &'a [u32],
-    cells: &mut [u8],
-    frames: &mut [u32],
-    i: u32,
-    h: Heights,
-) -> Plan
-    requires shown { Shown types.now widths.now next.now nodes.now arrows.now program.now hashes.now given.now witness.now positions.now }
-    requires within { Within cells.old frames.old }
-    requires safe { Safe (term_at (program_at types.now nodes.now arrows.now program.now hashes.now given.now witness.now positions.now) i)
-        (machine_of (bits_of cells.old) frames.old h) }
-    requires bound { (3 < (record_at nodes.now i).kind) × ((record_at nodes.now i).kind ≤ 7) }
-    ensures { Planned result nodes.now (program_at types.now nodes.now arrows.now
-        program.now hashes.now given.now witness.now positions.now) i
-        (machine_of (bits_of cells.old) frames.old h) (machine_of (bits_of cells.new) frames.new h) }
-{
-    let record = table::record_at(nodes, i);
-    if record.kind == table::TAKE {
-        return Plan::One(record.first, 0);
-    }
-    if record.kind == table::DROP {
-        let n = types::left_width(types, widths, lookup::source_at(arrows, i));
-        rules::forward(frames, h, n);
-        return Plan::One(record.first, n);
-    }
-    let padding = lookup::padding_at(types, widths, lookup::target_at(arrows, i));
-    if record.kind == table::INJL {
-        rules::write_bit(cells, frames, h, 0);
-        rules::skip(frames, h, padding.left);
-        return Plan::One(record.first, 0);
-    }
-    rules::write_bit(cells, frames, h, 1);
-    rules::skip(frames, h, padding.right);
-    Plan::One(record.first, 0)
-}
+use ready::CheckedShapes;
+use table::Kind;
+use value::Shapes;
 
 // A case or an assertion: the bit at the read cursor picks the child, which is pruned if it is hidden.
-fn branch<'a>(
-    types: &'a [u8],
-    widths: &'a [u32],
-    next: &'a [u16],
-    nodes: &'a [u32],
-    arrows: &'a [u8],
-    program: &'a [u8],
-    hashes: &'a [u8],
-    given: &'a [u8],
-    witness: &'a [u8],
-    positions: &'a [u32],
-    cells: &mut [u8],
-    frames: &mut [u32],
-    i: u32,
-    h: Heights,
-) -> Plan
-    requires shown { Shown types.now widths.now next.now nodes.now arrows.now program.now hashes.now given.now witness.now positions.now }
+fn branch(tables: &Tables<'_>, cells: &mut [u8], frames: &mut [u32], i: u32, h: Heights) -> Plan
+    requires shown { ShownIn tables.now }
     requires within { Within cells.old frames.old }
-    requires safe { Safe (term_at (program_at types.now nodes.now arrows.now program.now hashes.now given.now witness.now positions.now) i)
+    requires safe { Safe (term_at (program_in tables.now) i)
         (machine_of (bits_of cells.old) frames.old h) }
-    requires i_value { (record_at nodes.now i).kind ≡ 1 }
-    ensures { Planned result nodes.now (program_at types.now nodes.now arrows.now
-        program.now hashes.now given.now witness.now positions.now) i
+    requires i_value { (record_at tables.now.nodes.now i).kind ≡ 1 }
+    ensures { Planned result tables.now.nodes.now (program_in tables.now) i
         (machine_of (bits_of cells.old) frames.old h) (machine_of (bits_of cells.new) frames.new h) }
 {
-    let record = table::record_at(nodes, i);
-    let sum = types::left_of(types, lookup::source_at(arrows, i));
-    let padding = lookup::padding_at(types, widths, sum);
+    let record = table::record_at(tables.nodes, i);
+    let sum = types::left_of(tables.types, lookup::source_at(tables.arrows, i));
+    let padding = lookup::padding_at(tables.types, tables.widths, sum);
     let bit = rules::peek(cells, frames, h);
     if bit == 0 {
-        if table::hidden_at(nodes, record.first) {
+        if table::hidden_at(tables.nodes, record.first) {
             return Plan::Stop(Reason::Pruned(i));
         }
         let n = 1 + padding.left;
         rules::forward(frames, h, n);
         return Plan::One(record.first, n);
     }
-    if table::hidden_at(nodes, record.second) {
+    if table::hidden_at(tables.nodes, record.second) {
         return Plan::Stop(Reason::Pruned(i));
     }
     let n = 1 + padding.right;
@@ -156,51 +49,80 @@ fn branch<'a>(
     Plan::One(record.second, n)
 }
 
-// A node's own work, before its children.
-fn prepare<'a>(
-    types: &'a [u8],
-    widths: &'a [u32],
-    next: &'a [u16],
-    nodes: &'a [u32],
-    arrows: &'a [u8],
-    program: &'a [u8],
-    hashes: &'a [u8],
-    given: &'a [u8],
-    witness: &'a [u8],
-    positions: &'a [u32],
-    cells: &mut [u8],
-    frames: &mut [u32],
-    i: u32,
-    h: Heights,
-) -> Plan
-    requires shown { Shown types.now widths.now next.now nodes.now arrows.now program.now hashes.now given.now witness.now positions.now }
+// A witness node: its value is read at its position and written padded.
+fn witness(tables: &Tables<'_>, cells: &mut [u8], frames: &mut [u32], i: u32, h: Heights) -> Plan
+    requires shown { ShownIn tables.now }
     requires within { Within cells.old frames.old }
-    requires safe { Safe (term_at (program_at types.now nodes.now arrows.now program.now hashes.now given.now witness.now positions.now) i)
+    requires safe { Safe (term_at (program_in tables.now) i)
         (machine_of (bits_of cells.old) frames.old h) }
-    ensures { Planned result nodes.now (program_at types.now nodes.now arrows.now
-        program.now hashes.now given.now witness.now positions.now) i
+    requires i_value { (record_at tables.now.nodes.now i).kind ≡ 12 }
+    ensures { Planned result tables.now.nodes.now (program_in tables.now) i
         (machine_of (bits_of cells.old) frames.old h) (machine_of (bits_of cells.new) frames.new h) }
 {
-    let record = table::record_at(nodes, i);
-    if record.kind == table::CASE {
-        return branch(
-            types, widths, next, nodes, arrows, program, hashes, given, witness, positions, cells,
-            frames, i, h,
-        );
+    let k = lookup::target_at(tables.arrows, i);
+    let p = lookup::position_at(tables.positions, i);
+    let shapes = CheckedShapes {
+        shapes: Shapes {
+            types: tables.types,
+            widths: tables.widths,
+            next: tables.next,
+        },
+    };
+    values::write_value(&shapes, k, tables.witness, p, cells, frames, h);
+    Plan::Rest
+}
+
+// A node's own work, before its children. What has no kind, and what a run reaches of fail and what is never run, can only fail.
+fn prepare(tables: &Tables<'_>, cells: &mut [u8], frames: &mut [u32], i: u32, h: Heights) -> Plan
+    requires shown { ShownIn tables.now }
+    requires within { Within cells.old frames.old }
+    requires safe { Safe (term_at (program_in tables.now) i)
+        (machine_of (bits_of cells.old) frames.old h) }
+    ensures { Planned result tables.now.nodes.now (program_in tables.now) i
+        (machine_of (bits_of cells.old) frames.old h) (machine_of (bits_of cells.new) frames.new h) }
+{
+    let record = table::record_at(tables.nodes, i);
+    let Some(kind) = table::kind_of(record) else {
+        return Plan::Stop(Reason::Failed(i));
+    };
+    match kind {
+        Kind::Comp | Kind::Pair | Kind::Disconnect => Plan::Two,
+        Kind::Case => branch(tables, cells, frames, i, h),
+        Kind::Injl => {
+            let target = lookup::target_at(tables.arrows, i);
+            let padding = lookup::padding_at(tables.types, tables.widths, target);
+            rules::write_bit(cells, frames, h, 0);
+            rules::skip(frames, h, padding.left);
+            Plan::One(record.first, 0)
+        }
+        Kind::Injr => {
+            let target = lookup::target_at(tables.arrows, i);
+            let padding = lookup::padding_at(tables.types, tables.widths, target);
+            rules::write_bit(cells, frames, h, 1);
+            rules::skip(frames, h, padding.right);
+            Plan::One(record.first, 0)
+        }
+        Kind::Take => Plan::One(record.first, 0),
+        Kind::Drop => {
+            let source = lookup::source_at(tables.arrows, i);
+            let n = types::left_width(tables.types, tables.widths, source);
+            rules::forward(frames, h, n);
+            Plan::One(record.first, n)
+        }
+        Kind::Unit => Plan::Rest,
+        Kind::Iden => {
+            let n = lookup::source_width(tables.arrows, tables.widths, i);
+            rules::copy(cells, frames, h, n);
+            Plan::Rest
+        }
+        Kind::Witness => witness(tables, cells, frames, i, h),
+        Kind::Word => {
+            let n = lookup::target_width(tables.arrows, tables.widths, i);
+            rules::write_bits(tables.program, record.second, n, cells, frames, h);
+            Plan::Rest
+        }
+        Kind::Fail | Kind::Disconnect1 | Kind::Hidden => Plan::Stop(Reason::Failed(i)),
     }
-    if record.kind <= table::DISCONNECT {
-        return Plan::Two;
-    }
-    if record.kind <= table::DROP {
-        return one_child(
-            types, widths, next, nodes, arrows, program, hashes, given, witness, positions, cells,
-            frames, i, h,
-        );
-    }
-    leaf(
-        types, widths, next, nodes, arrows, program, hashes, given, witness, positions, cells,
-        frames, i, h,
-    )
 }
 
 // Before the left child of a disconnect: a frame with the right child's hash and the source, which becomes the read frame, and a frame for the left child.
@@ -296,101 +218,66 @@ fn third(around: Around, frames: &mut [u32], h: Heights) -> Heights
 
 // A node: its own work, then its children.
 #[cycle(both_node)]
-pub(crate) fn node<'a>(
-    types: &'a [u8],
-    widths: &'a [u32],
-    next: &'a [u16],
-    nodes: &'a [u32],
-    arrows: &'a [u8],
-    program: &'a [u8],
-    hashes: &'a [u8],
-    given: &'a [u8],
-    witness: &'a [u8],
-    positions: &'a [u32],
+pub(crate) fn node(
+    tables: &Tables<'_>,
     cells: &mut [u8],
     frames: &mut [u32],
     i: u32,
     h: Heights,
-) -> Ran
-    requires shown { Shown types.now widths.now next.now nodes.now arrows.now program.now hashes.now given.now witness.now positions.now }
+) -> Result<Heights, Stopped>
+    requires shown { ShownIn tables.now }
     requires within { Within cells.old frames.old }
-    requires safe { Safe (term_at (program_at types.now nodes.now arrows.now program.now hashes.now given.now witness.now positions.now) i)
+    requires safe { Safe (term_at (program_in tables.now) i)
         (machine_of (bits_of cells.old) frames.old h) }
-    ensures { out_of result (bits_of cells.new) frames.new ≡ run_term (term_at (program_at types.now
-        nodes.now arrows.now program.now hashes.now given.now witness.now
-        positions.now) i) (machine_of (bits_of cells.old) frames.old h) }
+    ensures { out_of result (bits_of cells.new) frames.new ≡ run_term (term_at (program_in tables.now) i)
+        (machine_of (bits_of cells.old) frames.old h) }
 {
-    let plan = prepare(
-        types, widths, next, nodes, arrows, program, hashes, given, witness, positions, cells,
-        frames, i, h,
-    );
+    let plan = prepare(tables, cells, frames, i, h);
     match plan {
-        Plan::Rest => Ran::Done(h),
-        Plan::Stop(why) => Ran::Stopped(why, h),
-        Plan::Two => both(
-            types, widths, next, nodes, arrows, program, hashes, given, witness, positions, cells,
-            frames, i, h,
-        ),
+        Plan::Rest => Ok(h),
+        Plan::Stop(why) => Err(Stopped { why, heights: h }),
+        Plan::Two => both(tables, cells, frames, i, h),
         Plan::One(x, n) => {
-            let ran = node(
-                types, widths, next, nodes, arrows, program, hashes, given, witness, positions,
-                cells, frames, x, h,
-            );
-            let Ran::Done(after) = ran else {
-                return ran;
-            };
+            let after = node(tables, cells, frames, x, h)?;
             rules::back(frames, after, n);
-            Ran::Done(after)
+            Ok(after)
         }
     }
 }
 
 // A comp, a pair or a disconnect: its left child, then its right child, with what is done around them.
 #[cycle(both_node)]
-fn both<'a>(
-    types: &'a [u8],
-    widths: &'a [u32],
-    next: &'a [u16],
-    nodes: &'a [u32],
-    arrows: &'a [u8],
-    program: &'a [u8],
-    hashes: &'a [u8],
-    given: &'a [u8],
-    witness: &'a [u8],
-    positions: &'a [u32],
+fn both(
+    tables: &Tables<'_>,
     cells: &mut [u8],
     frames: &mut [u32],
     i: u32,
     h: Heights,
-) -> Ran
-    requires shown { Shown types.now widths.now next.now nodes.now arrows.now program.now hashes.now given.now witness.now positions.now }
+) -> Result<Heights, Stopped>
+    requires shown { ShownIn tables.now }
     requires within { Within cells.old frames.old }
-    requires two_kind { TwoKind nodes.now i }
-    requires safe { Safe (term_at (program_at types.now nodes.now arrows.now program.now hashes.now given.now witness.now positions.now) i)
+    requires two_kind { TwoKind tables.now.nodes.now i }
+    requires safe { Safe (term_at (program_in tables.now) i)
         (machine_of (bits_of cells.old) frames.old h) }
-    ensures { out_of result (bits_of cells.new) frames.new ≡ run_term (term_at (program_at types.now
-        nodes.now arrows.now program.now hashes.now given.now witness.now
-        positions.now) i) (machine_of (bits_of cells.old) frames.old h) }
+    ensures { out_of result (bits_of cells.new) frames.new ≡ run_term (term_at (program_in tables.now) i)
+        (machine_of (bits_of cells.old) frames.old h) }
 {
-    let around = lookup::around_at(types, widths, nodes, arrows, i);
-    let record = table::record_at(nodes, i);
+    let around = lookup::around_at(tables.types, tables.widths, tables.nodes, tables.arrows, i);
+    let record = table::record_at(tables.nodes, i);
     let x = record.first;
     let y = record.second;
-    let h1 = first(around, nodes, hashes, given, y, cells, frames, h);
-    let left = node(
-        types, widths, next, nodes, arrows, program, hashes, given, witness, positions, cells,
-        frames, x, h1,
+    let h1 = first(
+        around,
+        tables.nodes,
+        tables.hashes,
+        tables.given,
+        y,
+        cells,
+        frames,
+        h,
     );
-    let Ran::Done(h2) = left else {
-        return left;
-    };
+    let h2 = node(tables, cells, frames, x, h1)?;
     let h3 = second(around, cells, frames, h2);
-    let right = node(
-        types, widths, next, nodes, arrows, program, hashes, given, witness, positions, cells,
-        frames, y, h3,
-    );
-    let Ran::Done(h4) = right else {
-        return right;
-    };
-    Ran::Done(third(around, frames, h4))
+    let h4 = node(tables, cells, frames, y, h3)?;
+    Ok(third(around, frames, h4))
 }

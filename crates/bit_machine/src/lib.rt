@@ -12,8 +12,24 @@ ghost use Rattle.std.specs.Prelude.{◌≡◌};
 ghost use Rattle.scope.specs.Run.{left_with};
 ghost use Rattle.scope.specs.Stages.{run_stage};
 
-use ready::RunAnswer;
+use arrow::LentTables;
 use refusal::Answer;
+
+// The lent tables of a run, and beside them what its checks made: the width of each type, its entry in the table of next records, and where the
+// value of each witness node stands.
+#[derive(Clone, Copy)]
+pub(crate) struct Tables<'a> {
+    pub(crate) types: &'a [u8],
+    pub(crate) widths: &'a [u32],
+    pub(crate) next: &'a [u16],
+    pub(crate) nodes: &'a [u32],
+    pub(crate) arrows: &'a [u8],
+    pub(crate) program: &'a [u8],
+    pub(crate) hashes: &'a [u8],
+    pub(crate) given: &'a [u8],
+    pub(crate) witness: &'a [u8],
+    pub(crate) positions: &'a [u32],
+}
 
 // How many write frames and read frames stand, and the first cell above all frames.
 #[derive(Clone, Copy)]
@@ -24,17 +40,17 @@ pub(crate) struct Heights {
 }
 
 // Why a run stopped, and at which node: at a fail node, or at an assertion whose pruned branch was picked.
-#[derive(Drop)]
+#[derive(Clone, Copy, Debug, PartialEq, Eq)]
 pub(crate) enum Reason {
     Failed(u32),
     Pruned(u32),
 }
 
-// How a node's run ended: with the heights after it, or at a stop with the heights there.
-#[derive(Drop)]
-pub(crate) enum Ran {
-    Done(Heights),
-    Stopped(Reason, Heights),
+// A stop: why, and the heights there.
+#[derive(Clone, Copy)]
+pub(crate) struct Stopped {
+    pub(crate) why: Reason,
+    pub(crate) heights: Heights,
 }
 
 // What is left of a node after its own work: nothing, a stop, one child and then the read cursor so many cells back, or two children.
@@ -49,11 +65,7 @@ pub(crate) enum Plan {
 // A run over lent tables: every check that can be made of them and of what the run is supplied with, then the run.
 // What it says, and the cells, the frames and the answer as it leaves them, are those of the requirements' run stage.
 pub fn run_stage<'a>(
-    types: &'a [u8],
-    nodes: &'a [u32],
-    arrows: &'a [u8],
-    program: &'a [u8],
-    hashes: &'a [u8],
+    tables: &LentTables<'a>,
     given: &'a [u8],
     witness: &'a [u8],
     witness_bits: u32,
@@ -64,16 +76,12 @@ pub fn run_stage<'a>(
     answer: &mut [u8],
 ) -> Answer
     ensures { left_with result cells.new frames.new answer.new
-        ≡ run_stage types.now nodes.now arrows.now program.now hashes.now
-        given.now witness.now witness_bits
+        ≡ run_stage tables.now.types.now tables.now.nodes.now tables.now.arrows.now
+        tables.now.program.now tables.now.hashes.now given.now witness.now witness_bits
         input.now input_bits cells.old frames.old answer.old }
 {
     let prepared = ready::check_run(
-        types,
-        nodes,
-        arrows,
-        program,
-        hashes,
+        tables,
         given,
         witness,
         witness_bits,
@@ -82,27 +90,26 @@ pub fn run_stage<'a>(
         cells.len(),
         frames.len(),
         answer.len(),
-    );
-    let verdict = prepared.answer;
-    match verdict {
-        RunAnswer::Refused(why) => Answer::Refused(why),
-        RunAnswer::Bounds(size, most) => run::run_ready(
-            types,
-            &prepared.widths,
-            &prepared.next,
-            nodes,
-            arrows,
-            program,
-            hashes,
-            given,
-            witness,
-            &prepared.positions,
-            input,
-            size,
-            most,
-            cells,
-            frames,
-            answer,
-        ),
-    }
+    )?;
+    let checked = Tables {
+        types: tables.types,
+        widths: &prepared.widths,
+        next: &prepared.next,
+        nodes: tables.nodes,
+        arrows: tables.arrows,
+        program: tables.program,
+        hashes: tables.hashes,
+        given,
+        witness,
+        positions: &prepared.positions,
+    };
+    run::run_ready(
+        &checked,
+        input,
+        prepared.cells,
+        prepared.frames,
+        cells,
+        frames,
+        answer,
+    )
 }

@@ -13,7 +13,7 @@ use borrow.Author.Tests.{le-leb, leb-true}
 use Rattle.common.specs.Nodes.{records_back}
 use Rattle.limits.specs.Limits.{node_count, type_count, type_bytes, dossier_bytes}
 use Rattle.refusal.specs.declared.Refusal.TheVariants.{NodeRecord as BadNodeRecord, Header}
-use Rattle.refusal.specs.declared.Answer.TheVariants.{Refused}
+use Rattle.std.specs.Prelude.{Err as Refused}
 use Rattle.report.specs.Bits.{Bit}
 use Rattle.report.specs.Naturals.{code_natural}
 use Rattle.report.specs.Nodes.{Node, code_nodes, code_program}

@@ -16,8 +16,8 @@ use denote.Triple.Clauses.{AtExit}
 use Rattle.promise.specs.Outcomes.{◌&◌}
 use Rattle.limits.specs.Limits.{node_numbers, node_cost}
 use Rattle.refusal.specs.declared.Refusal.{Refusal}
-use Rattle.refusal.specs.declared.Answer.{Answer}
-use Rattle.refusal.specs.declared.Answer.TheVariants.{Refused}
+use Rattle.refusal.specs.Answers.{Answer}
+use Rattle.std.specs.Prelude.{Err as Refused}
 use Rattle.report.specs.Values.{Val, HasTy, value_at}
 use Rattle.report.specs.Nodes.{Node}
 use Rattle.report.specs.Meaning.{stuck, eval, visits}
@@ -176,7 +176,7 @@ module _ (d nodes hashes cells frames answer : List ℕ) (r : Answer) (nodes' ha
 
       -- AT EVERY NODE THAT THE RUN ENTERS: the engine's own function, lent the decoded table, the sections, node i and the layout of the
       -- state s in which the run enters it.
-      module _ (i : ℕ) (s : State) (entered : Entered R.program R.input (cells_of cells) i s) (κs : Lfts 3) (a : Visits.Args κs)
+      module _ (i : ℕ) (s : State) (entered : Entered R.program R.input (cells_of cells) i s) (κs : Lfts 4) (a : Visits.Args κs)
           (lends : Visits.LendsRun κs a (section d s_types) (node_numbers_of t.records) (section d s_arrows) (section d s_program) t.hashes
           (section d s_hashes) (section d s_witness) (count d s_witness))
           (node : Visits.node_in κs a ≡ i) (holds : Visits.machine_in κs a ≡ layout (8 * bytes_for (whole_cells R.program)) (whole_frames R.program) s) where

@@ -11,21 +11,21 @@ use Rattle.scope.specs.Types.{type_records, check_types}
 use Rattle.scope.specs.Stages.{counted}
 use Rattle.common.specs.Checks.{then_passes}
 use Rattle.common.specs.Answers.{check_of}
-use Rattle.common.specs.declared.Checked.{Checked}
+use Rattle.std.specs.Prelude.{Result, Ok, Err}
 use Rattle.types.specs.Table.{counted_types}
 use Rattle.dossier.specs.Ends.{front}
 use Rattle.dossier.proofs.Decoded.{types_counted}
 
-module _ (d : List ℕ) (header : Checked) (checks : check_of header ≡ check_header d) where
+module _ (d : List ℕ) (header : Result (Unit {0}) Refusal) (checks : check_of header ≡ check_header d) where
   -- a wrong header is the answer
-  pub front_refused : (why : Refusal) → header ≡ Checked.Refused why → check_of header ≡ front d
+  pub front_refused : (why : Refusal) → header ≡ Err why → check_of header ≡ front d
   unfolding front ◌>>=◌
   front_refused why e =
       let wrong : check_header d ≡ refused why = sym checks ∙ ap check_of e in
       rw (wrong, ◌>>=◌) (ap check_of e)
 
   -- and else what the type table's check says, which then has a record and not too many
-  pub front_types : header ≡ Checked.Passed → (typed : Checked) → check_of typed ≡ counted_types (section d s_types) → check_of typed ≡ front d
+  pub front_types : header ≡ Ok tt → (typed : Result (Unit {0}) Refusal) → check_of typed ≡ counted_types (section d s_types) → check_of typed ≡ front d
   unfolding front counted_types
   front_types e typed h =
       let right : check_header d ≡ passed tt = sym checks ∙ ap check_of e in

@@ -9,8 +9,8 @@ use lib.ListN.{length, length-append, length-replicate}
 use Rattle.common.specs.Nodes.{length_numbers}
 use Rattle.limits.specs.Limits.{node_numbers}
 use Rattle.refusal.specs.declared.Refusal.{Refusal}
-use Rattle.refusal.specs.declared.Answer.{Answer}
-use Rattle.refusal.specs.declared.Answer.TheVariants.{Value, Refused}
+use Rattle.refusal.specs.Answers.{Answer}
+use Rattle.std.specs.Prelude.{Ok as Value, Err as Refused}
 use Rattle.report.specs.Nodes.{Node}
 use Rattle.report.specs.Naturals.{code_natural}
 use Rattle.scope.specs.Check.{Check, passed, refused, ◌>>=◌}

@@ -4,8 +4,8 @@ use mathlib.Core.List.{List}
 use mathlib.Core.Bool.{true, false}
 use Prim.Native.Nat.{ℕ}
 use Rattle.refusal.specs.declared.Refusal.{Refusal}
-use Rattle.refusal.specs.declared.Answer.{Answer}
-use Rattle.refusal.specs.declared.Answer.TheVariants.{Value, Refused}
+use Rattle.refusal.specs.Answers.{Answer}
+use Rattle.std.specs.Prelude.{Ok as Value, Err as Refused}
 use Rattle.refusal.specs.Numbers.{keeps_table}
 use Rattle.report.specs.Meaning.{done, failed, pruned, stuck}
 use Rattle.scope.specs.Check.{Check, passed, refused}

@@ -8,7 +8,7 @@ use lib.Seq.{take_at}
 use Rattle.common.specs.Nodes.{length_numbers}
 use Rattle.limits.specs.Limits.{node_numbers}
 use Rattle.refusal.specs.declared.Refusal.{Refusal}
-use Rattle.refusal.specs.declared.Answer.{Answer}
+use Rattle.refusal.specs.Answers.{Answer}
 use Rattle.scope.specs.Check.{Check, passed, refused}
 use Rattle.scope.specs.Numbers.{zeros, filled}
 use Rattle.scope.specs.Header.{count, check_header, section, s_types, s_program, s_arrows, s_witness, s_input, s_hashes}
@@ -21,14 +21,13 @@ use Rattle.scope.specs.Stages.{run_stage}
 use Rattle.scope.specs.Run.{check_tables, tables_of, left_with, ended_with, run}
 use Rattle.common.specs.Checks.{clash, both_passed}
 use Rattle.common.specs.Answers.{check_of, answer_of}
-use Rattle.common.specs.declared.Checked.{Checked}
+use Rattle.std.specs.Prelude.{Result, Ok, Err}
 use Rattle.decode.specs.declared.Sizes.{Sizes}
-use Rattle.decode.specs.declared.Decoded.{Decoded}
 use Rattle.decode.specs.Answers.{said_of}
 use Rattle.common.specs.Stores.{cleared, all_cleared}
 use Rattle.decode.specs.Stores.{left, table_sizes, left_by}
 use Rattle.decode.specs.Stores as Stores
-use Rattle.dossier.specs.Ends.{front, settled, undecoded_of, sections_run}
+use Rattle.dossier.specs.Ends.{front, settled, sections_run}
 use Rattle.dossier.proofs.Decoded.{stage, stage_own}
 use Rattle.dossier.proofs.Job.{job_front, job_read, job_ran}
 
@@ -40,9 +39,9 @@ pub sections_run_lem : (d nodes hashes cells frames answer types arrows program 
 unfolding sections_run
 sections_run_lem d nodes hashes cells frames answer types arrows program given witness input witness_bits input_bits t a p g w wb i ib = rw (t, a, p, g, w, wb, i, ib)
 
-module _ (d nodes hashes cells frames answer : List ℕ) (checked : Checked) (checks : check_of checked ≡ front d) where
+module _ (d nodes hashes cells frames answer : List ℕ) (checked : Result (Unit {0}) Refusal) (checks : check_of checked ≡ front d) where
   -- 1 or 2: both stores are cleared
-  pub ends_front : (why : Refusal) → checked ≡ Checked.Refused why → (said : Answer) → said ≡ answer_of checked → (n h : List ℕ)
+  pub ends_front : (why : Refusal) → checked ≡ Err why → (said : Answer) → said ≡ answer_of checked → (n h : List ℕ)
       → n ≡ cleared nodes 0 → h ≡ cleared hashes 0
       → ended_with said n h cells frames answer ≡ run d nodes hashes cells frames answer
   ends_front why e said q n h cn ch =
@@ -51,7 +50,7 @@ module _ (d nodes hashes cells frames answer : List ℕ) (checked : Checked) (ch
       ∙ job_front d nodes hashes cells frames answer why (sym checks ∙ ap check_of e)
 
   -- a dossier that passed 1 and 2, and what decoding promises of it
-  module _ (passes : checked ≡ Checked.Passed) (program : List ℕ) (is : program ≡ section d s_program) (r : Decoded) (n h : List ℕ)
+  module _ (passes : checked ≡ Ok tt) (program : List ℕ) (is : program ≡ section d s_program) (r : Result Sizes Refusal) (n h : List ℕ)
       (decodes : left (said_of r) n h ≡ left_by (Closing.decode program (length nodes / node_numbers) (length hashes)) nodes hashes) where
     typed : front d ≡ passed tt
     typed = sym checks ∙ ap check_of passes
@@ -63,13 +62,13 @@ module _ (d nodes hashes cells frames answer : List ℕ) (checked : Checked) (ch
     decodes_own = decodes ∙ ap (λ (p : List ℕ). left_by (Closing.decode p (length nodes / node_numbers) (length hashes)) nodes hashes) is
 
     -- 3 to 10
-    pub ends_undecoded : (why : Refusal) → r ≡ Decoded.Refused why → (said : Answer) → said ≡ undecoded_of r
+    pub ends_undecoded : (why : Refusal) → r ≡ Err why → (said : Answer) → said ≡ Err why
         → ended_with said n h cells frames answer ≡ run d nodes hashes cells frames answer
     unfolding left_by table_sizes nodes_left hashes_left
     ends_undecoded why e said q = go read refl
       where
         told : (c : Check NodeTable) → read ≡ c → left (refused why) n h ≡ left_by c nodes hashes
-        told c f = ap (λ (r : Decoded). left (said_of r) n h) (sym e) ∙ decodes_own ∙ ap (λ (c : Check NodeTable). left_by c nodes hashes) f
+        told c f = ap (λ (r : Result Sizes Refusal). left (said_of r) n h) (sym e) ∙ decodes_own ∙ ap (λ (c : Check NodeTable). left_by c nodes hashes) f
 
         go : (c : Check NodeTable) → read ≡ c → ended_with said n h cells frames answer ≡ run d nodes hashes cells frames answer
         go (passed t) f = clash (let y = ap (λ (l : Stores.Left). l.says) (told (passed t) f) in cc)
@@ -80,11 +79,11 @@ module _ (d nodes hashes cells frames answer : List ℕ) (checked : Checked) (ch
             let cn : n ≡ zeros (length nodes) = ap (λ (l : Stores.Left). l.nodes) x in
             let ch : h ≡ zeros (length hashes) = ap (λ (l : Stores.Left). l.hashes) x in
             ap₂ (λ (n h : List ℕ). ended_with said n h cells frames answer) cn ch
-            ∙ ap (λ (s : Answer). ended_with s (zeros (length nodes)) (zeros (length hashes)) cells frames answer) (q ∙ ap undecoded_of e)
+            ∙ ap (λ (s : Answer). ended_with s (zeros (length nodes)) (zeros (length hashes)) cells frames answer) q
             ∙ job_read d nodes hashes cells frames answer typed why (f ∙ ap refused same)
 
     -- a program that was decoded
-    module _ (sizes : Sizes) (told : r ≡ Decoded.Table sizes) where
+    module _ (sizes : Sizes) (told : r ≡ Ok sizes) where
       -- the table that stands at the front of the stores
       pub record Stands (t : NodeTable) : Type 0 where
         pub read_is : read ≡ passed t
@@ -98,7 +97,7 @@ module _ (d nodes hashes cells frames answer : List ℕ) (checked : Checked) (ch
       stands = go read refl
         where
           left_by_lem : (c : Check NodeTable) → read ≡ c → left (passed sizes) n h ≡ left_by c nodes hashes
-          left_by_lem c f = ap (λ (r : Decoded). left (said_of r) n h) (sym told) ∙ decodes_own ∙ ap (λ (c : Check NodeTable). left_by c nodes hashes) f
+          left_by_lem c f = ap (λ (r : Result Sizes Refusal). left (said_of r) n h) (sym told) ∙ decodes_own ∙ ap (λ (c : Check NodeTable). left_by c nodes hashes) f
 
           go : (c : Check NodeTable) → read ≡ c → (t : NodeTable) × Stands t
           go (refused w) f = clash (let y = ap (λ (l : Stores.Left). l.says) (left_by_lem (refused w) f) in cc)

@@ -1,10 +1,8 @@
 -- The checks before decoding, and which ends keep the decoded table: an output, and the refusals that say so.
 use Rattle.std.specs.Prelude.{Bool, true, false, List, ℕ, length}
-use Rattle.refusal.specs.declared.Answer.{Answer}
-use Rattle.refusal.specs.declared.Answer.TheVariants.{Value, Refused}
+use Rattle.refusal.specs.Answers.{Answer}
+use Rattle.std.specs.Prelude.{Ok as Value, Err as Refused}
 use Rattle.refusal.specs.Numbers.{keeps_table}
-use Rattle.decode.specs.declared.Decoded.{Decoded}
-use Rattle.decode.specs.declared.Decoded.TheVariants.{Table, Refused as Undecoded}
 use Rattle.scope.specs.Check.{Check, ◌>>=◌}
 use Rattle.scope.specs.Numbers.{zeros}
 use Rattle.scope.specs.Header.{count, check_header, section, s_types, s_program, s_arrows, s_witness, s_input, s_hashes}
@@ -27,11 +25,6 @@ keeps (Refused r) = keeps_table r
 -- what a decoded store is left with
 unfoldable pub settled : Answer → (store : List ℕ) → List ℕ
 settled said store = elim (keeps said) [ true ↦ store | false ↦ zeros (length store) ]
-
--- a refusal as the job's answer
-abbrev pub undecoded_of : Decoded → Answer
-undecoded_of (Table sizes) = Value 0
-undecoded_of (Undecoded why) = Refused why
 
 -- the run stage on a decoded table and the sections of its dossier
 unfoldable pub sections_run : (dossier nodes hashes cells frames answer : List ℕ) → Left

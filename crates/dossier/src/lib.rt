@@ -7,34 +7,18 @@ ghost use Rattle.std.specs.Prelude.{◌≡◌};
 ghost use Rattle.scope.specs.Header.{check_header};
 ghost use Rattle.scope.specs.Run.{left_with, ended_with, run};
 ghost use Rattle.common.specs.Answers.{check_of};
-ghost use Rattle.dossier.specs.Ends.{front, keeps, settled, undecoded_of, sections_run};
+ghost use Rattle.dossier.specs.Ends.{front, keeps, settled, sections_run};
 
-use common::Checked;
-use decode::Decoded;
-use refusal::Answer;
-
-// The sections of a dossier, by their places in the header.
-const TYPES: usize = 0;
-
-const PROGRAM: usize = 1;
-
-const ARROWS: usize = 2;
-
-const WITNESS: usize = 3;
-
-const INPUT: usize = 4;
-
-const HASHES: usize = 5;
+use arrow::LentTables;
+use header::SectionName;
+use refusal::{Answer, Refusal};
 
 // The header, then the type table: 1 and 2.
-fn check_front(dossier: &[u8]) -> Checked
+fn check_front(dossier: &[u8]) -> Result<(), Refusal>
     ensures { check_of result ≡ front dossier.now }
 {
-    let header = header::check_header(dossier);
-    let Checked::Passed = header else {
-        return header;
-    };
-    types::types_hold(header::section(dossier, TYPES))
+    header::check_header(dossier)?;
+    types::types_hold(SectionName::Types.of(dossier))
 }
 
 // Whether an answer leaves the decoded table in its stores.
@@ -42,8 +26,8 @@ fn keeps(said: Answer) -> bool
     ensures { result ≡ keeps said }
 {
     match said {
-        Answer::Value(_) => true,
-        Answer::Refused(why) => refusal::keeps_table(why),
+        Ok(_) => true,
+        Err(why) => refusal::keeps_table(why),
     }
 }
 
@@ -55,18 +39,8 @@ fn settle(said: Answer, nodes: &mut [u32], hashes: &mut [u8])
     if keeps(said) {
         return;
     }
-    common::clear_numbers(nodes, 0);
-    common::clear_bytes(hashes, 0);
-}
-
-// The refusal of decoding.
-fn undecoded(decoded: Decoded) -> Answer
-    ensures { result ≡ undecoded_of decoded }
-{
-    match decoded {
-        Decoded::Table(_) => Answer::Value(0),
-        Decoded::Refused(why) => Answer::Refused(why),
-    }
+    common::fill_from(nodes, 0, 0);
+    common::fill_from(hashes, 0, 0);
 }
 
 // The run stage on a decoded table and the sections of its dossier.
@@ -81,17 +55,20 @@ fn run_decoded<'a>(
     ensures { left_with result cells.new frames.new answer.new
         ≡ sections_run dossier.now nodes.now hashes.now cells.old frames.old answer.old }
 {
-    bit_machine::run_stage(
-        header::section(dossier, TYPES),
+    let tables = LentTables {
+        types: SectionName::Types.of(dossier),
         nodes,
-        header::section(dossier, ARROWS),
-        header::section(dossier, PROGRAM),
+        arrows: SectionName::Arrows.of(dossier),
+        program: SectionName::Program.of(dossier),
         hashes,
-        header::section(dossier, HASHES),
-        header::section(dossier, WITNESS),
-        header::count(dossier, WITNESS),
-        header::section(dossier, INPUT),
-        header::count(dossier, INPUT),
+    };
+    bit_machine::run_stage(
+        &tables,
+        SectionName::Hashes.of(dossier),
+        SectionName::Witness.of(dossier),
+        SectionName::Witness.count(dossier),
+        SectionName::Input.of(dossier),
+        SectionName::Input.count(dossier),
         cells,
         frames,
         answer,
@@ -111,15 +88,12 @@ pub fn run(
         ≡ run dossier.now nodes.old hashes.old cells.old frames.old answer.old }
 {
     let front = check_front(dossier);
-    let Checked::Passed = front else {
-        common::clear_numbers(nodes, 0);
-        common::clear_bytes(hashes, 0);
+    let Ok(()) = front else {
+        common::fill_from(nodes, 0, 0);
+        common::fill_from(hashes, 0, 0);
         return common::answer_of(front);
     };
-    let decoded = decode::decode(header::section(dossier, PROGRAM), nodes, hashes);
-    let Decoded::Table(sizes) = decoded else {
-        return undecoded(decoded);
-    };
+    let sizes = decode::decode(SectionName::Program.of(dossier), nodes, hashes)?;
     let records = &nodes[..limits::NODE_NUMBERS * sizes.nodes as usize];
     let said = run_decoded(
         dossier,

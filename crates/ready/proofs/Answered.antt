@@ -1,4 +1,5 @@
 -- What is answered of a whole run's checks, one after the other: the tables, the bounds, and what the run is supplied with.
+use Rattle.std.specs.Prelude.{Result, Ok, Err}
 use mathlib.Core.Path.{◌≡◌, refl, ap, ap₂, sym, ◌∙◌}
 use mathlib.Core.List.{List, []}
 use Prim.Native.Nat.{ℕ, ◌-◌}
@@ -20,17 +21,14 @@ use Rattle.scope.specs.Run.{Tables, program_of, Ready, check_ready}
 use Rattle.scope.specs.Stages.{tables_lent, arrow_stage, hash_stage}
 use Rattle.common.specs.Checks.{clash, then_passes, then_refuses}
 use Rattle.theory.proofs.NodeTerms.{cells_alike, frames_alike}
-use Rattle.common.specs.declared.Checked.TheVariants.{Passed, Refused}
 use Rattle.stages.proofs.Passed.{hashes_passed}
 use Rattle.analysis.specs.Limits.{bounded_of, counted_bounds}
-use Rattle.analysis.specs.declared.BoundsAnswer.TheVariants.{Bounded, Refused as OverLimits}
+use Rattle.analysis.specs.declared.Totals.{Totals}
 use Rattle.analysis.proofs.Stage.{judged_bounds, bounded_says, refused_says, whole_judged}
 use Rattle.types.specs.Table.{type_widths, type_next}
 use Rattle.ready.specs.Positions.{positions_of}
-use Rattle.ready.specs.Answers.{unread_of, stores_rule, supplied, supplied_table, unprepared, prepared}
+use Rattle.ready.specs.Answers.{stores_rule, supplied, supplied_table, prepared}
 use Rattle.ready.specs.declared.Prepared.{Prepared}
-use Rattle.ready.specs.declared.RunAnswer.TheVariants.{Bounds}
-use Rattle.ready.specs.declared.WitnessTable.{WitnessTable}
 
 module _ (types nodes arrows program hashes given witness : List ℕ) (witness_bits : ℕ) (input : List ℕ) (input_bits : ℕ) (cells frames answer : ℕ) where
   abbrev pub T : Tables
@@ -50,15 +48,16 @@ module _ (types nodes arrows program hashes given witness : List ℕ) (witness_b
   positions = positions_of T.types T.nodes T.arrows witness witness_bits
 
   -- the answer, by what the checks say
-  abbrev answered : Check Ready → Prepared
+  abbrev answered : Check Ready → Result Prepared Refusal
   answered c = elim c [
-    | passed R ↦ record {
-      answer = Bounds (whole_cells R.program) (whole_frames R.program);
+    | passed R ↦ Ok (record {
+      cells = whole_cells R.program;
+      frames = whole_frames R.program;
       widths = type_widths types;
       next = type_next types;
       positions = positions;
-    }
-    | refused why ↦ unprepared why
+    })
+    | refused why ↦ Err why
   ]
 
   answer_is : answered (tables >>= λ held. ready)
@@ -68,7 +67,7 @@ module _ (types nodes arrows program hashes given witness : List ℕ) (witness_b
 
   -- the tables are refused
   pub tables-refused : (why : Refusal) → tables ≡ refused why
-      → unprepared why ≡ prepared types nodes arrows program hashes given witness witness_bits input input_bits (zeros cells) (zeros frames) (zeros answer)
+      → Err why ≡ prepared types nodes arrows program hashes given witness witness_bits input input_bits (zeros cells) (zeros frames) (zeros answer)
   tables-refused why e = sym (ap answered (then_refuses tables (λ held. ready) why e)) ∙ answer_is
 
   module _ (held : tables ≡ passed tt) where
@@ -101,7 +100,7 @@ module _ (types nodes arrows program hashes given witness : List ℕ) (witness_b
 
     -- the bounds are refused
     pub bounds_refused : (why : Refusal) → check_bounds P ≡ refused why
-        → unprepared why ≡ prepared types nodes arrows program hashes given witness witness_bits input input_bits (zeros cells) (zeros frames) (zeros answer)
+        → Err why ≡ prepared types nodes arrows program hashes given witness witness_bits input input_bits (zeros cells) (zeros frames) (zeros answer)
     bounds_refused why e =
         prepared_by (refused why)
         (ready_is ∙ then_refuses (check_bounds P) (λ bounded. read >>= λ values. taken >>= λ v. stored >>= λ kept. passed (made values v)) why e)
@@ -114,16 +113,15 @@ module _ (types nodes arrows program hashes given witness : List ℕ) (witness_b
           ∙ (λ k. x k >>= λ values. y k >>= λ v. z k >>= λ kept. passed (made values v))
 
       -- the bounds of a run do not depend on its values
-      same_bounds : (values : List Val) → Bounds (whole_cells P) (whole_frames P) ≡ Bounds (whole_cells (program_of T values)) (whole_frames (program_of T values))
+      same_bounds : (values : List Val) → (whole_cells P ≡ whole_cells (program_of T values)) × (whole_frames P ≡ whole_frames (program_of T values))
       unfolding program_of
-      same_bounds values =
-          ap₂ Bounds (cells_alike P (program_of T values) refl refl refl) (frames_alike P (program_of T values) refl refl refl)
+      same_bounds values = (cells_alike P (program_of T values) refl refl refl, frames_alike P (program_of T values) refl refl refl)
 
       -- what is supplied, by what its checks say
-      abbrev supplied_by : Check (Unit {0}) → WitnessTable
-      supplied_by c = elim c [ passed x ↦ record { answer = Passed; positions = positions } | refused why ↦ unread_of why ]
+      abbrev supplied_by : Check (Unit {0}) → Result (List ℕ) Refusal
+      supplied_by c = elim c [ passed x ↦ Ok positions | refused why ↦ Err why ]
 
-      module _ (r : WitnessTable)
+      module _ (r : Result (List ℕ) Refusal)
           (is : r ≡ supplied_table T.types T.nodes T.arrows witness witness_bits input input_bits (whole_cells P)
           (whole_frames P) cells frames answer) where
         supplied_is : r ≡ supplied_by (read >>= λ values. taken >>= λ v. stored)
@@ -131,49 +129,57 @@ module _ (types nodes arrows program hashes given witness : List ℕ) (witness_b
         supplied_is = is
 
         -- it is refused
-        pub supplied_refused : (why : Refusal) → r.answer ≡ Refused why
-            → unprepared why ≡ prepared types nodes arrows program hashes given witness witness_bits input input_bits (zeros cells) (zeros frames) (zeros answer)
+        pub supplied_refused : (why : Refusal) → r ≡ Err why
+            → Err why ≡ prepared types nodes arrows program hashes given witness witness_bits input input_bits (zeros cells) (zeros frames) (zeros answer)
         unfolding ◌>>=◌
         supplied_refused why e = go read taken stored refl refl refl supplied_is
           where
-            named : (w : Refusal) → r ≡ unread_of w → ready ≡ refused w
-                → unprepared why ≡ prepared types nodes arrows program hashes given witness witness_bits input input_bits (zeros cells)
+            named : (w : Refusal) → r ≡ Err w → ready ≡ refused w
+                → Err why ≡ prepared types nodes arrows program hashes given witness witness_bits input input_bits (zeros cells)
                 (zeros frames) (zeros answer)
             named w f g =
-                let h : Refused w ≡ Refused why = sym (ap (λ (t : WitnessTable). t.answer) f) ∙ e in
+                let h : Err w ≡ Err why = sym f ∙ e in
                 let k : w ≡ why = cc in
-                ap unprepared (sym k) ∙ prepared_by (refused w) g
+                ap Err (sym k) ∙ prepared_by (refused w) g
 
             go : (a : Check (List Val)) (b : Check Val) (c : Check (Unit {0})) → read ≡ a → taken ≡ b → stored ≡ c
                 → r ≡ supplied_by (a >>= λ values. b >>= λ v. c)
-                → unprepared why ≡ prepared types nodes arrows program hashes given witness witness_bits input input_bits (zeros cells)
+                → Err why ≡ prepared types nodes arrows program hashes given witness witness_bits input input_bits (zeros cells)
                 (zeros frames) (zeros answer)
             go (refused w) b c x y z f = named w f (ready_then (refused w) b c x y z)
             go (passed vs) (refused w) c x y z f = named w f (ready_then (passed vs) (refused w) c x y z)
             go (passed vs) (passed v) (refused w) x y z f = named w f (ready_then (passed vs) (passed v) (refused w) x y z)
-            go (passed vs) (passed v) (passed u) x y z f = let h : Passed ≡ Refused why = sym (ap (λ (t : WitnessTable). t.answer) f) ∙ e in clash (cc)
+            go (passed vs) (passed v) (passed u) x y z f = let h : Ok positions ≡ Err why = sym f ∙ e in clash (cc)
 
         -- it passed
-        pub supplied_passed : r.answer ≡ Passed
-            → record { answer = Bounds (whole_cells P) (whole_frames P); widths = type_widths types; next = type_next types; positions = r.positions }
+        pub supplied_passed : (held : List ℕ) → r ≡ Ok held
+            → Ok (record { cells = whole_cells P; frames = whole_frames P; widths = type_widths types; next = type_next types; positions = held })
             ≡ prepared types nodes arrows program hashes given witness witness_bits input input_bits (zeros cells) (zeros frames) (zeros answer)
         unfolding ◌>>=◌
-        supplied_passed e = go read taken stored refl refl refl supplied_is
+        supplied_passed held e = go read taken stored refl refl refl supplied_is
           where
-            refused_not : (w : Refusal) → r ≡ unread_of w
-                → record { answer = Bounds (whole_cells P) (whole_frames P); widths = type_widths types; next = type_next types; positions = r.positions }
+            refused_not : (w : Refusal) → r ≡ Err w
+                → Ok (record { cells = whole_cells P; frames = whole_frames P; widths = type_widths types; next = type_next types; positions = held })
                 ≡ prepared types nodes arrows program hashes given witness witness_bits input input_bits (zeros cells) (zeros frames) (zeros answer)
-            refused_not w f = let h : Refused w ≡ Passed = sym (ap (λ (t : WitnessTable). t.answer) f) ∙ e in clash (cc)
+            refused_not w f = let h : Err w ≡ Ok held = sym f ∙ e in clash (cc)
 
             go : (a : Check (List Val)) (b : Check Val) (c : Check (Unit {0})) → read ≡ a → taken ≡ b → stored ≡ c
                 → r ≡ supplied_by (a >>= λ values. b >>= λ v. c)
-                → record { answer = Bounds (whole_cells P) (whole_frames P); widths = type_widths types; next = type_next types; positions = r.positions }
+                → Ok (record { cells = whole_cells P; frames = whole_frames P; widths = type_widths types; next = type_next types; positions = held })
                 ≡ prepared types nodes arrows program hashes given witness witness_bits input input_bits (zeros cells) (zeros frames) (zeros answer)
             go (refused w) b c x y z f = refused_not w f
             go (passed vs) (refused w) c x y z f = refused_not w f
             go (passed vs) (passed v) (refused w) x y z f = refused_not w f
             go (passed vs) (passed v) (passed u) x y z f =
-                (λ k. record { answer = same_bounds vs k; widths = type_widths types; next = type_next types; positions = (f k).positions })
+                let h : Ok held ≡ Ok positions = sym e ∙ f in
+                let g : held ≡ positions = cc in
+                (λ k. Ok (record {
+                  cells = (same_bounds vs).0 k;
+                  frames = (same_bounds vs).1 k;
+                  widths = type_widths types;
+                  next = type_next types;
+                  positions = g k;
+                }))
                 ∙ prepared_by (passed (made vs v)) (ready_then (passed vs) (passed v) (passed u) x y z)
 
     -- the stage of the arrows passed
@@ -184,15 +190,15 @@ module _ (types nodes arrows program hashes given witness : List ℕ) (witness_b
     judged : counted_bounds types (type_widths types) nodes arrows ≡ judged_bounds P
     judged = whole_judged types nodes arrows program hashes arrowed given witness witness_bits input input_bits []
 
-    pub bounds_stop : (why : Refusal) → bounded_of (OverLimits why) ≡ counted_bounds types (type_widths types) nodes arrows
-        → unprepared why ≡ prepared types nodes arrows program hashes given witness witness_bits input input_bits (zeros cells) (zeros frames) (zeros answer)
+    pub bounds_stop : (why : Refusal) → bounded_of (Err why) ≡ counted_bounds types (type_widths types) nodes arrows
+        → Err why ≡ prepared types nodes arrows program hashes given witness witness_bits input input_bits (zeros cells) (zeros frames) (zeros answer)
     bounds_stop why e = bounds_refused why (refused_says P why (e ∙ judged))
 
-    module _ (cell_bound frame_bound cost : ℕ) (e : bounded_of (Bounded cell_bound frame_bound cost) ≡ counted_bounds types (type_widths types) nodes arrows)
-        (r : WitnessTable) (is : r ≡ supplied_table (type_records types) (nodes_of (stream_of program) hashes (node_records nodes)) (arrow_records arrows)
-        witness witness_bits input input_bits cell_bound frame_bound cells frames answer) where
-      said : (check_bounds P ≡ passed tt) × (cell_bound ≡ whole_cells P) × (frame_bound ≡ whole_frames P)
-      said = let s = bounded_says P cell_bound frame_bound cost (e ∙ judged) in (s.0, s.1, s.2)
+    module _ (b : Totals) (e : bounded_of (Ok b) ≡ counted_bounds types (type_widths types) nodes arrows)
+        (r : Result (List ℕ) Refusal) (is : r ≡ supplied_table (type_records types) (nodes_of (stream_of program) hashes (node_records nodes)) (arrow_records arrows)
+        witness witness_bits input input_bits b.cells b.frames cells frames answer) where
+      said : (check_bounds P ≡ passed tt) × (b.cells ≡ whole_cells P) × (b.frames ≡ whole_frames P)
+      said = let s = bounded_says P b (e ∙ judged) in (s.0, s.1, s.2)
 
       same : r ≡ supplied_table T.types T.nodes T.arrows witness witness_bits input input_bits (whole_cells P) (whole_frames P) cells frames answer
       unfolding tables_lent
@@ -200,13 +206,13 @@ module _ (types nodes arrows program hashes given witness : List ℕ) (witness_b
           is ∙ ap₂ (λ (c f : ℕ). supplied_table (type_records types) (nodes_of (stream_of program) hashes (node_records nodes)) (arrow_records arrows)
           witness witness_bits input input_bits c f cells frames answer) said.1 said.2
 
-      pub supplies_stop : (why : Refusal) → r.answer ≡ Refused why
-          → unprepared why ≡ prepared types nodes arrows program hashes given witness witness_bits input input_bits (zeros cells) (zeros frames) (zeros answer)
+      pub supplies_stop : (why : Refusal) → r ≡ Err why
+          → Err why ≡ prepared types nodes arrows program hashes given witness witness_bits input input_bits (zeros cells) (zeros frames) (zeros answer)
       supplies_stop why f = supplied_refused said.0 r same why f
 
-      pub run_ready : r.answer ≡ Passed
-          → record { answer = Bounds cell_bound frame_bound; widths = type_widths types; next = type_next types; positions = r.positions }
+      pub run_ready : (held : List ℕ) → r ≡ Ok held
+          → Ok (record { cells = b.cells; frames = b.frames; widths = type_widths types; next = type_next types; positions = held })
           ≡ prepared types nodes arrows program hashes given witness witness_bits input input_bits (zeros cells) (zeros frames) (zeros answer)
-      run_ready f =
-          ap₂ (λ (c d : ℕ). record { answer = Bounds c d; widths = type_widths types; next = type_next types; positions = r.positions }) said.1 said.2
-          ∙ supplied_passed said.0 r same f
+      run_ready held f =
+          ap₂ (λ (c d : ℕ). Ok (record { cells = c; frames = d; widths = type_widths types; next = type_next types; positions = held })) said.1 said.2
+          ∙ supplied_passed said.0 r same held f

@@ -1,4 +1,5 @@
 -- Where values end, as the code finds it: of a value by the type tables beside it, of a node by its kind, and of all the bits that are lent.
+use Rattle.std.specs.Prelude.{Some}
 use mathlib.Core.Path.{◌≡◌, refl, ap, ap₂, sym, ◌∙◌}
 use mathlib.Core.Bool.{Bool, true, false}
 use mathlib.Core.List.{List, [], ◌∷◌}
@@ -28,7 +29,6 @@ use Rattle.table.proofs.Groups.{by_kind, unknown}
 use Rattle.types.proofs.Sound.{passed_table, widths_are_lem}
 use Rattle.value.specs.Bits.{skip_shape, skipped}
 use Rattle.value.specs.Shapes.{shape_at}
-use Rattle.value.specs.declared.ValueRead.TheVariants.{Next}
 use Rattle.value.proofs.Sound.{read_to, skip_is}
 use Rattle.ready.specs.Lent.{TypesShown}
 use Rattle.ready.specs.Positions.{read_for}
@@ -143,12 +143,12 @@ witness_is_lem bits hashes records i r e =
 
 module _ (types : List TypeRecord) (nodes : List Node) (arrows : List Arrow) (bits : List Bit) (i p : ℕ) where
   -- a node that is no witness ends where it begins
-  pub ends_here : on_witness (node_at nodes i) true false ≡ false → Next p ≡ end_of p (read_for types nodes arrows bits i p)
+  pub ends_here : on_witness (node_at nodes i) true false ≡ false → Some p ≡ end_of p (read_for types nodes arrows bits i p)
   unfolding read_for end_of compact
   ends_here e =
-      witness_or (λ (b : Bool) (r : Read). b ≡ false → Next p ≡ end_of p r) (node_at nodes i) true false
+      witness_or (λ (b : Bool) (r : Read). b ≡ false → Some p ≡ end_of p r) (node_at nodes i) true false
       (read_value (ty_at types (target arrows i)) (drop p bits)) (value ⟨⟩ (drop p bits))
-      (λ w f. not_both refl f) (λ f. ap Next (let z : p ≡ p + 0 = omega arith in z)) e
+      (λ w f. not_both refl f) (λ f. ap Some (let z : p ≡ p + 0 = omega arith in z)) e
 
   -- a witness ends where its value does
   pub ends_there : on_witness (node_at nodes i) true false ≡ true → (a : Arrow) → a ≡ get_or arrows i no_arrow

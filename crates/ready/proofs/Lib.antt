@@ -2,6 +2,7 @@ pub mod FirstBits
 pub mod Positions
 pub mod Passes
 pub mod Shown
+pub mod Checked
 pub mod Ends
 pub mod Walks
 pub mod Verdicts

@@ -1,5 +1,6 @@
 -- The code's walk over the nodes: how far it has come with the bits that it has passed and the positions that it has put down, and what is
 -- then said of the witness bits.
+use Rattle.std.specs.Prelude.{Option, Some, None, Result, Ok, Err}
 use mathlib.Core.Path.{◌≡◌, refl, ap, ap₂, sym, subst, ◌∙◌}
 use mathlib.Core.Bool.{Bool, true, false}
 use mathlib.Core.List.{List}
@@ -8,6 +9,7 @@ use native.Mathlib.Numerals.{add-one}
 use native.Mathlib.Omega.{arith}
 use lib.ListN.{length, set, take, drop}
 use Rattle.limits.specs.Limits.{dossier_bytes, node_count}
+use Rattle.refusal.specs.declared.Refusal.{Refusal}
 use Rattle.refusal.specs.declared.Refusal.TheVariants.{Witness}
 use Rattle.report.specs.Bits.{Bit}
 use Rattle.report.specs.Values.{Val, ⟨⟩, compact, Read, value, short, read_value}
@@ -20,24 +22,20 @@ use Rattle.scope.specs.Arrows.{Arrow, target}
 use Rattle.scope.specs.Closing.{used_up}
 use Rattle.scope.specs.Witness.{Values, check_witness}
 use Rattle.common.specs.Checks.{clash}
-use Rattle.common.specs.declared.Checked.TheVariants.{Passed}
 use Rattle.common.specs.Filling.{filled_to, fill_start, fill_more}
-use Rattle.value.specs.declared.ValueRead.{ValueRead}
-use Rattle.value.specs.declared.ValueRead.TheVariants.{Next, Short}
 use Rattle.ready.specs.Positions.{bits_taken, read_for, position_at, positions_of}
-use Rattle.ready.specs.Answers.{end_of, unread_of, witness_table}
-use Rattle.ready.specs.declared.WitnessTable.{WitnessTable}
+use Rattle.ready.specs.Answers.{end_of, witness_table}
 use Rattle.ready.proofs.FirstBits.{ends_inside}
 use Rattle.ready.proofs.Positions.{witness_or, walk_short, walk_ends, value_here, Walked, walked_start, walked_on}
 use Rattle.ready.proofs.Ends.{all_used}
 
 -- where a value that was read ends
-read_to_lem : (p q : ℕ) (r : Read) → Next q ≡ end_of p r → (v : Val) × (rest : List Bit) × (r ≡ value v rest) × (q ≡ p + bits_taken r)
+read_to_lem : (p q : ℕ) (r : Read) → Some q ≡ end_of p r → (v : Val) × (rest : List Bit) × (r ≡ value v rest) × (q ≡ p + bits_taken r)
 unfolding end_of bits_taken
 read_to_lem p q (value v rest) e = (v, rest, refl, cc)
 read_to_lem p q short e = clash (cc)
 
-not_read : (p : ℕ) (r : Read) → Short ≡ end_of p r → r ≡ short
+not_read : (p : ℕ) (r : Read) → None ≡ end_of p r → r ≡ short
 unfolding end_of
 not_read p (value v rest) e = clash (cc)
 not_read p short e = refl
@@ -50,7 +48,7 @@ module _ (types : List TypeRecord) (nodes : List Node) (arrows : List Arrow) (by
   at i = position_at types nodes arrows bits i
 
   -- a node's end in a slice that is the bytes up to the limit
-  pub end_held : (own : List ℕ) → own ≡ take dossier_bytes bytes → (i p : ℕ) (r : ValueRead)
+  pub end_held : (own : List ℕ) → own ≡ take dossier_bytes bytes → (i p : ℕ) (r : Option ℕ)
       → r ≡ end_of p (read_for types nodes arrows (take count (stream_of own)) i p) → r ≡ end_of p (read_for types nodes arrows bits i p)
   end_held own e i p r f = f ∙ ap (λ (l : List ℕ). end_of p (read_for types nodes arrows (take count (stream_of l)) i p)) e
 
@@ -69,7 +67,7 @@ module _ (types : List TypeRecord) (nodes : List Node) (arrows : List Arrow) (by
     read_here : read_for types nodes arrows bits i p ≡ read_for types nodes arrows bits i (at i)
     read_here = ap (read_for types nodes arrows bits i) come.passes
 
-    pub come_on : (q : ℕ) → i < length nodes → i < node_count → Next q ≡ end_of p (read_for types nodes arrows bits i p) → Come (i + 1) q (set positions i p)
+    pub come_on : (q : ℕ) → i < length nodes → i < node_count → Some q ≡ end_of p (read_for types nodes arrows bits i p) → Come (i + 1) q (set positions i p)
     unfolding position_at
     come_on q h k e =
         let r = read_to_lem p q (read_for types nodes arrows bits i p) e in
@@ -82,19 +80,19 @@ module _ (types : List TypeRecord) (nodes : List Node) (arrows : List Arrow) (by
     -- what is answered of what the check says
     answered : (c : Check (List Val)) → check_witness types nodes arrows bytes count ≡ c
         → (elim c [
-          | passed values ↦ record { answer = Passed; positions = positions_of types nodes arrows bytes count }
-          | refused why ↦ unread_of why
+          | passed values ↦ Ok (positions_of types nodes arrows bytes count)
+          | refused why ↦ Err why
         ]) ≡ witness_table types nodes arrows bytes count
     unfolding witness_table
     answered c e =
-        ap (λ (c : Check (List Val)). elim c as (λ z. WitnessTable) [
-          | passed values ↦ record { answer = Passed; positions = positions_of types nodes arrows bytes count }
-          | refused why ↦ unread_of why
+        ap (λ (c : Check (List Val)). elim c as (λ z. Result (List ℕ) Refusal) [
+          | passed values ↦ Ok (positions_of types nodes arrows bytes count)
+          | refused why ↦ Err why
         ]) (sym e)
 
     -- the bits run out
-    pub come_short : i < length nodes → Short ≡ end_of p (read_for types nodes arrows bits i p)
-        → unread_of (Witness i) ≡ witness_table types nodes arrows bytes count
+    pub come_short : i < length nodes → None ≡ end_of p (read_for types nodes arrows bits i p)
+        → Err (Witness i) ≡ witness_table types nodes arrows bytes count
     unfolding check_witness
     come_short h e =
         let f = come.walked ∙ walk_short types nodes arrows bits i (tabulate i (value_here types nodes arrows bits)) h
@@ -116,22 +114,22 @@ module _ (types : List TypeRecord) (nodes : List Node) (arrows : List Arrow) (by
         ∙ ap (λ (b : Bool). require b (Witness (length nodes)) >>= λ used. passed vs) f
 
     pub come_unused : (n : ℕ) → i ≡ length nodes → n ≡ length nodes → all_used bytes p count ≡ false
-        → unread_of (Witness n) ≡ witness_table types nodes arrows bytes count
+        → Err (Witness n) ≡ witness_table types nodes arrows bytes count
     unfolding require ◌>>=◌
-    come_unused n e g f = ap (λ (k : ℕ). unread_of (Witness k)) g ∙ answered (refused (Witness (length nodes))) (all_checked e false f)
+    come_unused n e g f = ap (λ (k : ℕ). Err (Witness k)) g ∙ answered (refused (Witness (length nodes))) (all_checked e false f)
 
     pub come_used : i ≡ length nodes → all_used bytes p count ≡ true
-        → record { answer = Passed; positions = positions } ≡ witness_table types nodes arrows bytes count
+        → Ok positions ≡ witness_table types nodes arrows bytes count
     unfolding require ◌>>=◌ positions_of
     come_used e f =
-        ap (λ (l : List ℕ). record { answer = Passed; positions = l }) (come.puts ∙ ap (filled_to at 0 node_count) e)
+        ap (λ (l : List ℕ). Ok l) (come.puts ∙ ap (filled_to at 0 node_count) e)
         ∙ answered (passed (tabulate i (value_here types nodes arrows bits))) (all_checked e true f)
 
     -- what a node takes is within the first bits
-    pub come_inside : (q : ℕ) → p ≤ count → Next q ≡ end_of p (read_for types nodes arrows bits i p) → q ≤ count
+    pub come_inside : (q : ℕ) → p ≤ count → Some q ≡ end_of p (read_for types nodes arrows bits i p) → q ≤ count
     unfolding read_for end_of compact
     come_inside q h e =
-        witness_or {Y = Unit {0}} (λ r u. Next q ≡ end_of p r → q ≤ count) (node_at nodes i)
+        witness_or {Y = Unit {0}} (λ r u. Some q ≡ end_of p r → q ≤ count) (node_at nodes i)
         (read_value (ty_at types (target arrows i)) (drop p bits)) (value ⟨⟩ (drop p bits)) tt tt
         (λ w f. ends_inside (ty_at types (target arrows i)) p count (held_bits bytes) q f h)
         (λ f. (let z : q ≡ p + 0 = cc in omega arith)) e

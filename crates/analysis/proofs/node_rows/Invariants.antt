@@ -1,7 +1,5 @@
--- `analysis::node_rows` meets its contract.
+-- The rows below i are those of the nodes, and the others are none.
 use mathlib.Core.Path.{◌≡◌}
-use Prim.Native.Nat.{◌-◌, ◌≤◌, min}
-use lib.ListN.{length}
 use Rattle.limits.specs.Limits.{node_count}
 use Rattle.scope.specs.Types.{type_records}
 use Rattle.scope.specs.Nodes.{node_records}
@@ -14,8 +12,4 @@ use Rattle.analysis.proofs.node_rows.Given as goal
 
 abbrev pub invariant-loop-i : goal.invariant-loop-i
 invariant-loop-i l =
-    (l.rows ≡ filled_to (held_at (type_records l.types) l.widths (node_records l.nodes) (arrow_records l.arrows)) (held no_row) node_count l.i) × (l.i ≤ l.n) ×
-    (l.n ≡ min (length (node_records l.nodes)) node_count)
-
-abbrev pub decreases-loop-i : goal.decreases-loop-i
-decreases-loop-i l = l.n - l.i
+    l.rows ≡ filled_to (held_at (type_records l.types) l.widths (node_records l.nodes) (arrow_records l.arrows)) (held no_row) node_count l.i

@@ -3,5 +3,5 @@ use Rattle.dossier.specs.Ends as Ends
 use mathlib.Core.Path.{sym, ap, ◌∙◌}
 use Rattle.dossier.proofs.keeps.Goals as goal
 
-pub returns-in-Refused : goal.returns-in-Refused
-returns-in-Refused c = c.keeps_table.ensures ∙ ap Ends.keeps (sym c.in-Refused.is)
+pub returns-in-Err : goal.returns-in-Err
+returns-in-Err c = c.keeps_table.ensures ∙ ap Ends.keeps (sym c.in-Err.is)

@@ -6,13 +6,13 @@ use Rattle.dossier.proofs.run_decoded.Goals as goal
 
 pub returns : goal.returns
 returns c =
-    let section-call = c.section in
-    let section2-call = c.section-2 in
-    let section3-call = c.section-3 in
-    let section4-call = c.section-4 in
-    let section5-call = c.section-5 in
+    let section-call = c.of in
+    let section2-call = c.of-2 in
+    let section3-call = c.of-3 in
+    let section4-call = c.of-4 in
+    let section5-call = c.of-5 in
     let count-call = c.count in
-    let section6-call = c.section-6 in
+    let section6-call = c.of-6 in
     let count2-call = c.count-2 in
     c.run_stage.ensures
     ∙ sections_run_lem c.args.dossier.now c.args.nodes.now c.args.hashes.now c.args.cells.now

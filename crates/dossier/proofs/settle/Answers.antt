@@ -14,7 +14,7 @@ pub returns : goal.returns
 returns c =
     let keeps-call = c.keeps in
     let if1-found = c.if-keeps in record {
-      nodes_after = c.clear_numbers.ensures
+      nodes_after = c.fill_from.ensures
           ∙ settled-cleared _ _ (sym if1-found.false ∙ keeps-call.ensures);
-      hashes_after = c.clear_bytes.ensures ∙ settled-cleared _ _ (sym if1-found.false ∙ keeps-call.ensures);
+      hashes_after = c.fill_from-2.ensures ∙ settled-cleared _ _ (sym if1-found.false ∙ keeps-call.ensures);
     }

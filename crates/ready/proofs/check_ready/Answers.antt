@@ -1,60 +1,56 @@
 -- `ready::check_ready` meets its contract: bounds that are refused, supplies that are refused, and all that passed, each by one law of the whole answer.
-use mathlib.Core.Path.{sym, ap, subst, ◌∙◌}
+use mathlib.Core.Path.{sym, ap, ◌∙◌}
+use Rattle.std.specs.Prelude.{Ok}
 use Rattle.types.specs.declared.TypeTable.{TypeTable}
 use Rattle.types.specs.Table.{type_table}
 use Rattle.analysis.specs.Limits.{bounded_of, counted_bounds}
+use Rattle.common.specs.Answers.{handed_on}
 use Rattle.scope.specs.Numbers.{stream_of}
-use Rattle.ready.specs.declared.RunAnswer.TheVariants.{Bounds}
-use Rattle.ready.specs.Lent.{TypesShown}
-use Rattle.ready.specs.Answers.{refused_of}
 use Rattle.ready.proofs.Answered.{bounds_stop, supplies_stop, run_ready}
 use Rattle.ready.proofs.check_ready.Goals as goal
 
-pub check_supplied-read-requires : goal.check_supplied-read-requires
+pub invariant_of-shapes : goal.invariant_of-shapes
 unfolding type_table
-check_supplied-read-requires c = (subst (λ (t : TypeTable). TypesShown c.args.types.now t.widths t.next) (sym c.requires.0) c.requires.1, c.requires.2)
+invariant_of-shapes c = record {
+  types_pass = c.requires.1;
+  widths_are = ap (λ (t : TypeTable). t.widths) c.requires.0;
+  next_are = ap (λ (t : TypeTable). t.next) c.requires.0;
+}
 
-pub returns-in_default : goal.returns-in_default
+pub returns-in_err-bounds : goal.returns-in_err-bounds
 unfolding type_table
-returns-in_default c =
-    let bounds-call = c.bounds-bounded in
-    let check-supplied-call = c.check_supplied-read in
-    λ program hashes given held.
-    (let a = c.args in
-    c.refused-in_default.ensures
-    ∙ ap refused_of c.in_default.is
-    ∙ supplies_stop a.types.now a.nodes.now a.arrows.now program hashes given a.witness.now a.witness_bits
-    a.input.now a.input_bits a.cells a.frames a.answer held c.in-Bounded.cell_bound
-    c.in-Bounded.frame_bound c.in-Bounded.field-2
-    (sym (ap bounded_of c.in-Bounded.is) ∙ bounds-call.ensures
-    ∙ ap (λ (t : TypeTable). counted_bounds a.types.now t.widths a.nodes.now a.arrows.now) c.requires.0)
-    check-supplied-call.result (check-supplied-call.ensures (stream_of program) hashes) _ c.in_default.is)
-
-pub returns-in-Refused : goal.returns-in-Refused
-unfolding type_table
-returns-in-Refused c =
+returns-in_err-bounds c =
     λ program hashes given held. (let a = c.args in
-    c.refused.ensures ∙ bounds_stop a.types.now a.nodes.now a.arrows.now program hashes given a.witness.now
-    a.witness_bits a.input.now a.input_bits a.cells a.frames a.answer held c.in-Refused.why
-    (sym (ap bounded_of c.in-Refused.is) ∙ c.bounds-bounded.ensures
-    ∙ ap (λ (t : TypeTable). counted_bounds a.types.now t.widths a.nodes.now a.arrows.now) c.requires.0))
+    handed_on c.from_residual.result c.in_err-bounds.was c.from_residual.ensures.1
+    ∙ bounds_stop a.types.now a.table.now.nodes.now a.arrows.now program hashes given a.witness.now
+    a.witness_bits a.input.now a.input_bits a.cells a.frames a.answer held _
+    (sym (ap bounded_of c.in_err-bounds.was) ∙ c.bounds.ensures
+    ∙ ap (λ (t : TypeTable). counted_bounds a.types.now t.widths a.table.now.nodes.now a.arrows.now) c.requires.0))
 
-pub returns-in-Passed : goal.returns-in-Passed
+pub returns-in_err-positions : goal.returns-in_err-positions
 unfolding type_table
-returns-in-Passed c =
-    let bounds-call = c.bounds-bounded in
-    let check-supplied-call = c.check_supplied-read in
-    λ program hashes given held.
-    (let a = c.args in
-    ap (λ (t : TypeTable). record {
-      answer = Bounds c.in-Bounded.cell_bound c.in-Bounded.frame_bound;
+returns-in_err-positions c =
+    λ program hashes given held. (let a = c.args in
+    handed_on c.from_residual-in_err-positions.result c.in_err-positions.was c.from_residual-in_err-positions.ensures.1
+    ∙ supplies_stop a.types.now a.table.now.nodes.now a.arrows.now program hashes given a.witness.now a.witness_bits
+    a.input.now a.input_bits a.cells a.frames a.answer held c.in_ok-bounds.bounds
+    (sym (ap bounded_of c.in_ok-bounds.was) ∙ c.bounds.ensures
+    ∙ ap (λ (t : TypeTable). counted_bounds a.types.now t.widths a.table.now.nodes.now a.arrows.now) c.requires.0)
+    c.check_supplied.result (c.check_supplied.ensures (stream_of program) hashes) _ c.in_err-positions.was)
+
+pub returns : goal.returns
+unfolding type_table
+returns c =
+    λ program hashes given held. (let a = c.args in
+    ap (λ (t : TypeTable). Ok (record {
+      cells = c.in_ok-bounds.bounds.cells;
+      frames = c.in_ok-bounds.bounds.frames;
       widths = t.widths;
       next = t.next;
-      positions = check-supplied-call.result.positions;
-    }) c.requires.0
-    ∙ run_ready a.types.now a.nodes.now a.arrows.now program hashes given a.witness.now a.witness_bits a.input.now
-    a.input_bits a.cells a.frames a.answer held c.in-Bounded.cell_bound c.in-Bounded.frame_bound
-    c.in-Bounded.field-2
-    (sym (ap bounded_of c.in-Bounded.is) ∙ bounds-call.ensures
-    ∙ ap (λ (t : TypeTable). counted_bounds a.types.now t.widths a.nodes.now a.arrows.now) c.requires.0)
-    check-supplied-call.result (check-supplied-call.ensures (stream_of program) hashes) c.in-Passed.is)
+      positions = c.in_ok-positions.positions;
+    })) c.requires.0
+    ∙ run_ready a.types.now a.table.now.nodes.now a.arrows.now program hashes given a.witness.now a.witness_bits a.input.now
+    a.input_bits a.cells a.frames a.answer held c.in_ok-bounds.bounds
+    (sym (ap bounded_of c.in_ok-bounds.was) ∙ c.bounds.ensures
+    ∙ ap (λ (t : TypeTable). counted_bounds a.types.now t.widths a.table.now.nodes.now a.arrows.now) c.requires.0)
+    c.check_supplied.result (c.check_supplied.ensures (stream_of program) hashes) _ c.in_ok-positions.was)

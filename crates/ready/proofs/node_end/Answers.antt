@@ -12,7 +12,7 @@ use Rattle.ready.proofs.node_end.Goals as goal
 pub returns-then-not-witness_at : goal.returns-then-not-witness_at
 returns-then-not-witness_at c =
     λ bits hashes. (let a = c.args in
-    ends_here (type_records a.types.now) (nodes_of bits hashes (node_records a.nodes.now)) (arrow_records a.arrows.now)
+    ends_here (type_records a.shapes.now.shapes.types.now) (nodes_of bits hashes (node_records a.nodes.now)) (arrow_records a.arrows.now)
     (take a.count (stream_of a.witness.now)) a.i a.p
     (sym (c.witness_at.ensures bits hashes) ∙ c.if-not-witness_at.true))
 
@@ -20,7 +20,7 @@ pub returns : goal.returns
 returns c =
     λ bits hashes. (let a = c.args in
     c.value_end.ensures
-    ∙ ends_there (type_records a.types.now) (nodes_of bits hashes (node_records a.nodes.now)) (arrow_records a.arrows.now)
+    ∙ ends_there (type_records a.shapes.now.shapes.types.now) (nodes_of bits hashes (node_records a.nodes.now)) (arrow_records a.arrows.now)
     (take a.count (stream_of a.witness.now)) a.i a.p
     (sym (c.witness_at.ensures bits hashes) ∙ c.if-not-witness_at.false)
     (arrow_of c.arrow_at-own.result) c.arrow_at-own.ensures)

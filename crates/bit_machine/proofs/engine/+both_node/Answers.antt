@@ -9,7 +9,7 @@ use Rattle.layout.proofs.Safe.{back_over}
 use Rattle.table.specs.Answers.{record_of}
 use Rattle.bit_machine.proofs.ByKind
 use Rattle.bit_machine.proofs.Needs.{within_fed, within_kept, second_any, third_any}
-use Rattle.bit_machine.proofs.Cycle.{ran_done, planned_as, safe_as, one_ran, one_stops, one_ends, left_ends, right_ends, both_end}
+use Rattle.bit_machine.proofs.Cycle.{handed_on, ran_done, planned_as, safe_as, one_ran, one_stops, one_ends, left_ends, right_ends, both_end}
 use Rattle.bit_machine.proofs.engine.+both_node.Goals as goal
 
 pub both-first-h1-requires : goal.both-first-h1-requires
@@ -20,8 +20,8 @@ both-first-h1-requires t c =
           c.requires.safe c.requires.two_kind around-at-call.result around-at-call.ensures).ok.first;
     }
 
-pub both-node-left-requires : goal.both-node-left-requires
-both-node-left-requires t c =
+pub both-node-requires : goal.both-node-requires
+both-node-requires t c =
     let around-at-call = c.around_at-around in
     let record-at-call = c.record_at-record in
     let first-call = c.first-h1 in
@@ -38,53 +38,44 @@ both-node-left-requires t c =
       ),
     )
 
-pub both-shape_of-cells-in_default : goal.both-shape_of-cells-in_default
-both-shape_of-cells-in_default t c =
-    c.node-left.auto.cells
-    ∙ c.first-h1.auto.cells
-
-pub both-shape_of-frames-in_default : goal.both-shape_of-frames-in_default
-both-shape_of-frames-in_default t c =
-    c.node-left.auto.frames
-    ∙ c.first-h1.auto.frames
-
-pub both-returns-in_default : goal.both-returns-in_default
-both-returns-in_default t c =
+pub both-returns-in_err-h2 : goal.both-returns-in_err-h2
+both-returns-in_err-h2 t c =
     let first-call = c.first-h1 in
     let around-at-call = c.around_at-around in
     let record-at-call = c.record_at-record in
-    left_ends (ByKind.two_is c.requires.shown c.args.i (record_of record-at-call.result) record-at-call.ensures _
+    handed_on c.from_residual.result _ _ c.in_err-h2.was c.from_residual.ensures.1
+    ∙ left_ends (ByKind.two_is c.requires.shown c.args.i (record_of record-at-call.result) record-at-call.ensures _
     c.requires.safe c.requires.two_kind around-at-call.result around-at-call.ensures) _ _ _
-    c.node-left.ensures first-call.ensures _ _ c.in_default.is
+    c.node.ensures first-call.ensures _ c.in_err-h2.was
 
 pub both-second-h3-requires : goal.both-second-h3-requires
 both-second-h3-requires t c =
     let around-at-call = c.around_at-around in
     let record-at-call = c.record_at-record in
     let first-call = c.first-h1 in
-    let Node-call = c.node-left in
+    let Node-call = c.node in
     let two =
     (ByKind.two_is c.requires.shown c.args.i (record_of record-at-call.result) record-at-call.ensures _
     c.requires.safe c.requires.two_kind around-at-call.result around-at-call.ensures) in
-    let d2 = (ran_done _ _ _ _ Node-call.ensures first-call.ensures _ c.in-Done.is) in record {
+    let d2 = (ran_done _ _ _ _ Node-call.ensures first-call.ensures _ c.in_ok-h2.was) in record {
       fed = within_fed
           (within_kept c.requires.within (Node-call.auto.cells ∙ first-call.auto.cells)
           (Node-call.auto.frames ∙ first-call.auto.frames));
-      second_ok = second_any around-at-call.result (bits_of (branch_hash (nodes_of [] c.args.hashes.now (node_records c.args.nodes.now))
-          c.args.given.now record-at-call.result.second)) [] _ (two.ok.then _ d2).second;
+      second_ok = second_any around-at-call.result (bits_of (branch_hash (nodes_of [] c.args.tables.now.hashes.now (node_records c.args.tables.now.nodes.now))
+          c.args.tables.now.given.now record-at-call.result.second)) [] _ (two.ok.then _ d2).second;
     }
 
-pub both-node-right-requires : goal.both-node-right-requires
-both-node-right-requires t c =
+pub both-node-requires-2 : goal.both-node-requires-2
+both-node-requires-2 t c =
     let around-at-call = c.around_at-around in
     let record-at-call = c.record_at-record in
     let first-call = c.first-h1 in
-    let Node-call = c.node-left in
+    let Node-call = c.node in
     let second_call = c.second-h3 in
     let two =
     (ByKind.two_is c.requires.shown c.args.i (record_of record-at-call.result) record-at-call.ensures _
     c.requires.safe c.requires.two_kind around-at-call.result around-at-call.ensures) in
-    let d2 = (ran_done _ _ _ _ Node-call.ensures first-call.ensures _ c.in-Done.is) in (
+    let d2 = (ran_done _ _ _ _ Node-call.ensures first-call.ensures _ c.in_ok-h2.was) in (
       omega (arith, c.requires.shown, two.right_below),
       (
         c.requires.shown,
@@ -92,105 +83,63 @@ both-node-right-requires t c =
           within_kept c.requires.within
               (second_call.auto.cells ∙ Node-call.auto.cells ∙ first-call.auto.cells)
               (second_call.auto.frames ∙ Node-call.auto.frames ∙ first-call.auto.frames),
-          safe_as _ (second_call.ensures (bits_of (branch_hash (nodes_of [] c.args.hashes.now (node_records c.args.nodes.now))
-              c.args.given.now record-at-call.result.second))) (two.ok.then _ d2).right,
+          safe_as _ (second_call.ensures (bits_of (branch_hash (nodes_of [] c.args.tables.now.hashes.now (node_records c.args.tables.now.nodes.now))
+              c.args.tables.now.given.now record-at-call.result.second))) (two.ok.then _ d2).right,
         ),
       ),
     )
 
-pub both-shape_of-cells-in_default-right : goal.both-shape_of-cells-in_default-right
-both-shape_of-cells-in_default-right t c =
+pub both-returns-in_err-h4 : goal.both-returns-in_err-h4
+both-returns-in_err-h4 t c =
     let first-call = c.first-h1 in
-    let Node-call = c.node-left in
-    let second_call = c.second-h3 in
-    c.node-right.auto.cells
-    ∙ second_call.auto.cells
-    ∙ Node-call.auto.cells
-    ∙ first-call.auto.cells
-
-pub both-shape_of-frames-in_default-right : goal.both-shape_of-frames-in_default-right
-both-shape_of-frames-in_default-right t c =
-    let first-call = c.first-h1 in
-    let Node-call = c.node-left in
-    let second_call = c.second-h3 in
-    c.node-right.auto.frames
-    ∙ second_call.auto.frames
-    ∙ Node-call.auto.frames
-    ∙ first-call.auto.frames
-
-pub both-returns-in_default-right : goal.both-returns-in_default-right
-both-returns-in_default-right t c =
-    let first-call = c.first-h1 in
-    let Node-call = c.node-left in
+    let Node-call = c.node in
     let second_call = c.second-h3 in
     let around-at-call = c.around_at-around in
     let record-at-call = c.record_at-record in
     let two =
     (ByKind.two_is c.requires.shown c.args.i (record_of record-at-call.result) record-at-call.ensures _
     c.requires.safe c.requires.two_kind around-at-call.result around-at-call.ensures) in
-    right_ends two _ (ran_done _ _ _ _ Node-call.ensures first-call.ensures _ c.in-Done.is) _ _ _
-    c.node-right.ensures
-    (second_call.ensures (bits_of (branch_hash (nodes_of [] c.args.hashes.now (node_records c.args.nodes.now))
-    c.args.given.now record-at-call.result.second))) _ _ c.in_default-right.is
+    handed_on c.from_residual-in_err-h4.result _ _ c.in_err-h4.was c.from_residual-in_err-h4.ensures.1
+    ∙ right_ends two _ (ran_done _ _ _ _ Node-call.ensures first-call.ensures _ c.in_ok-h2.was) _ _ _
+    c.node-2.ensures
+    (second_call.ensures (bits_of (branch_hash (nodes_of [] c.args.tables.now.hashes.now (node_records c.args.tables.now.nodes.now))
+    c.args.tables.now.given.now record-at-call.result.second))) _ c.in_err-h4.was
 
 pub both-third-requires : goal.both-third-requires
 both-third-requires t c =
     let first-call = c.first-h1 in
-    let Node-call = c.node-left in
+    let Node-call = c.node in
     let second_call = c.second-h3 in
-    let node2-call = c.node-right in
+    let node2-call = c.node-2 in
     let around-at-call = c.around_at-around in
     let record-at-call = c.record_at-record in
     let two =
     (ByKind.two_is c.requires.shown c.args.i (record_of record-at-call.result) record-at-call.ensures _
     c.requires.safe c.requires.two_kind around-at-call.result around-at-call.ensures) in
-    let d2 = (ran_done _ _ _ _ Node-call.ensures first-call.ensures _ c.in-Done.is) in
-    third_any around-at-call.result (bits_of (branch_hash (nodes_of [] c.args.hashes.now (node_records c.args.nodes.now))
-    c.args.given.now record-at-call.result.second)) [] _ _ _
+    let d2 = (ran_done _ _ _ _ Node-call.ensures first-call.ensures _ c.in_ok-h2.was) in
+    third_any around-at-call.result (bits_of (branch_hash (nodes_of [] c.args.tables.now.hashes.now (node_records c.args.tables.now.nodes.now))
+    c.args.tables.now.given.now record-at-call.result.second)) [] _ _ _
     ((two.ok.then _ d2).third _ (ran_done _ _ _ _ node2-call.ensures (second_call.ensures (bits_of (branch_hash (nodes_of []
-    c.args.hashes.now (node_records c.args.nodes.now)) c.args.given.now record-at-call.result.second))) _
-    c.in-Done-right.is))
-
-pub both-shape_of-cells : goal.both-shape_of-cells
-both-shape_of-cells t c =
-    let first-call = c.first-h1 in
-    let Node-call = c.node-left in
-    let second_call = c.second-h3 in
-    let node2-call = c.node-right in
-    node2-call.auto.cells
-    ∙ second_call.auto.cells
-    ∙ Node-call.auto.cells
-    ∙ first-call.auto.cells
-
-pub both-shape_of-frames : goal.both-shape_of-frames
-both-shape_of-frames t c =
-    let first-call = c.first-h1 in
-    let Node-call = c.node-left in
-    let second_call = c.second-h3 in
-    let node2-call = c.node-right in
-    c.third.auto.frames
-    ∙ node2-call.auto.frames
-    ∙ second_call.auto.frames
-    ∙ Node-call.auto.frames
-    ∙ first-call.auto.frames
+    c.args.tables.now.hashes.now (node_records c.args.tables.now.nodes.now)) c.args.tables.now.given.now record-at-call.result.second))) _
+    c.in_ok-h4.was))
 
 pub both-returns : goal.both-returns
 both-returns t c =
     let first-call = c.first-h1 in
-    let Node-call = c.node-left in
+    let Node-call = c.node in
     let second_call = c.second-h3 in
-    let node2-call = c.node-right in
+    let node2-call = c.node-2 in
     let around-at-call = c.around_at-around in
     let record-at-call = c.record_at-record in
     let two =
     (ByKind.two_is c.requires.shown c.args.i (record_of record-at-call.result) record-at-call.ensures _
     c.requires.safe c.requires.two_kind around-at-call.result around-at-call.ensures) in
-    both_end two _ (ran_done _ _ _ _ Node-call.ensures first-call.ensures _ c.in-Done.is) _
+    both_end two _ (ran_done _ _ _ _ Node-call.ensures first-call.ensures _ c.in_ok-h2.was) _
     (ran_done _ _ _ _ node2-call.ensures
-    (second_call.ensures (bits_of (branch_hash (nodes_of [] c.args.hashes.now (node_records c.args.nodes.now))
-    c.args.given.now record-at-call.result.second))) _ c.in-Done-right.is) _
-    (c.third.ensures (bits_of (branch_hash (nodes_of [] c.args.hashes.now (node_records c.args.nodes.now))
-    c.args.given.now record-at-call.result.second)) _)
+    (second_call.ensures (bits_of (branch_hash (nodes_of [] c.args.tables.now.hashes.now (node_records c.args.tables.now.nodes.now))
+    c.args.tables.now.given.now record-at-call.result.second))) _ c.in_ok-h4.was) _
+    (c.third.ensures (bits_of (branch_hash (nodes_of [] c.args.tables.now.hashes.now (node_records c.args.tables.now.nodes.now))
+    c.args.tables.now.given.now record-at-call.result.second)) _)
 
 pub node-prepare-plan-requires : goal.node-prepare-plan-requires
 node-prepare-plan-requires t c =
@@ -215,8 +164,8 @@ node-both-requires t c =
       ),
     )
 
-pub node-node-ran-requires : goal.node-node-ran-requires
-node-node-ran-requires t c =
+pub node-node-requires : goal.node-node-requires
+node-node-requires t c =
     let prepare-call = c.prepare-plan in
     let one = (planned_as _ _ _ _ _ c.in-One.is prepare-call.ensures) in (
       omega (arith, c.requires.shown, one.below),
@@ -230,57 +179,26 @@ node-node-ran-requires t c =
       ),
     )
 
-pub node-shape_of-cells-in_default : goal.node-shape_of-cells-in_default
-node-shape_of-cells-in_default t c =
-    c.node-ran.auto.cells
-    ∙ c.prepare-plan.auto.cells
-
-pub node-shape_of-frames-in_default : goal.node-shape_of-frames-in_default
-node-shape_of-frames-in_default t c =
+pub node-returns-in_err-after-in-One : goal.node-returns-in_err-after-in-One
+node-returns-in_err-after-in-One t c =
     let prepare-call = c.prepare-plan in
-    c.node-ran.auto.frames ∙ prepare-call.auto.frames
-
-pub node-returns-in_default : goal.node-returns-in_default
-node-returns-in_default t c =
-    let prepare-call = c.prepare-plan in
-    one_stops (planned_as _ _ _ _ _ c.in-One.is prepare-call.ensures) _ _ _
-    c.node-ran.ensures _ _ c.in_default.is
+    handed_on c.from_residual.result _ _ c.in_err-after-in-One.was c.from_residual.ensures.1
+    ∙ one_stops (planned_as _ _ _ _ _ c.in-One.is prepare-call.ensures) _ _ _
+    c.node.ensures _ c.in_err-after-in-One.was
 
 pub node-back-requires : goal.node-back-requires
 node-back-requires t c =
     let prepare-call = c.prepare-plan in
-    let Node-call = c.node-ran in
+    let Node-call = c.node in
     λ pos.
     let one = (planned_as _ _ _ _ _ c.in-One.is prepare-call.ensures) in
-    back_over [] (one.child.home _ (one_ran one _ _ _ Node-call.ensures _ c.in-Done.is) pos)
-
-pub node-shape_of-cells-in-Rest : goal.node-shape_of-cells-in-Rest
-node-shape_of-cells-in-Rest t c = c.prepare-plan.auto.cells
-
-pub node-shape_of-frames-in-Rest : goal.node-shape_of-frames-in-Rest
-node-shape_of-frames-in-Rest t c = c.prepare-plan.auto.frames
+    back_over [] (one.child.home _ (one_ran one _ _ _ Node-call.ensures _ c.in_ok-after-in-One.was) pos)
 
 pub node-returns-in-Rest : goal.node-returns-in-Rest
 node-returns-in-Rest t c = sym (planned_as _ _ _ _ _ c.in-Rest.is c.prepare-plan.ensures)
 
-pub node-shape_of-cells-in-Stop : goal.node-shape_of-cells-in-Stop
-node-shape_of-cells-in-Stop t c = c.prepare-plan.auto.cells
-
-pub node-shape_of-frames-in-Stop : goal.node-shape_of-frames-in-Stop
-node-shape_of-frames-in-Stop t c = c.prepare-plan.auto.frames
-
 pub node-returns-in-Stop : goal.node-returns-in-Stop
 node-returns-in-Stop t c = sym (planned_as _ _ _ _ _ c.in-Stop.is c.prepare-plan.ensures)
-
-pub node-shape_of-cells-in-Two : goal.node-shape_of-cells-in-Two
-node-shape_of-cells-in-Two t c =
-    c.both.auto.cells
-    ∙ c.prepare-plan.auto.cells
-
-pub node-shape_of-frames-in-Two : goal.node-shape_of-frames-in-Two
-node-shape_of-frames-in-Two t c =
-    c.both.auto.frames
-    ∙ c.prepare-plan.auto.frames
 
 pub node-returns-in-Two : goal.node-returns-in-Two
 node-returns-in-Two t c =
@@ -289,21 +207,9 @@ node-returns-in-Two t c =
     ∙ ap (run_term _)
     (planned_as _ _ _ _ _ c.in-Two.is prepare-call.ensures).0
 
-pub node-shape_of-cells-in-Done : goal.node-shape_of-cells-in-Done
-node-shape_of-cells-in-Done t c =
+pub node-returns-in_ok-after-in-One : goal.node-returns-in_ok-after-in-One
+node-returns-in_ok-after-in-One t c =
     let prepare-call = c.prepare-plan in
-    let Node-call = c.node-ran in
-    Node-call.auto.cells ∙ prepare-call.auto.cells
-
-pub node-shape_of-frames-in-Done : goal.node-shape_of-frames-in-Done
-node-shape_of-frames-in-Done t c =
-    let prepare-call = c.prepare-plan in
-    let Node-call = c.node-ran in
-    c.back.auto.frames ∙ Node-call.auto.frames ∙ prepare-call.auto.frames
-
-pub node-returns-in-Done : goal.node-returns-in-Done
-node-returns-in-Done t c =
-    let prepare-call = c.prepare-plan in
-    let Node-call = c.node-ran in
+    let Node-call = c.node in
     one_ends (planned_as _ _ _ _ _ c.in-One.is prepare-call.ensures) _ _ _ Node-call.ensures _
-    c.in-Done.is _ (c.back.ensures _)
+    c.in_ok-after-in-One.was _ (c.back.ensures _)

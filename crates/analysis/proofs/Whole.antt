@@ -1,5 +1,5 @@
 -- The numbers of the whole program: held at one above their limits they are judged as they are, and no held number passes.
-use mathlib.Core.Path.{◌≡◌, sym, ap, ◌∙◌}
+use mathlib.Core.Path.{◌≡◌, ap, ◌∙◌}
 use mathlib.Core.Bool.{false}
 use mathlib.Core.List.{List}
 use Prim.Native.Nat.{ℕ, ◌+◌, ◌-◌, ◌<◌, ◌≤◌}
@@ -9,29 +9,19 @@ use lib.Dec.{leb}
 use lib.ListN.{length, get_or}
 use borrow.Author.Tests.{le-leb, lt-leb}
 use Rattle.limits.specs.Limits.{node_count, cell_count, frame_count, cost_limit}
-use Rattle.refusal.specs.declared.Refusal.{Refusal}
-use Rattle.scope.specs.Check.{Check, ◌>>=◌, require}
+use Rattle.scope.specs.Check.{◌>>=◌, require}
 use Rattle.scope.specs.Types.{TypeRecord}
 use Rattle.scope.specs.Nodes.{NodeRecord}
 use Rattle.scope.specs.Numbers.{tabulate}
 use Rattle.scope.specs.Arrows.{Arrow}
 use Rattle.scope.specs.Bounds.{Bound, check_limits}
-use Rattle.common.specs.Answers.{check_of}
-use Rattle.common.specs.declared.Checked.{Checked}
-use Rattle.common.specs.declared.Checked.TheVariants.{Refused as Stopped}
 use Rattle.common.specs.Tables.{tabulate_at}
 use Rattle.analysis.specs.Held.{up_to}
 use Rattle.lookup.specs.Lookup.{source_width, target_width}
 use Rattle.analysis.specs.Rows.{bound_at}
-use Rattle.analysis.specs.Limits.{bounded_of, refused_of, limited, lent_totals}
+use Rattle.analysis.specs.Limits.{limited, lent_totals}
 use Rattle.analysis.specs.declared.Bound as code
 use Rattle.analysis.proofs.Tables.{held_at}
-
--- a refusal of an earlier check is the answer
-pub stopped : (checked : Checked) (check : Check (Unit {0})) (why : Refusal) (f : Unit {0} → Check Bound) → check_of checked ≡ check → checked ≡ Stopped why
-    → bounded_of (refused_of checked) ≡ (check >>= f)
-unfolding ◌>>=◌
-stopped checked check why f p e = ap (λ x. bounded_of (refused_of x)) e ∙ ap (λ x. check_of x >>= f) (sym e) ∙ ap (λ x. x >>= f) p
 
 -- numbers held at one above their limits
 abbrev held_numbers : Bound → Bound

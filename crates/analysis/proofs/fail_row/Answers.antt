@@ -1,9 +1,0 @@
--- `analysis::fail_row` meets its contract: each number of the row from what the calls promise.
-use mathlib.Core.Path.{refl}
-use Rattle.scope.specs.Bounds.{fail_row}
-use Rattle.analysis.proofs.Sums.{bound_eq}
-use Rattle.analysis.proofs.fail_row.Goals as goal
-
-pub returns : goal.returns
-unfolding fail_row
-returns c = bound_eq refl refl refl
