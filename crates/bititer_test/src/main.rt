@@ -5,8 +5,8 @@
 
 ghost use Rattle.std.specs.Prelude.{◌≡◌, ◌<◌, ◌≤◌, length};
 
-use bititer::{BytesFault, BytesRead, NaturalFault, NaturalRead};
-use packed::Tally;
+use bititer::{BytesFault, NaturalFault};
+use packed::{FileRecords, Tally};
 use std::io;
 
 // The numbers of a record: the kind of read, its bit position, its answer, a natural's bound and the natural, and the next position,
@@ -52,13 +52,6 @@ fn moved_number(record: &[u8], k: u32, offset: u32) -> usize
     packed::number(record, k) as usize + offset as usize
 }
 
-// The byte at i, with room for another before it.
-fn wide_byte(bytes: &[u8], i: usize) -> u32
-    ensures { result < 256 }
-{
-    common::byte_at(bytes, i) as u32
-}
-
 // The bytes with `offset` zeros before them.
 fn moved(bytes: &[u8], offset: u32) -> [u8; MOST]
     requires { offset < 8 }
@@ -66,12 +59,10 @@ fn moved(bytes: &[u8], offset: u32) -> [u8; MOST]
 {
     let mut stream = [0u8; MOST];
     let mut before: u32 = 0;
-    let mut i: usize = 0;
-    while i < MOST {
-        let here = wide_byte(bytes, i);
-        stream[i] = (((before * 256 + here) >> offset) % 256) as u8;
+    for (i, byte) in stream.iter_mut().enumerate() {
+        let here = u32::from(common::entry_or(bytes, i, 0));
+        *byte = (((before * 256 + here) >> offset) % 256) as u8;
         before = here;
-        i += 1;
     }
     stream
 }
@@ -82,6 +73,7 @@ fn moved_bytes(bytes: &[u8], offset: u32) -> usize {
     if offset == 0 { n } else { n + 1 }
 }
 
+// The number of a fault in a record.
 fn fault_number(fault: NaturalFault) -> u32 {
     match fault {
         NaturalFault::Ended => 1,
@@ -96,12 +88,12 @@ fn natural_right(record: &[u8], stream: &[u8], offset: u32) -> bool
 {
     let p = moved_number(record, POSITION, offset);
     match bititer::natural(stream, p, packed::number(record, BOUND)) {
-        NaturalRead::Read(n, bits) => {
+        Ok((n, bits)) => {
             packed::number(record, SAID) == 0
                 && n == packed::number(record, NATURAL)
                 && bits == packed::number(record, NEXT) as usize
         }
-        NaturalRead::Fault(fault) => packed::number(record, SAID) == fault_number(fault),
+        Err(fault) => packed::number(record, SAID) == fault_number(fault),
     }
 }
 
@@ -120,7 +112,8 @@ fn holds(store: &[u8], read: &[u8]) -> bool {
     check::same(after, packed::front(&old, after.len()))
 }
 
-fn asked(s: &[u8], p: usize, store: &mut [u8], count: usize) -> BytesRead {
+// 32 or 64 bytes, read into the store.
+fn asked(s: &[u8], p: usize, store: &mut [u8], count: usize) -> Result<usize, BytesFault> {
     if count == 32 {
         bititer::hash_bytes(s, p, store, AT)
     } else {
@@ -135,7 +128,7 @@ fn bytes_right(record: &[u8], stream: &[u8], offset: u32) -> bool
     let read = part(record, READ);
     let p = moved_number(record, POSITION, offset);
     let mut store = [OLD; ROOM];
-    let BytesRead::Read(next) = asked(stream, p, &mut store, read.len()) else {
+    let Ok(next) = asked(stream, p, &mut store, read.len()) else {
         return false;
     };
     if next != moved_number(record, NEXT, offset) {
@@ -188,12 +181,9 @@ fn offsets(record: &[u8]) -> u32
 
 // The read of one record at each offset.
 fn replayed(t: Tally, record: &[u8]) -> Tally {
-    let last = offsets(record);
     let mut tally = t;
-    let mut offset: u32 = 0;
-    while offset < last {
+    for offset in 0..offsets(record) {
         tally = packed::counted(tally, right(record, offset));
-        offset += 1;
     }
     tally
 }
@@ -208,16 +198,14 @@ fn replayed_of(t: Tally, record: &[u8], wanted: u32) -> Tally {
 
 // All reads of a kind.
 fn replay(file: &[u8], wanted: u32) -> Tally {
-    let mut t = Tally { count: 0, wrong: 0 };
-    let mut rest = file;
-    while 0 < rest.len() {
-        t = replayed_of(t, packed::first_record(rest), wanted);
-        let next = packed::after_first(rest);
-        rest = next;
+    let mut t = Tally::default();
+    for record in FileRecords::of(file) {
+        t = replayed_of(t, record, wanted);
     }
     t
 }
 
+// The line of a kind of read.
 fn print(rt: &impl Print, name: &str, t: Tally) -> io::Result<()> {
     let count = t.count;
     let wrong = t.wrong;

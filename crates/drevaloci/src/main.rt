@@ -5,32 +5,24 @@
 
 ghost use Rattle.std.specs.Prelude.{◌≤◌, length, IfOk};
 
-use refusal::{Answer, Refusal};
 use std::io;
 use std::io::{Read, Write};
 
 // The most bits of an output: the width of the widest type.
 const OUTPUT_BITS: usize = limits::TYPE_WIDTH as usize;
 
-// A bit as the character that stands for it.
-fn digit(bit: u8) -> u8 {
-    if bit == 0 { b'0' } else { b'1' }
-}
-
 // The first bits of the answer as characters, as many as there is room for; how many they are.
 fn spell(answer: &[u8], count: u32, text: &mut [u8]) -> usize
     ensures { result ≤ length text.new }
 {
-    let mut p: u32 = 0;
-    while p < count {
-        let i = p as usize;
-        if text.len() <= i {
-            return i;
-        }
-        text[i] = digit(cells::read_cell(answer, p));
-        p += 1;
+    let n = (count as usize).min(text.len());
+    for p in 0..n {
+        text[p] = match cells::read_cell(answer, p as u32) {
+            0 => b'0',
+            _ => b'1',
+        };
     }
-    p as usize
+    n
 }
 
 // The line of an output.
@@ -43,13 +35,6 @@ fn print_value<W: Write>(out: &mut W, count: u32, answer: &[u8]) -> io::Result<(
         out.write_all(&text[..n])?;
     }
     out.write_all(b"\n")
-}
-
-// The line of a refusal.
-fn print_refusal<W: Write>(out: &mut W, why: Refusal) -> io::Result<()> {
-    let number = refusal::number(why);
-    let place = refusal::place(why);
-    writeln!(out, "refused {number} {place}")
 }
 
 // The whole job on a dossier, and its line.
@@ -68,8 +53,8 @@ fn answer<W: Write>(out: &mut W, dossier: &[u8]) -> io::Result<()> {
         &mut answer,
     );
     match said {
-        Answer::Value(count) => print_value(out, count, &answer),
-        Answer::Refused(why) => print_refusal(out, why),
+        Ok(count) => print_value(out, count, &answer),
+        Err(why) => writeln!(out, "refused {why}"),
     }
 }
 

@@ -3,8 +3,9 @@ use mathlib.Core.Path.{◌≡◌, refl, sym, ap, ap₂, ◌∙◌}
 use mathlib.Core.List.{List}
 use Prim.Native.Nat.{ℕ, ◌+◌}
 use lib.ListN.{length}
+use Rattle.std.specs.Prelude.{Result, Ok, Err}
 use Rattle.refusal.specs.declared.Refusal.{Refusal}
-use Rattle.refusal.specs.declared.Answer.{Answer}
+use Rattle.refusal.specs.Answers.{Answer}
 use Rattle.refusal.specs.Numbers.{number_of, place_of}
 use Rattle.scope.specs.Check.{Check, passed, refused}
 use Rattle.scope.specs.Reading.{NodeTable, Got}
@@ -13,35 +14,32 @@ use Rattle.scope.specs.Run.{Left, left_with, Ended, ended_with}
 use Rattle.common.specs.Checks.{clash}
 use Rattle.bititer.specs.Answers.{natural_fault, got_natural}
 use Rattle.bititer.specs.declared.NaturalFault.{NaturalFault}
-use Rattle.bititer.specs.declared.NaturalRead.{NaturalRead}
 use Rattle.common.specs.Answers.{check_of, answer_of}
-use Rattle.common.specs.declared.Checked.{Checked}
 use Rattle.decode.specs.declared.Sizes.{Sizes}
-use Rattle.decode.specs.declared.Decoded.{Decoded}
 use Rattle.decode.specs.Answers.{said_of}
 use Rattle.decode.specs.Stores as Stores
 use Rattle.decode.specs.Stores.{table_sizes, left_by}
 use Rattle.analysis.specs.Limits.{bounded_of}
-use Rattle.analysis.specs.declared.BoundsAnswer.{BoundsAnswer}
+use Rattle.analysis.specs.declared.Totals.{Totals}
 use Rattle.exports.specs.Codes.{answer_code, answer_told, judged, judged_by, decoding, decoding_by, bounding, bounding_by, staged, staged_by, finished, finished_by, read, fault_code, read_by}
 
 -- a stage that checks
-pub check_told : (x : Checked) (c : Check (Unit {0})) → check_of x ≡ c → (said : Answer) → said ≡ answer_of x → (code place : ℕ)
+pub check_told : (x : Result (Unit {0}) Refusal) (c : Check (Unit {0})) → check_of x ≡ c → (said : Answer) → said ≡ answer_of x → (code place : ℕ)
     → code ≡ answer_code said → place ≡ answer_told said
     → judged code place ≡ judged_by c
 unfolding judged_by
 check_told x c e said q code place ec ep =
     ap₂ judged (ec ∙ ap answer_code q) (ep ∙ ap answer_told q) ∙ as_check x ∙ ap judged_by e
   where
-    as_check : (x : Checked) → judged (answer_code (answer_of x)) (answer_told (answer_of x)) ≡ judged_by (check_of x)
-    as_check Checked.Passed = refl
-    as_check (Checked.Refused why) = refl
+    as_check : (x : Result (Unit {0}) Refusal) → judged (answer_code (answer_of x)) (answer_told (answer_of x)) ≡ judged_by (check_of x)
+    as_check (Ok passed_by) = refl
+    as_check (Err why) = refl
 
 -- decoding
-module _ (r : Decoded) (c : Check NodeTable) (n h nodes hashes : List ℕ) (left : Stores.left (said_of r) n h ≡ left_by c nodes hashes) where
-  pub table_told : (sizes : Sizes) → r ≡ Decoded.Table sizes → decoding 0 sizes.nodes sizes.hashes n h ≡ decoding_by c nodes hashes
+module _ (r : Result Sizes Refusal) (c : Check NodeTable) (n h nodes hashes : List ℕ) (left : Stores.left (said_of r) n h ≡ left_by c nodes hashes) where
+  pub table_told : (sizes : Sizes) → r ≡ Ok sizes → decoding 0 sizes.nodes sizes.hashes n h ≡ decoding_by c nodes hashes
   unfolding decoding_by left_by table_sizes
-  table_told sizes e = go c (ap (λ (r : Decoded). Stores.left (said_of r) n h) (sym e) ∙ left)
+  table_told sizes e = go c (ap (λ (r : Result Sizes Refusal). Stores.left (said_of r) n h) (sym e) ∙ left)
     where
       go : (c : Check NodeTable) → Stores.left (passed sizes) n h ≡ left_by c nodes hashes
           → decoding 0 sizes.nodes sizes.hashes n h ≡ decoding_by c nodes hashes
@@ -54,10 +52,10 @@ module _ (r : Decoded) (c : Check NodeTable) (n h nodes hashes : List ℕ) (left
           ∙ ap₂ (λ (n h : List ℕ). decoding 0 (length t.records) (length t.hashes) n h) (ap (λ (l : Stores.Left). l.nodes) f)
           (ap (λ (l : Stores.Left). l.hashes) f)
 
-  pub refusal_told : (why : Refusal) → r ≡ Decoded.Refused why → (code place : ℕ) → code ≡ number_of why → place ≡ place_of why
+  pub refusal_told : (why : Refusal) → r ≡ Err why → (code place : ℕ) → code ≡ number_of why → place ≡ place_of why
       → decoding code place 0 n h ≡ decoding_by c nodes hashes
   unfolding decoding_by left_by table_sizes
-  refusal_told why e code place ec ep = ap₂ (λ (x y : ℕ). decoding x y 0 n h) ec ep ∙ go c (ap (λ (r : Decoded). Stores.left (said_of r) n h) (sym e) ∙ left)
+  refusal_told why e code place ec ep = ap₂ (λ (x y : ℕ). decoding x y 0 n h) ec ep ∙ go c (ap (λ (r : Result Sizes Refusal). Stores.left (said_of r) n h) (sym e) ∙ left)
     where
       go : (c : Check NodeTable) → Stores.left (refused why) n h ≡ left_by c nodes hashes
           → decoding (number_of why) (place_of why) 0 n h ≡ decoding_by c nodes hashes
@@ -69,23 +67,23 @@ module _ (r : Decoded) (c : Check NodeTable) (n h nodes hashes : List ℕ) (left
           ∙ ap₂ (λ (n h : List ℕ). decoding (number_of w) (place_of w) 0 n h) (ap (λ (l : Stores.Left). l.nodes) f) (ap (λ (l : Stores.Left). l.hashes) f)
 
 -- bounds
-module _ (r : BoundsAnswer) (c : Check Bound) (e : bounded_of r ≡ c) where
-  pub bounds_told : (cells frames cost : ℕ) → r ≡ BoundsAnswer.Bounded cells frames cost → bounding 0 cells frames cost ≡ bounding_by c
+module _ (r : Result Totals Refusal) (c : Check Bound) (e : bounded_of r ≡ c) where
+  pub bounds_told : (t : Totals) → r ≡ Ok t → bounding 0 t.cells t.frames t.cost ≡ bounding_by c
   unfolding bounding_by
-  bounds_told cells frames cost q = ap bounding_by (ap bounded_of (sym q) ∙ e)
+  bounds_told t q = ap bounding_by (ap bounded_of (sym q) ∙ e)
 
-  pub unbounded_told : (why : Refusal) → r ≡ BoundsAnswer.Refused why → (code place : ℕ) → code ≡ number_of why → place ≡ place_of why
+  pub unbounded_told : (why : Refusal) → r ≡ Err why → (code place : ℕ) → code ≡ number_of why → place ≡ place_of why
       → bounding code place 0 0 ≡ bounding_by c
   unfolding bounding_by
   unbounded_told why q code place ec ep = ap₂ (λ (x y : ℕ). bounding x y 0 0) ec ep ∙ ap bounding_by (ap bounded_of (sym q) ∙ e)
 
 -- a natural
-module _ (r : NaturalRead) (at : ℕ) (g : Got ℕ) (e : got_natural at r ≡ g) where
-  pub natural_told : (n bits : ℕ) → r ≡ NaturalRead.Read n bits → read 0 n (at + bits) ≡ read_by g
+module _ (r : Result (ℕ × ℕ) NaturalFault) (at : ℕ) (g : Got ℕ) (e : got_natural at r ≡ g) where
+  pub natural_told : (n bits : ℕ) → r ≡ Ok (n, bits) → read 0 n (at + bits) ≡ read_by g
   unfolding read_by
   natural_told n bits q = ap read_by (ap (got_natural at) (sym q) ∙ e)
 
-  pub fault_told : (why : NaturalFault) → r ≡ NaturalRead.Fault why → (code : ℕ) → code ≡ fault_code (natural_fault why) → read code 0 0 ≡ read_by g
+  pub fault_told : (why : NaturalFault) → r ≡ Err why → (code : ℕ) → code ≡ fault_code (natural_fault why) → read code 0 0 ≡ read_by g
   unfolding read_by
   fault_told why q code ec = ap (λ (x : ℕ). read x 0 0) ec ∙ ap read_by (ap (got_natural at) (sym q) ∙ e)
 

@@ -1,7 +1,7 @@
 -- What a controller is told: 0 or a refusal's number as the result, and beside it a place or a count, and the stores as they are left.
 use Rattle.std.specs.Prelude.{ℕ, List, length}
-use Rattle.refusal.specs.declared.Answer.{Answer}
-use Rattle.refusal.specs.declared.Answer.TheVariants.{Value, Refused}
+use Rattle.refusal.specs.Answers.{Answer}
+use Rattle.std.specs.Prelude.{Ok as Value, Err as Refused}
 use Rattle.refusal.specs.Numbers.{number_of, place_of}
 use Rattle.scope.specs.Check.{Check, passed, refused}
 use Rattle.scope.specs.Reading.{NodeTable, Got, got, fault, Fault, refusal_at}

@@ -14,27 +14,27 @@ ghost use Rattle.analysis.specs.Limits.{stage_bounds};
 ghost use Rattle.exports.specs.Codes.{answer_code, answer_told, judged, judged_by, decoding, decoding_by, bounding, bounding_by, staged, staged_by, finished, finished_by, read, fault_code, read_by};
 ghost use Rattle.bititer.specs.Answers.{natural_fault};
 
-use analysis::BoundsAnswer;
-use bititer::{NaturalFault, NaturalRead};
-use decode::Decoded;
+use arrow::LentTables;
+use bititer::NaturalFault;
 use refusal::Answer;
 
-// The number of an answer, 0 for an output; and its place, or an output's count of bits.
+// The number of an answer: 0 for an output.
 fn answer_code(said: Answer) -> u32
     ensures { result ≡ answer_code said }
 {
     match said {
-        Answer::Value(_) => 0,
-        Answer::Refused(why) => refusal::number(why),
+        Ok(_) => 0,
+        Err(why) => refusal::number(why),
     }
 }
 
+// The place of an answer, or an output's count of bits.
 fn answer_told(said: Answer) -> u32
     ensures { result ≡ answer_told said }
 {
     match said {
-        Answer::Value(count) => count,
-        Answer::Refused(why) => refusal::place(why),
+        Ok(count) => count,
+        Err(why) => refusal::place(why),
     }
 }
 
@@ -76,14 +76,13 @@ pub fn drevaloci_decode(
         ≡ decoding_by (decode program.now (length nodes.old / node_numbers) (length hashes.old))
         nodes.old hashes.old }
 {
-    let said = decode::decode(program, nodes, hashes);
-    match said {
-        Decoded::Table(sizes) => {
+    match decode::decode(program, nodes, hashes) {
+        Ok(sizes) => {
             *place = sizes.nodes;
             *bytes = sizes.hashes;
             0
         }
-        Decoded::Refused(why) => {
+        Err(why) => {
             *place = refusal::place(why);
             *bytes = 0;
             refusal::number(why)
@@ -112,7 +111,14 @@ pub fn drevaloci_arrows(
     ensures { judged result place.new
         ≡ judged_by (arrow_stage types.now nodes.now arrows.now program.now hashes.now) }
 {
-    let said = common::answer_of(stages::arrow_stage(types, nodes, arrows, program, hashes));
+    let tables = LentTables {
+        types,
+        nodes,
+        arrows,
+        program,
+        hashes,
+    };
+    let said = common::answer_of(stages::arrow_stage(&tables));
     *place = answer_told(said);
     answer_code(said)
 }
@@ -131,7 +137,14 @@ pub fn drevaloci_hashes(
         ≡ judged_by (hash_stage types.now nodes.now arrows.now program.now hashes.now
         given.now) }
 {
-    let said = common::answer_of(stages::hash_stage(types, nodes, arrows, program, hashes, given));
+    let tables = LentTables {
+        types,
+        nodes,
+        arrows,
+        program,
+        hashes,
+    };
+    let said = common::answer_of(stages::hash_stage(&tables, given));
     *place = answer_told(said);
     answer_code(said)
 }
@@ -150,15 +163,21 @@ pub fn drevaloci_bounds(
     ensures { bounding result cells.new frames.new cost.new
         ≡ bounding_by (stage_bounds types.now nodes.now arrows.now program.now hashes.now) }
 {
-    let said = analysis::bounds_stage(types, nodes, arrows, program, hashes);
-    match said {
-        BoundsAnswer::Bounded(c, f, units) => {
-            *cells = c;
-            *frames = f;
-            *cost = units;
+    let tables = LentTables {
+        types,
+        nodes,
+        arrows,
+        program,
+        hashes,
+    };
+    match analysis::bounds_stage(&tables) {
+        Ok(totals) => {
+            *cells = totals.cells;
+            *frames = totals.frames;
+            *cost = totals.cost;
             0
         }
-        BoundsAnswer::Refused(why) => {
+        Err(why) => {
             *cells = refusal::place(why);
             *frames = 0;
             *cost = 0;
@@ -184,16 +203,18 @@ pub fn drevaloci_run_tables<'a>(
     answer: &mut [u8],
     place: &mut u32,
 ) -> u32
-    ensures { staged result place.new cells.new frames.new answer.new
-        ≡ staged_by (run_stage types.now nodes.now arrows.now program.now hashes.now given.now
-        witness.now witness_bits input.now input_bits cells.old frames.old answer.old) }
+    ensures { staged result place.new cells.new frames.new answer.new ≡ staged_by (run_stage types.now nodes.now arrows.now program.now hashes.now
+        given.now witness.now witness_bits input.now input_bits cells.old frames.old answer.old) }
 {
-    let said = bit_machine::run_stage(
+    let tables = LentTables {
         types,
         nodes,
         arrows,
         program,
         hashes,
+    };
+    let said = bit_machine::run_stage(
+        &tables,
         given,
         witness,
         witness_bits,
@@ -217,15 +238,13 @@ pub fn drevaloci_natural(
 ) -> u32
     ensures { read result value.new next.new ≡ read_by (natural_up_to (stream_of bytes.now) bound at) }
 {
-    let said = bititer::natural(bytes, at, bound);
-    match said {
-        NaturalRead::Read(n, bits) => {
+    match bititer::natural(bytes, at, bound) {
+        Ok((n, bits)) => {
             *value = n;
-            let end = at + bits;
-            *next = end;
+            *next = at + bits;
             0
         }
-        NaturalRead::Fault(why) => {
+        Err(why) => {
             *value = 0;
             *next = 0;
             fault_code(why)

@@ -3,10 +3,10 @@
 // Every move is defined: a cursor that would pass the largest number is held there, and one that would pass 0 is held at 0.
 #![tactic(auto)]
 
-ghost use Rattle.std.specs.Prelude.{◌≡◌, ◌+◌, ◌-◌, min, get_or, set};
+ghost use Rattle.std.specs.Prelude.{◌≡◌, get_or, set};
 ghost use Rattle.scope.specs.Machine.{frame_from, forward, backward, reset};
 ghost use Rattle.layout.specs.Mach.{no_frame, records_of};
-ghost use Rattle.frame.specs.Cursor.{frame_of, largest, held};
+ghost use Rattle.frame.specs.Cursor.{frame_of, held};
 ghost use Rattle.frame.specs.Store.{with_records};
 
 // Where the cursor stands, where the frame starts and how many cells it has.
@@ -17,27 +17,6 @@ pub struct Frame {
     pub len: u32,
 }
 
-// The largest number of 32 bits.
-const LARGEST: u32 = 4_294_967_295;
-
-// A cursor n cells on.
-fn cursor_on(cursor: u32, n: u32) -> u32
-    ensures { result ≡ min (cursor + n) largest }
-{
-    if LARGEST - n < cursor {
-        LARGEST
-    } else {
-        cursor + n
-    }
-}
-
-// A cursor n cells back.
-fn cursor_back(cursor: u32, n: u32) -> u32
-    ensures { result ≡ cursor - n }
-{
-    if cursor < n { 0 } else { cursor - n }
-}
-
 impl Frame {
     // A frame of so many cells from a place on, its cursor at its start.
     pub fn new(start: u32, len: u32) -> Self
@@ -45,8 +24,8 @@ impl Frame {
     {
         Frame {
             cursor: start,
-            start: start,
-            len: len,
+            start,
+            len,
         }
     }
 
@@ -61,7 +40,7 @@ impl Frame {
     pub fn forwarded(mut self, n: u32) -> Self
         ensures { frame_of result ≡ held (forward n (frame_of self)) }
     {
-        self.cursor = cursor_on(self.cursor, n);
+        forward(&mut self, n);
         self
     }
 
@@ -69,7 +48,7 @@ impl Frame {
     pub fn backed(mut self, n: u32) -> Self
         ensures { frame_of result ≡ backward n (frame_of self) }
     {
-        self.cursor = cursor_back(self.cursor, n);
+        backward(&mut self, n);
         self
     }
 
@@ -77,7 +56,7 @@ impl Frame {
     pub fn at_start(mut self) -> Self
         ensures { frame_of result ≡ reset (frame_of self) }
     {
-        self.cursor = self.start;
+        reset(&mut self);
         self
     }
 }
@@ -86,14 +65,14 @@ impl Frame {
 pub fn forward(f: &mut Frame, n: u32)
     ensures { frame_of f.new ≡ held (forward n (frame_of f.old)) }
 {
-    f.cursor = cursor_on(f.cursor, n);
+    f.cursor = f.cursor.saturating_add(n);
 }
 
 // The cursor of a lent frame moved n cells back.
 pub fn backward(f: &mut Frame, n: u32)
     ensures { frame_of f.new ≡ backward n (frame_of f.old) }
 {
-    f.cursor = cursor_back(f.cursor, n);
+    f.cursor = f.cursor.saturating_sub(n);
 }
 
 // The cursor of a lent frame moved to its start.

@@ -9,6 +9,14 @@ use Rattle.header.proofs.count.Kinds as count-kinds
 use Rattle.header.proofs.count.Reads as count-reads
 use Rattle.header.proofs.opened.Kinds as opened-kinds
 use Rattle.header.proofs.opened.Reads as opened-reads
+use Rattle.header.proofs.SectionName.count.Kinds as named-count-kinds
+use Rattle.header.proofs.SectionName.count.Reads as named-count-reads
+use Rattle.header.proofs.SectionName.index.Kinds as named-index-kinds
+use Rattle.header.proofs.SectionName.index.Reads as named-index-reads
+use Rattle.header.proofs.SectionName.of.Kinds as named-of-kinds
+use Rattle.header.proofs.SectionName.of.Reads as named-of-reads
+use Rattle.header.proofs.SectionName.opened.Kinds as named-opened-kinds
+use Rattle.header.proofs.SectionName.opened.Reads as named-opened-reads
 use Rattle.header.proofs.section.Kinds as section-kinds
 use Rattle.header.proofs.section.Reads as section-reads
 
@@ -23,3 +31,16 @@ opened κs a s t x y p q = p ∙ sym q
 
 pub section : OneSeen 1 section-kinds.ps section-kinds.r (λ κs. part_of) section-reads.Post
 section κs a s t x y p q = p ∙ sym q
+
+-- of the sections by name
+pub named_index : OneResult 0 named-index-kinds.ps named-index-kinds.r named-index-reads.Post
+named_index κs a s t x y p q = p ∙ sym q
+
+pub named_count : OneResult 1 named-count-kinds.ps named-count-kinds.r named-count-reads.Post
+named_count κs a s t x y p q = p ∙ sym q
+
+pub named_opened : OneSeen 1 named-opened-kinds.ps named-opened-kinds.r (λ κs. part_of) named-opened-reads.Post
+named_opened κs a s t x y p q = p ∙ sym q
+
+pub named_of : OneSeen 1 named-of-kinds.ps named-of-kinds.r (λ κs. part_of) named-of-reads.Post
+named_of κs a s t x y p q = p ∙ sym q

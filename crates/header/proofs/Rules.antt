@@ -1,8 +1,8 @@
 -- The rules of the header's numbers as the check meets them, section by section, and what a header that passes tells of a section.
-use mathlib.Core.Path.{◌≡◌, refl, sym, ap, ◌∙◌}
+use mathlib.Core.Path.{◌≡◌, refl, sym, ap, ap₂, ◌∙◌}
 use mathlib.Core.Bool.{true}
 use mathlib.Core.List.{List, [], ◌∷◌}
-use Prim.Native.Nat.{ℕ, zero, suc, ◌+◌, ◌*◌, ◌-◌, ◌/◌, ◌≤◌, ◌<◌}
+use Prim.Native.Nat.{ℕ, zero, suc, ◌+◌, ◌*◌, ◌-◌, ◌/◌, ◌≤◌, ◌<◌, min}
 use native.Mathlib.Numerals.{add-one}
 use native.Mathlib.Omega.{arith}
 use native.Mathlib.Decide.{dec_lt}
@@ -10,15 +10,14 @@ use lib.Dec.{leb, eqb}
 use lib.ListN.{length, get_or-eq_default}
 use borrow.Author.Tests.{le-leb, lt-leb, leb-true, eq-eqb, ne_eqb, eqb-true}
 use Rattle.limits.specs.Limits.{dossier_bytes, type_count, header_bytes, type_bytes, arrow_bytes, hash_bytes}
-use Rattle.refusal.specs.declared.Refusal.{Refusal}
 use Rattle.refusal.specs.declared.Refusal.TheVariants.{Header}
-use Rattle.scope.specs.Check.{Check, passed, refused, ◌>>=◌, require, first_failing, each}
+use Rattle.scope.specs.Check.{passed, refused, ◌>>=◌, require, first_failing, each}
 use Rattle.scope.specs.Numbers.{bytes_for, every}
 use Rattle.scope.specs.Header.{number, count, offset, size, start, count_rule, type_count_rule, offset_rule, total_rule, header_rule, check_header}
 use Rattle.promise.specs.Parts.{Part, cut}
 use Rattle.common.specs.Numbers.{number_past as past_end}
 use Rattle.common.specs.Checks.{every_all, every_one, fails_here, holds_here, both_passed, each_holds}
-use Rattle.header.specs.Sections.{section_part, opened_by, opened_part}
+use Rattle.header.specs.Sections.{section_part}
 
 module _ (d : List ℕ) where
   -- numbers past the end, and the size of each section by its count
@@ -29,30 +28,6 @@ module _ (d : List ℕ) where
   pub count_past : (k : ℕ) → length d / 8 < k → 0 ≡ count d k
   unfolding count
   count_past k h = number_past (2 * k + 1) (omega arith)
-
-  module _ (k n : ℕ) (e : n ≡ count d k) where
-    pub size_types : k ≡ 0 → type_bytes * n ≡ size d k
-    unfolding size
-    size_types h = rw (e, h)
-
-    pub size_program : k ≡ 1 → n ≡ size d k
-    unfolding size
-    size_program h = rw (e, h)
-
-    pub size_arrows : k ≡ 2 → arrow_bytes * n ≡ size d k
-    unfolding size
-    size_arrows h = rw (e, h)
-
-    pub size_bits : (2 < k) → k ≤ 4 → bytes_for n ≡ size d k
-    unfolding size
-    size_bits l h = elim (dec_lt k 4) [
-      | yes m ↦ let q : k ≡ 3 = omega arith in rw (e, q)
-      | no m ↦ let q : k ≡ 4 = omega arith in rw (e, q)
-    ]
-
-    pub size_hashes : k ≡ 5 → hash_bytes * n ≡ size d k
-    unfolding size
-    size_hashes h = rw (e, h)
 
   pub size_none : (k : ℕ) → 6 ≤ k → 0 ≡ size d k
   unfolding size
@@ -212,10 +187,15 @@ module _ (d : List ℕ) where
           let e : start d (6 + n) ≡ start d (6 + n) + size d (6 + n) = omega arith in
           go n ∙ e ∙ ap (start d) (let s : suc (6 + n) ≡ 6 + suc n = omega arith in s)
 
--- what is opened by what the check says
 module _ (dossier : Part) (k : ℕ) where
-  pub opened_passed : {x : Unit {0}} → check_header dossier.bytes ≡ passed x → section_part dossier k ≡ opened_part dossier k
-  opened_passed good = ap (λ (said : Check (Unit {0})). opened_by said dossier k) (sym good)
-
-  pub opened_refused : (r : Refusal) → check_header dossier.bytes ≡ refused r → cut dossier 0 0 ≡ opened_part dossier k
-  opened_refused r bad = ap (λ (said : Check (Unit {0})). opened_by said dossier k) (sym bad)
+  -- past the last section stands no other part than behind it
+  pub part_up_to : (j : ℕ) → j ≡ min k 6 → section_part dossier j ≡ section_part dossier k
+  unfolding size
+  part_up_to j e = elim (dec_lt k 6) [
+    | yes h ↦ ap (section_part dossier) (let q : j ≡ k = omega arith in q)
+    | no h ↦
+        let past : 6 ≤ k = omega arith in
+        let q : j ≡ 6 = omega arith in
+        ap (section_part dossier) q
+        ∙ ap₂ (cut dossier) (start_end dossier.bytes k past) (size_none dossier.bytes k past)
+  ]

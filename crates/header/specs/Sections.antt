@@ -1,9 +1,20 @@
--- A section as that part of the dossier, its place fixed by the header's counts; what it holds is `section` and `opened` of the requirements.
+-- The place of each section in the dossier's order. A section as that part of the dossier, its place fixed by the header's counts; what it
+-- holds is `section` and `opened` of the requirements.
 use Rattle.std.specs.Prelude.{◌≡◌, refl, [], ℕ}
 use Rattle.std.proofs.Common.{ap, ◌∙◌}
 use Rattle.promise.specs.Parts.{Part, cut}
 use Rattle.scope.specs.Check.{Check, passed, refused}
 use Rattle.scope.specs.Header.{size, start, check_header, section, opened}
+use Rattle.header.specs.declared.SectionName.{SectionName}
+use Rattle.header.specs.declared.SectionName.TheVariants.{Types, Program, Arrows, Witness, Input, Hashes}
+
+abbrev pub index_of : SectionName → ℕ
+index_of Types = 0
+index_of Program = 1
+index_of Arrows = 2
+index_of Witness = 3
+index_of Input = 4
+index_of Hashes = 5
 
 abbrev pub section_part : (dossier : Part) → (k : ℕ) → Part
 section_part dossier k = cut dossier (start dossier.bytes k) (size dossier.bytes k)

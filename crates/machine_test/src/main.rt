@@ -4,6 +4,8 @@
 
 ghost use Rattle.std.specs.Prelude.{◌≤◌};
 
+use arrow::LentTables;
+use packed::FileRecords;
 use refusal::Answer;
 use std::io;
 use std::rt::Files;
@@ -52,81 +54,57 @@ fn part(record: &[u8], k: u32) -> &[u8] {
 
 // Prints a number in hexadecimal, and how often it stands in a row where that is more than once.
 fn print_row(rt: &impl Print, row: Row) -> io::Result<()> {
-    let number = row.number;
-    let count = row.count;
-    if count == 0 {
-        return Ok(());
+    match row.count {
+        0 => Ok(()),
+        1 => print!(rt; " {:x}", row.number),
+        _ => print!(rt; " {:x}*{}", row.number, row.count),
     }
-    print!(rt; " {number:x}")?;
-    if 1 < count {
-        print!(rt; "*{count}")?;
-    }
-    Ok(())
 }
 
 // A row with the next number of its store; another number begins another row, and the one that ends is printed.
 fn row_after(rt: &impl Print, row: Row, number: u32) -> io::Result<Row> {
-    let count = row.count;
     if row.number != number {
         print_row(rt, row)?;
         return Ok(Row { number, count: 1 });
     }
-    if 65_536 < count {
-        return Ok(row);
-    }
     Ok(Row {
         number,
-        count: count + 1,
+        count: row.count.saturating_add(1),
     })
 }
 
-// Entry i of some bytes and, after them, numbers.
-fn entry(bytes: &[u8], numbers: &[u32], i: usize) -> u32 {
-    let n = bytes.len();
-    if i < n {
-        return common::byte_at(bytes, i) as u32;
-    }
-    common::entry_at(numbers, i - n)
-}
-
-// Prints a store row by row: bytes, or numbers, where there are none of the other.
-fn print_rows(rt: &impl Print, bytes: &[u8], numbers: &[u32]) -> io::Result<()> {
+// Prints a store row by row.
+fn print_rows<T: Copy + Into<u32>>(rt: &impl Print, store: &[T]) -> io::Result<()> {
     let mut row = Row {
         number: 0,
         count: 0,
     };
-    let mut i: usize = 0;
-    while i < bytes.len() + numbers.len() {
-        row = row_after(rt, row, entry(bytes, numbers, i))?;
-        i += 1;
+    for entry in store {
+        row = row_after(rt, row, (*entry).into())?;
     }
     print_row(rt, row)
 }
 
 fn print_answer(rt: &impl Print, said: Answer) -> io::Result<()> {
     match said {
-        Answer::Value(count) => print!(rt; "value {count}"),
-        Answer::Refused(why) => {
-            let number = refusal::number(why);
-            let place = refusal::place(why);
-            print!(rt; "refused {number} {place}")
-        }
+        Ok(count) => print!(rt; "value {count}"),
+        Err(why) => print!(rt; "refused {why}"),
     }
 }
 
 fn print_stores(rt: &impl Print, cells: &[u8], frames: &[u32], answer: &[u8]) -> io::Result<()> {
     print!(rt; "; cells")?;
-    print_rows(rt, cells, packed::front_numbers(frames, 0))?;
+    print_rows(rt, cells)?;
     print!(rt; "; frames")?;
-    print_rows(rt, packed::front(cells, 0), frames)?;
+    print_rows(rt, frames)?;
     print!(rt; "; answer")?;
-    print_rows(rt, answer, packed::front_numbers(frames, 0))?;
+    print_rows(rt, answer)?;
     println!(rt)
 }
 
 // Prints the name of a record's run, and the byte that fills the stores, which is the last of its number 2.
 fn print_head(rt: &impl Print, record: &[u8]) -> io::Result<()> {
-    let fill = common::byte_at(record, 11);
+    let fill = common::entry_or(record, 11, 0);
     rt.write_all(part(record, NAME))?;
     print!(rt; ", filled with {fill:x}: ")
 }
@@ -139,12 +117,15 @@ fn run<'a>(
     frames: &mut [u32],
     answer: &mut [u8],
 ) -> Answer {
-    bit_machine::run_stage(
-        part(record, TYPES),
+    let tables = LentTables {
+        types: part(record, TYPES),
         nodes,
-        part(record, ARROWS),
-        part(record, PROGRAM),
-        part(record, HASHES),
+        arrows: part(record, ARROWS),
+        program: part(record, PROGRAM),
+        hashes: part(record, HASHES),
+    };
+    bit_machine::run_stage(
+        &tables,
         part(record, GIVEN),
         part(record, WITNESS),
         packed::number(record, 0),
@@ -175,17 +156,13 @@ fn show<'a>(
 fn size(record: &[u8], k: u32, most: usize) -> usize
     ensures { result ≤ most }
 {
-    let n = packed::number(record, k) as usize;
-    if most < n {
-        return most;
-    }
-    n
+    (packed::number(record, k) as usize).min(most)
 }
 
 // A run on a table in stores of the record's sizes, filled as it says.
 fn show_run<'a>(rt: &impl Print, record: &'a [u8], nodes: &'a [u32]) -> io::Result<()> {
-    let fill = common::byte_at(record, 11);
-    let old = fill as u32 * 16_843_009;
+    let fill = common::entry_or(record, 11, 0);
+    let old = u32::from(fill) * 16_843_009;
     let mut cells = [fill; CELLS];
     let mut frames = [old; FRAMES];
     let mut answer = [fill; ANSWER];
@@ -196,9 +173,9 @@ fn show_run<'a>(rt: &impl Print, record: &'a [u8], nodes: &'a [u32]) -> io::Resu
         rt,
         record,
         nodes,
-        &mut cells[0..a],
-        &mut frames[0..b],
-        &mut answer[0..c],
+        &mut cells[..a],
+        &mut frames[..b],
+        &mut answer[..c],
     )
 }
 
@@ -206,29 +183,22 @@ fn show_run<'a>(rt: &impl Print, record: &'a [u8], nodes: &'a [u32]) -> io::Resu
 fn show_record(rt: &impl Print, record: &[u8]) -> io::Result<()> {
     let mut nodes = [0u32; NODES];
     let n = packed::laid(part(record, TABLE), &mut nodes);
-    show_run(rt, record, packed::front_numbers(&nodes, n))
+    show_run(rt, record, packed::front(&nodes, n))
 }
 
-// Every run of a file.
-fn show_all(rt: &impl Print, file: &[u8]) -> io::Result<()> {
-    let mut rest = file;
-    while 0 < rest.len() {
-        show_record(rt, packed::first_record(rest))?;
-        let next = packed::after_first(rest);
-        rest = next;
+// Every run of the file at a path.
+fn show_file(rt: &(impl Files + Print), path: &str) -> io::Result<()> {
+    let mut file = [0u8; packed::FILE_BYTES];
+    let n = packed::read_file(rt, path, &mut file)?;
+    for record in FileRecords::of(&file[..n]) {
+        show_record(rt, record)?;
     }
     Ok(())
 }
 
-// The same of the file at a path.
-fn show_file(rt: &(impl Files + Print), path: &str) -> io::Result<()> {
-    let mut file = [0u8; packed::FILE_BYTES];
-    let n = packed::read_file(rt, path, &mut file)?;
-    show_all(rt, &file[..n])
-}
-
 fn main(rt: HostRuntime) -> io::Result<()> {
-    show_file(&rt, "runs0")?;
-    show_file(&rt, "runs1")?;
-    show_file(&rt, "runs2")
+    for path in ["runs0", "runs1", "runs2"] {
+        show_file(&rt, path)?;
+    }
+    Ok(())
 }

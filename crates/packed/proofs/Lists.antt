@@ -1,21 +1,7 @@
 -- Laws on packed lists of numbers, and on the stores that are held against them or that they are laid over.
-use Rattle.std.proofs.Common.{◌≡◌, ℕ, zero, suc, ◌+◌, ◌<◌, ◌≤◌, Bool, true, false, eqb, ltb, List, [], ◌∷◌, ◌++◌, length, get_or, take, drop, set, sym, refl, ap, ◌∙◌, ap₂, add-one, arith, length-drop, take-append-drop, drop_of_length-le, drop-cons, take-suc-set, drop-set-lt, le-ltb, lt-ltb, eq-eqb, ne_eqb}
+use Rattle.std.proofs.Common.{◌≡◌, ℕ, zero, suc, ◌+◌, ◌<◌, ◌≤◌, Bool, true, false, eqb, ltb, List, [], ◌∷◌, ◌++◌, length, get_or, take, drop, set, sym, refl, ap, ◌∙◌, ap₂, add-one, arith, length-drop, take-append-drop, drop_of_length-le, drop-cons, take-suc-set, drop-set-lt, eq-eqb, ne_eqb}
 use lib.Seq.{append_snoc}
 use Rattle.packed.specs.Lists.{by_first, first_number, after_number, unpacked_past, unpacked, head_or, tail, none, holds_numbers, laid}
-
--- the three kinds of a number, by its first byte
-module _ {X : Type 0} (first : ℕ) (one two four : X) where
-  pub in_one : first < 254 → by_first first one two four ≡ one
-  unfolding by_first
-  in_one h = rw (by_first, lt-ltb first 254 h)
-
-  pub in_two : first ≡ 254 → by_first first one two four ≡ two
-  unfolding by_first
-  in_two e = rw (by_first, le-ltb first 254 (omega arith), eq-eqb first 254 e)
-
-  pub in_four : 254 ≤ first → (first ≡ 254 → ⊥) → by_first first one two four ≡ four
-  unfolding by_first
-  in_four h n = rw (by_first, le-ltb first 254 h, ne_eqb first 254 n)
 
 -- bytes of a number that is taken are passed over
 passed : (n : ℕ) (v : List ℕ) → unpacked_past n v ≡ unpacked_past 0 (drop n v)
@@ -50,15 +36,6 @@ first_of_none (b ∷ v) rest e = absurd (omega arith)
 pub taken_off : (v w : List ℕ) (n : ℕ) → (length v ≡ 0 → ⊥) → n ≡ head_or 0 (unpacked v) → w ≡ after_number v → unpacked v ≡ n ∷ unpacked w
 taken_off v w n h e f = unpack v h ∙ sym (ap₂ (λ (x : ℕ) (xs : List ℕ). x ∷ unpacked xs) (e ∙ first_of v 0 h) f)
 
-pub fewer : (v w : List ℕ) → 0 < length v → w ≡ after_number v → length w < length v
-unfolding after_number by_first
-fewer v w h e = rw e (go (ltb (get_or v 0 0) 254) (eqb (get_or v 0 0) 254))
-  where
-    go : (p q : Bool) → length {A = ℕ} (elim p [ true ↦ drop 1 v | false ↦ elim q [ true ↦ drop 3 v | false ↦ drop 5 v ] ]) < length v
-    go true q = rw length-drop (omega arith)
-    go false true = rw length-drop (omega arith)
-    go false false = rw length-drop (omega arith)
-
 pub after_of : (v : List ℕ) → unpacked (after_number v) ≡ tail (unpacked v)
 unfolding tail unpacked_past after_number by_first
 after_of [] = refl
@@ -90,10 +67,6 @@ module _ (store : List ℕ) (ns : List ℕ) (rest k : ℕ) where
 -- the numbers laid over a store from place k on: how many there are then, and the store
 abbrev pub laid_from : (k : ℕ) (ns store : List ℕ) → ℕ × List ℕ
 laid_from k ns store = (k + (laid ns (drop k store)).0, take k store ++ (laid ns (drop k store)).1)
-
--- at the start all numbers are to be laid
-pub none_laid : (ns store : List ℕ) → laid ns store ≡ laid_from 0 ns store
-none_laid ns store = ap₂ (λ (m : ℕ) (xs : List ℕ). (m, xs)) (omega arith) refl
 
 -- nothing is laid of an empty list, nor over an empty store
 empty_list : (v s : List ℕ) → length v ≤ 0 → laid (unpacked v) s ≡ (0, s)

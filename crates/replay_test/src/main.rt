@@ -6,8 +6,9 @@
 
 ghost use Rattle.std.specs.Prelude.{◌≤◌};
 
-use analysis::BoundsAnswer;
-use packed::Tally;
+use analysis::Totals;
+use arrow::LentTables;
+use header::SectionName;
 use refusal::{Answer, Refusal};
 use std::io;
 use std::rt::Files;
@@ -25,13 +26,6 @@ const ANSWER: usize = limits::TYPE_WIDTH as usize / 8;
 
 // A number in place of a refusal's, where nothing is told.
 const NOT_TOLD: u32 = 255;
-
-// The sections of types, program and arrows.
-const TYPES: usize = 0;
-
-const PROGRAM: usize = 1;
-
-const ARROWS: usize = 2;
 
 // The number that begins the bounds, the last byte of the one that fills the stores, and the first of the five sizes lent.
 const BOUNDS: u32 = 2;
@@ -65,32 +59,25 @@ fn part(record: &[u8], k: u32) -> &[u8] {
     packed::part(record, NAME, HEAD, k)
 }
 
-// Whether a refusal has the number and the place that the numbers begin with.
-fn refusal_right(numbers: &[u8], why: Refusal) -> bool {
-    packed::tells(numbers, refusal::number(why), refusal::place(why))
-}
-
 // Whether an answer is that of numbers 0 and 1: a refusal's number and place, or 0 and the count of output bits.
 fn answer_right(record: &[u8], said: Answer) -> bool {
     if packed::number(record, 0) == NOT_TOLD {
         return true;
     }
     match said {
-        Answer::Value(count) => packed::tells(record, 0, count),
-        Answer::Refused(why) => refusal_right(record, why),
+        Ok(count) => packed::tells(record, 0, count),
+        Err(why) => packed::tells_refusal(record, why),
     }
 }
 
 // Whether bounds are those of four numbers: 0, cells, frames and cost, or a refusal's number and place.
-fn bounds_told(numbers: &[u8], said: BoundsAnswer) -> bool {
+fn bounds_told(numbers: &[u8], said: Result<Totals, Refusal>) -> bool {
     match said {
-        BoundsAnswer::Bounded(cells, frames, cost) => {
-            if !packed::tells(numbers, 0, cells) {
-                return false;
-            }
-            packed::tells(packed::from(numbers, 8), frames, cost)
+        Ok(totals) => {
+            packed::tells(numbers, 0, totals.cells)
+                && packed::tells(packed::from(numbers, 8), totals.frames, totals.cost)
         }
-        BoundsAnswer::Refused(why) => refusal_right(numbers, why),
+        Err(why) => packed::tells_refusal(numbers, why),
     }
 }
 
@@ -102,31 +89,25 @@ fn bounds_right(record: &[u8], nodes: &[u32], hashes: &[u8]) -> bool {
         return true;
     }
     let dossier = part(record, DOSSIER);
-    let n = 4 * header::count(dossier, ARROWS) as usize;
-    let said = analysis::bounds_stage(
-        header::opened(dossier, TYPES),
-        packed::front_numbers(nodes, n),
-        header::opened(dossier, ARROWS),
-        header::opened(dossier, PROGRAM),
+    let n = 4 * SectionName::Arrows.count(dossier) as usize;
+    let tables = LentTables {
+        types: SectionName::Types.opened(dossier),
+        nodes: packed::front(nodes, n),
+        arrows: SectionName::Arrows.opened(dossier),
+        program: SectionName::Program.opened(dossier),
         hashes,
-    );
-    bounds_told(packed::from(record, 8), said)
+    };
+    bounds_told(packed::from(record, 8), analysis::bounds_stage(&tables))
 }
 
 // Whether a store holds the numbers of a part, a packed list, and one number again and again after them. A part of no bytes tells nothing.
 fn numbers_right(record: &[u8], k: u32, store: &[u32], rest: u32) -> bool {
-    if packed::number(record, k) == 0 {
-        return true;
-    }
-    packed::holds_numbers(store, part(record, k), rest)
+    packed::number(record, k) == 0 || packed::holds_numbers(store, part(record, k), rest)
 }
 
 // Whether a store holds just the bytes of a part. A part of no bytes tells nothing.
 fn bytes_right(record: &[u8], k: u32, store: &[u8]) -> bool {
-    if packed::number(record, k) == 0 {
-        return true;
-    }
-    check::same(store, part(record, k))
+    packed::number(record, k) == 0 || check::same(store, part(record, k))
 }
 
 // Whether the answer store begins with the output.
@@ -137,7 +118,7 @@ fn output_right(record: &[u8], answer: &[u8]) -> bool {
 
 // What stands in a store of numbers before the run: the record's byte four times.
 fn old_number(record: &[u8]) -> u32 {
-    common::byte_at(record, FILL) as u32 * 16_843_009
+    u32::from(common::entry_or(record, FILL, 0)) * 16_843_009
 }
 
 // Whether the stores are left as the record says. Numbers past those told are zero in the node store, old in the frame store.
@@ -185,143 +166,64 @@ fn run_right(
     end_right(record, said, nodes, hashes, cells, frames, answer)
 }
 
-// The size of store k of the five: what the record says, two more where told so, and at most the largest.
-fn size(record: &[u8], k: u32, more: bool, most: usize) -> usize
+// The size of store k of the five: what the record says and so many more, and at most the largest.
+fn size(record: &[u8], k: u32, more: u32, most: usize) -> usize
     ensures { result ≤ most }
 {
-    let told = packed::number(record, k) as usize;
-    let n = if more { told + 2 } else { told };
-    if most < n {
-        return most;
-    }
-    n
+    (packed::number(record, k) as usize + more as usize).min(most)
 }
 
-// A run in stores of the record's sizes, or with two numbers more in two of them, filled as it says.
-fn record_right(record: &[u8], odd: bool) -> bool {
+// A run in stores of the record's sizes, the two of numbers with so many numbers more, filled as it says.
+fn record_right(record: &[u8], more: u32) -> bool {
     let old = old_number(record);
-    let fill = common::byte_at(record, FILL);
+    let fill = common::entry_or(record, FILL, 0);
     let mut nodes = [old; NODES];
     let mut hashes = [fill; HASHES];
     let mut cells = [fill; CELLS];
     let mut frames = [old; FRAMES];
     let mut answer = [fill; ANSWER];
-    let a = size(record, SIZES, odd, NODES);
-    let b = size(record, SIZES + 1, false, HASHES);
-    let c = size(record, SIZES + 2, false, CELLS);
-    let d = size(record, SIZES + 3, odd, FRAMES);
-    let e = size(record, SIZES + 4, false, ANSWER);
+    let a = size(record, SIZES, more, NODES);
+    let b = size(record, SIZES + 1, 0, HASHES);
+    let c = size(record, SIZES + 2, 0, CELLS);
+    let d = size(record, SIZES + 3, more, FRAMES);
+    let e = size(record, SIZES + 4, 0, ANSWER);
     run_right(
         record,
-        &mut nodes[0..a],
-        &mut hashes[0..b],
-        &mut cells[0..c],
-        &mut frames[0..d],
-        &mut answer[0..e],
+        &mut nodes[..a],
+        &mut hashes[..b],
+        &mut cells[..c],
+        &mut frames[..d],
+        &mut answer[..e],
     )
 }
 
 // The same, and a record that is wrong is named.
-fn right(rt: &impl Print, record: &[u8], odd: bool) -> io::Result<bool> {
-    if record_right(record, odd) {
-        return Ok(true);
+fn right(rt: &impl Print, record: &[u8], more: u32) -> io::Result<bool> {
+    let fine = record_right(record, more);
+    if !fine {
+        packed::print_wrong(rt, part(record, NAME))?;
     }
-    packed::print_wrong(rt, part(record, NAME))?;
-    Ok(false)
+    Ok(fine)
 }
 
-// The records of a file, counted on.
-fn replay(rt: &impl Print, file: &[u8], odd: bool, before: Tally) -> io::Result<Tally> {
-    let mut t = before;
-    let mut rest = file;
-    while 0 < rest.len() {
-        let fine = right(rt, packed::first_record(rest), odd)?;
-        t = packed::counted(t, fine);
-        let next = packed::after_first(rest);
-        rest = next;
-    }
-    Ok(t)
-}
-
-// The same of the file at a path.
-fn replay_file(
-    rt: &(impl Files + Print),
-    path: &str,
-    odd: bool,
-    before: Tally,
-) -> io::Result<Tally> {
-    let mut file = [0u8; packed::FILE_BYTES];
-    let n = packed::read_file(rt, path, &mut file)?;
-    replay(rt, &file[..n], odd, before)
-}
-
-// The tally of each list, whose files' names end in 0, 1 and so on.
-fn replay_known(rt: &(impl Files + Print)) -> io::Result<()> {
-    let none = Tally { count: 0, wrong: 0 };
-    let mut t = replay_file(rt, "known0", false, none)?;
-    t = replay_file(rt, "known1", false, t)?;
-    packed::print_tally(rt, b"known", t)
-}
-
-fn replay_edges(rt: &(impl Files + Print)) -> io::Result<()> {
-    let none = Tally { count: 0, wrong: 0 };
-    let mut t = replay_file(rt, "edges0", false, none)?;
-    t = replay_file(rt, "edges1", false, t)?;
-    t = replay_file(rt, "edges2", false, t)?;
-    t = replay_file(rt, "edges3", false, t)?;
-    t = replay_file(rt, "edges4", false, t)?;
-    t = replay_file(rt, "edges5", false, t)?;
-    packed::print_tally(rt, b"edges", t)
-}
-
-fn replay_random(rt: &(impl Files + Print)) -> io::Result<()> {
-    let none = Tally { count: 0, wrong: 0 };
-    let mut t = replay_file(rt, "random0", false, none)?;
-    t = replay_file(rt, "random1", false, t)?;
-    t = replay_file(rt, "random2", false, t)?;
-    t = replay_file(rt, "random3", false, t)?;
-    t = replay_file(rt, "random4", false, t)?;
-    t = replay_file(rt, "random5", false, t)?;
-    t = replay_file(rt, "random6", false, t)?;
-    packed::print_tally(rt, b"random", t)
-}
-
-fn replay_bounds(rt: &(impl Files + Print)) -> io::Result<()> {
-    let none = Tally { count: 0, wrong: 0 };
-    let mut t = replay_file(rt, "bounds0", false, none)?;
-    t = replay_file(rt, "bounds1", false, t)?;
-    packed::print_tally(rt, b"bounds", t)
-}
-
-fn replay_stores(rt: &(impl Files + Print), what: &[u8], odd: bool) -> io::Result<()> {
-    let none = Tally { count: 0, wrong: 0 };
-    let mut t = replay_file(rt, "stores0", odd, none)?;
-    t = replay_file(rt, "stores1", odd, t)?;
-    t = replay_file(rt, "stores2", odd, t)?;
-    t = replay_file(rt, "stores3", odd, t)?;
-    packed::print_tally(rt, what, t)
-}
-
-fn replay_outputs(rt: &(impl Files + Print)) -> io::Result<()> {
-    let none = Tally { count: 0, wrong: 0 };
-    let mut t = replay_file(rt, "outputs0", false, none)?;
-    t = replay_file(rt, "outputs1", false, t)?;
-    t = replay_file(rt, "outputs2", false, t)?;
-    packed::print_tally(rt, b"outputs", t)
-}
-
-fn replay_lengths(rt: &(impl Files + Print)) -> io::Result<()> {
-    let t = replay_file(rt, "lengths0", false, Tally { count: 0, wrong: 0 })?;
-    packed::print_tally(rt, b"lengths", t)
+// The tally of a list of dossiers, which stands in files, printed under its name.
+fn replay(rt: &(impl Files + Print), what: &[u8], paths: &[&str], more: u32) -> io::Result<()> {
+    let tally = packed::replay(rt, paths, |record| right(rt, record, more))?;
+    packed::print_tally(rt, what, tally)
 }
 
 fn main(rt: HostRuntime) -> io::Result<()> {
-    replay_known(&rt)?;
-    replay_edges(&rt)?;
-    replay_random(&rt)?;
-    replay_bounds(&rt)?;
-    replay_stores(&rt, b"stores", false)?;
-    replay_stores(&rt, b"stores with odd numbers more", true)?;
-    replay_lengths(&rt)?;
-    replay_outputs(&rt)
+    let edges = ["edges0", "edges1", "edges2", "edges3", "edges4", "edges5"];
+    let random = [
+        "random0", "random1", "random2", "random3", "random4", "random5", "random6",
+    ];
+    let stores = ["stores0", "stores1", "stores2", "stores3"];
+    replay(&rt, b"known", &["known0", "known1"], 0)?;
+    replay(&rt, b"edges", &edges, 0)?;
+    replay(&rt, b"random", &random, 0)?;
+    replay(&rt, b"bounds", &["bounds0", "bounds1"], 0)?;
+    replay(&rt, b"stores", &stores, 0)?;
+    replay(&rt, b"stores with odd numbers more", &stores, 2)?;
+    replay(&rt, b"lengths", &["lengths0"], 0)?;
+    replay(&rt, b"outputs", &["outputs0", "outputs1", "outputs2"], 0)
 }

@@ -5,11 +5,9 @@
 
 ghost use Rattle.std.specs.Prelude.{◌<◌};
 
-use packed::Tally;
+use refusal::Refusal;
 use std::io;
-use std::rt::Files;
-use types::TypeAnswer;
-use value::{ValueRead, ValueWritten};
+use value::Shapes;
 
 // The parts of a record, each by the number that is its size, and how many numbers a record has. The second is a table's widths and
 // entries, or a value's stream.
@@ -39,196 +37,119 @@ fn part(record: &[u8], k: u32) -> &[u8] {
 }
 
 // Whether the answer is the record's: its numbers 0 and 1 are a refusal's number and place, or 0 and the count of records.
-fn answer_right(record: &[u8], answer: TypeAnswer) -> bool {
+fn answer_right(record: &[u8], answer: Result<usize, Refusal>) -> bool {
     match answer {
-        TypeAnswer::Records(count) => number(record, 0) == 0 && count == number(record, 1),
-        TypeAnswer::Refused(why) => packed::tells(
-            record,
-            refusal::number(why),
-            refusal::place(why),
-        ),
+        Ok(count) => number(record, 0) == 0 && count == number(record, 1),
+        Err(why) => packed::tells_refusal(record, why),
     }
 }
 
 // Whether widths and entries are those of the second part, four bytes each, and 0 past its end.
-fn entries_right<'a>(record: &[u8], widths: &'a [u32], next: &'a [u16]) -> bool {
+fn entries_right(record: &[u8], widths: &[u32], next: &[u16]) -> bool {
     let entries = part(record, SECOND);
-    let mut k: usize = 0;
-    while k < limits::TYPE_COUNT {
-        if types::width_at(widths, k) != common::half_at(entries, 4 * k) as u32 {
-            return false;
-        }
-        if types::next_at(next, k) != common::half_at(entries, 4 * k + 2) {
-            return false;
-        }
-        k += 1;
-    }
-    true
+    (0..limits::TYPE_COUNT).all(|k| {
+        common::entry_or(widths, k, 0) == u32::from(common::half_at(entries, 4 * k))
+            && common::entry_or(next, k, 0) == common::half_at(entries, 4 * k + 2)
+    })
 }
 
+// Whether the check of a record's table answers and leaves what the record says.
 fn table_right(record: &[u8]) -> bool {
     let t = types::check_types(part(record, TABLE));
-    let answer = t.answer;
-    if !answer_right(record, answer) {
-        return false;
-    }
-    entries_right(record, &t.widths, &t.next)
+    answer_right(record, t.answer) && entries_right(record, &t.widths, &t.next)
 }
 
 // Whether skipping ends where the record says: at its number 4, or short where its number 0 is 1.
 // Where that is 3 the value ends after the bits that count, which are those before number 3.
-fn skip_right<'a>(record: &[u8], widths: &'a [u32], next: &'a [u16]) -> bool {
+fn skip_right(record: &[u8], shapes: &Shapes<'_>) -> bool {
     let i = number(record, 1);
     let p = number(record, 2);
-    let ValueRead::Next(end) = value::skip(
-        part(record, TABLE),
-        widths,
-        next,
-        i,
-        part(record, SECOND),
-        p,
-    ) else {
-        return number(record, 0) == 1;
-    };
-    if end != number(record, 4) {
-        return false;
-    }
-    if number(record, 0) == 3 {
-        number(record, 3) < end
-    } else {
-        end <= number(record, 3)
+    match value::skip(shapes, i, part(record, SECOND), p) {
+        Some(end) => {
+            end == number(record, 4) && (number(record, 3) < end) == (number(record, 0) == 3)
+        }
+        None => number(record, 0) == 1,
     }
 }
 
 // Whether padding says and leaves what the record says.
-fn pad_right<'a>(record: &[u8], widths: &'a [u32], next: &'a [u16], cells: &mut [u8]) -> bool {
+fn pad_right(record: &[u8], shapes: &Shapes<'_>, cells: &mut [u8]) -> bool {
     let i = number(record, 1);
     let p = number(record, 2);
     let at = packed::number(record, 5);
-    let said = value::pad(
-        part(record, TABLE),
-        widths,
-        next,
-        i,
-        part(record, SECOND),
-        p,
-        cells,
-        at,
-    );
+    let said = value::pad(shapes, i, part(record, SECOND), p, cells, at);
     if !check::same(cells, part(record, CELLS)) {
         return false;
     }
     match said {
-        ValueRead::Next(end) => number(record, 0) == 0 && end == number(record, 4),
-        ValueRead::Short => number(record, 0) != 0,
+        Some(end) => number(record, 0) == 0 && end == number(record, 4),
+        None => number(record, 0) != 0,
     }
 }
 
 // Whether unpadding says and leaves what the record says.
-fn unpad_right<'a>(
-    record: &[u8],
-    widths: &'a [u32],
-    next: &'a [u16],
-    cells: &[u8],
-    answer: &mut [u8],
-) -> bool {
+fn unpad_right(record: &[u8], shapes: &Shapes<'_>, cells: &[u8], answer: &mut [u8]) -> bool {
     let i = number(record, 1);
     let at = packed::number(record, 5);
     let q = packed::number(record, 6);
-    let said = value::unpad(part(record, TABLE), widths, next, i, cells, at, answer, q);
+    let said = value::unpad(shapes, i, cells, at, answer, q);
     if !check::same(answer, part(record, ANSWER)) {
         return false;
     }
     match said {
-        ValueWritten::Bits(count) => {
+        Some(count) => {
             number(record, 0) == 0 && number(record, 2) + count as usize == number(record, 4)
         }
-        ValueWritten::Short => number(record, 0) != 0,
+        None => number(record, 0) != 0,
     }
 }
 
 // Padding into one store, and unpadding from it into another. Where bits are too few there is nothing to unpad.
-fn round_trip_right<'a>(
+fn round_trip_right(
     record: &[u8],
-    widths: &'a [u32],
-    next: &'a [u16],
+    shapes: &Shapes<'_>,
     cells: &mut [u8],
     answer: &mut [u8],
 ) -> bool {
-    if !pad_right(record, widths, next, cells) {
-        return false;
-    }
-    if number(record, 0) == 1 {
-        return true;
-    }
-    unpad_right(record, widths, next, cells, answer)
+    pad_right(record, shapes, cells)
+        && (number(record, 0) == 1 || unpad_right(record, shapes, cells, answer))
 }
 
 // The same on stores of the record's sizes, filled with the byte that ends its number 7.
-fn stores_right<'a>(record: &[u8], widths: &'a [u32], next: &'a [u16]) -> bool {
+fn stores_right(record: &[u8], shapes: &Shapes<'_>) -> bool {
     let n = part(record, CELLS).len();
     let m = part(record, ANSWER).len();
-    if MOST < n {
+    if MOST < n || MOST < m {
         return false;
     }
-    if MOST < m {
-        return false;
-    }
-    let fill = common::byte_at(record, 31);
+    let fill = common::entry_or(record, 31, 0);
     let mut cells = [fill; MOST];
     let mut answer = [fill; MOST];
-    round_trip_right(record, widths, next, &mut cells[0..n], &mut answer[0..m])
+    round_trip_right(record, shapes, &mut cells[0..n], &mut answer[0..m])
 }
 
+// Whether a record's type has the width that it says, and its value is read and written as it says.
 fn value_right(record: &[u8]) -> bool {
     let t = types::check_types(part(record, TABLE));
-    if types::width_at(&t.widths, number(record, 1)) as usize != number(record, 8) {
-        return false;
-    }
-    if !skip_right(record, &t.widths, &t.next) {
-        return false;
-    }
-    if number(record, 0) == 3 {
-        return true;
-    }
-    stores_right(record, &t.widths, &t.next)
+    let shapes = Shapes {
+        types: part(record, TABLE),
+        widths: &t.widths,
+        next: &t.next,
+    };
+    let width = common::entry_or(shapes.widths, number(record, 1), 0);
+    width as usize == number(record, 8)
+        && skip_right(record, &shapes)
+        && (number(record, 0) == 3 || stores_right(record, &shapes))
 }
 
-// Whether a record is right, of a table or of a value. One that is cut off is wrong.
-fn right(record: &[u8], tables: bool) -> bool {
-    if record.len() == 0 {
-        return false;
-    }
-    if tables {
-        return table_right(record);
-    }
-    value_right(record)
-}
-
-// The records of a file, counted on.
-fn replay(file: &[u8], tables: bool, before: Tally) -> Tally {
-    let mut t = before;
-    let mut rest = file;
-    while 0 < rest.len() {
-        t = packed::counted(t, right(packed::first_record(rest), tables));
-        let next = packed::after_first(rest);
-        rest = next;
-    }
-    t
-}
-
-// The same of the file at a path.
-fn replay_file(rt: &impl Files, path: &str, tables: bool, before: Tally) -> io::Result<Tally> {
-    let mut file = [0u8; packed::FILE_BYTES];
-    let n = packed::read_file(rt, path, &mut file)?;
-    Ok(replay(&file[..n], tables, before))
-}
-
+// A record that is cut off is empty, and wrong.
 fn main(rt: HostRuntime) -> io::Result<()> {
-    let none = Tally { count: 0, wrong: 0 };
-    let mut t = replay_file(&rt, "tables0", true, none)?;
-    packed::print_tally(&rt, b"tables", t)?;
-    t = replay_file(&rt, "values0", false, none)?;
-    t = replay_file(&rt, "values1", false, t)?;
-    packed::print_tally(&rt, b"values", t)
+    let tables = packed::replay(&rt, &["tables0"], |record| {
+        Ok(!record.is_empty() && table_right(record))
+    })?;
+    packed::print_tally(&rt, b"tables", tables)?;
+    let values = packed::replay(&rt, &["values0", "values1"], |record| {
+        Ok(!record.is_empty() && value_right(record))
+    })?;
+    packed::print_tally(&rt, b"values", values)
 }

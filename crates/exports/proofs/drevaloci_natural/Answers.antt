@@ -6,16 +6,14 @@ use Rattle.bititer.proofs.Naturals.{natural_inside}
 use mathlib.Core.Path.{sym, ap, ◌∙◌}
 use Rattle.exports.proofs.drevaloci_natural.Goals as goal
 
-pub overflow_add-end : goal.overflow_add-end
-overflow_add-end c =
+pub overflow_add-next : goal.overflow_add-next
+overflow_add-next c =
     let a = c.args in
-    let read = sym (ap (got_natural a.at) c.in-Read.is) ∙ c.natural-said.ensures in
+    let read = sym (ap (got_natural a.at) c.in-Ok.is) ∙ c.natural.ensures in
     omega (arith, natural_inside a.bytes.now a.bound a.at _ _ (sym read))
 
-pub returns-in-Read : goal.returns-in-Read
-returns-in-Read c = natural_told c.natural-said.result _ _ c.natural-said.ensures _ _ c.in-Read.is
+pub returns-in-Ok : goal.returns-in-Ok
+returns-in-Ok c = natural_told c.natural.result _ _ c.natural.ensures _ _ c.in-Ok.is
 
-pub returns-in-Fault : goal.returns-in-Fault
-returns-in-Fault c =
-    fault_told c.natural-said.result _ _ c.natural-said.ensures _
-    c.in-Fault.is _ c.fault_code.ensures
+pub returns-in-Err : goal.returns-in-Err
+returns-in-Err c = fault_told c.natural.result _ _ c.natural.ensures _ c.in-Err.is _ c.fault_code.ensures

@@ -1,8 +1,6 @@
 -- `frame::put_record` meets its contract.
 use mathlib.Core.Path.{◌∙◌}
 use Prim.Native.Nat.{◌*◌}
-use native.Mathlib.Omega.{arith}
-use lib.ListN.{length-set}
 use Rattle.limits.specs.Limits.{frame_numbers}
 use Rattle.frame.specs.Cursor.{frame_of}
 use Rattle.frame.proofs.Records.{numbers_set, put_in, put_past}
@@ -10,12 +8,6 @@ use Rattle.frame.proofs.put_record.Goals as goal
 
 pub returns-then-frames-k : goal.returns-then-frames-k
 returns-then-frames-k c = put_past _ _ (frame_of c.args.f) c.if-frames-k.true
-
-pub bounds-frames-at-2 : goal.bounds-frames-at-2
-bounds-frames-at-2 c = simp length-set (omega arith)
-
-pub bounds-frames-at-3 : goal.bounds-frames-at-3
-bounds-frames-at-3 c = simp length-set (omega arith)
 
 pub returns : goal.returns
 returns c =

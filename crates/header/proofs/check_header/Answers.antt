@@ -1,39 +1,19 @@
 -- `header::check_header` meets its contract: too short, too long, and the first wrong number.
-use mathlib.Core.Path.{sym, ◌∙◌}
+use mathlib.Core.Path.{sym}
 use native.Mathlib.Omega.{arith}
-use Rattle.scope.specs.Header.{header_rule}
-use Rattle.common.specs.Checks.{first_before}
 use Rattle.header.proofs.Rules.{too_short, too_long_lem, judged_wrong, judged_right}
 use Rattle.header.proofs.check_header.Goals as goal
+use Rattle.header.proofs.check_header.Goals.{then-dossier-lt-HEADER_BYTES-via-then-dossier-lt-HEADER_BYTES, then-dossier-lt-HEADER_BYTES-via-else-dossier-lt-HEADER_BYTES+then-dossier-gt-DOSSIER_BYTES}
 
 pub returns-then-dossier-lt-HEADER_BYTES : goal.returns-then-dossier-lt-HEADER_BYTES
-returns-then-dossier-lt-HEADER_BYTES c = sym (too_short _ c.if-dossier-lt-HEADER_BYTES.true)
+returns-then-dossier-lt-HEADER_BYTES c =
+    elim c.then-dossier-lt-HEADER_BYTES.branch [
+      | then-dossier-lt-HEADER_BYTES-via-then-dossier-lt-HEADER_BYTES w ↦ sym (too_short _ w.if-dossier-lt-HEADER_BYTES.true)
+      | then-dossier-lt-HEADER_BYTES-via-else-dossier-lt-HEADER_BYTES+then-dossier-gt-DOSSIER_BYTES w ↦ sym (too_long_lem _ w.if-dossier-gt-DOSSIER_BYTES.true)
+    ]
 
-pub returns-then-dossier-gt-DOSSIER_BYTES : goal.returns-then-dossier-gt-DOSSIER_BYTES
-returns-then-dossier-gt-DOSSIER_BYTES c = sym (too_long_lem _ c.if-dossier-gt-DOSSIER_BYTES.true)
+pub returns-in-Some : goal.returns-in-Some
+returns-in-Some c = sym (judged_wrong _ c.if-dossier-lt-HEADER_BYTES.false c.if-dossier-gt-DOSSIER_BYTES.false _ c.in-Some.ensures.0 (omega (arith, c.in-Some.ensures)))
 
-pub overflow_cast-result : goal.overflow_cast-result
-overflow_cast-result c =
-    record {
-      fits = omega (
-        arith,
-        c.first_wrong-j.ensures,
-        first_before (header_rule c.args.dossier.now) 14 0,
-      );
-    }
-
-pub overflow_mul-result : goal.overflow_mul-result
-overflow_mul-result c =
-    record {
-      fits = omega (
-        arith,
-        c.first_wrong-j.ensures,
-        first_before (header_rule c.args.dossier.now) 14 0,
-      );
-    }
-
-pub returns-then-j-eq-NUMBERS : goal.returns-then-j-eq-NUMBERS
-returns-then-j-eq-NUMBERS c = sym (judged_right _ c.if-dossier-lt-HEADER_BYTES.false c.if-dossier-gt-DOSSIER_BYTES.false (sym c.first_wrong-j.ensures ∙ c.if-j-eq-NUMBERS.true))
-
-pub returns-else-j-eq-NUMBERS : goal.returns-else-j-eq-NUMBERS
-returns-else-j-eq-NUMBERS c = sym (judged_wrong _ c.if-dossier-lt-HEADER_BYTES.false c.if-dossier-gt-DOSSIER_BYTES.false _ c.first_wrong-j.ensures c.if-j-eq-NUMBERS.false)
+pub returns-in-None : goal.returns-in-None
+returns-in-None c = sym (judged_right _ c.if-dossier-lt-HEADER_BYTES.false c.if-dossier-gt-DOSSIER_BYTES.false c.in-None.ensures)

@@ -1,5 +1,5 @@
 -- `header::start` meets its contract: the loop carries where section j has to start.
-use mathlib.Core.Path.{◌≡◌, refl, ap, ◌∙◌}
+use mathlib.Core.Path.{refl}
 use borrow.Author.Rules.{rules}
 use Rattle.scope.specs.Header as Header
 use Rattle.header.proofs.Rules.{next_start}
@@ -7,18 +7,9 @@ use Rattle.header.proofs.start.Goals as goal
 
 pub loop-j-init : goal.loop-j-init
 unfolding Header.start
-loop-j-init c = (refl, search rules, search rules)
+loop-j-init c = (refl, search rules)
 
 pub loop-j-preserved : goal.loop-j-preserved
 loop-j-preserved c =
-    let d = c.args.dossier.now in
     let l = c.loop-j in
-    (next_start d l.j l.place c.size-place.result l.invariant.0 c.size-place.ensures.0, search rules, search rules)
-
-pub returns : goal.returns
-returns c =
-    let d = c.args.dossier.now in
-    let l = c.loop-j in
-    let most = c.requires in
-    let e : l.j ≡ c.args.k = search rules in
-    (l.invariant.0 ∙ ap (Header.start d) e, search rules)
+    (next_start c.args.dossier.now l.j l.place c.size-place.result l.invariant.0 c.size-place.ensures.0, search rules)

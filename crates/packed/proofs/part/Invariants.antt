@@ -4,7 +4,4 @@ use Rattle.packed.specs.Records.{after_parts}
 use Rattle.packed.proofs.part.Given as goal
 
 abbrev pub invariant-loop-j : goal.invariant-loop-j
-invariant-loop-j l = (l.initial.j ≡ l.first) × (after_parts l.«record» l.first (l.k - l.first) l.initial.rest ≡ after_parts l.«record» l.j (l.k - l.j) l.rest)
-
-abbrev pub decreases-loop-j : goal.decreases-loop-j
-decreases-loop-j l = l.k - l.j
+invariant-loop-j l = after_parts l.«record» l.first (l.k - l.first) l.initial.rest ≡ after_parts l.«record» l.j (l.k - l.j) l.rest

@@ -1,9 +1,0 @@
--- Each turn takes a record off the file.
-use lib.ListN.{length}
-use Rattle.bititer_test.proofs.replay.Given as goal
-
-abbrev pub invariant-loop-rest : goal.invariant-loop-rest
-invariant-loop-rest l = Unit {0}
-
-abbrev pub decreases-loop-rest : goal.decreases-loop-rest
-decreases-loop-rest l = length l.rest
