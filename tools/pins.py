@@ -4,7 +4,8 @@
     python3 tools/pins.py        from the repository's root
 
 For each crate: its `pub fn`, and which of them have a pin, `pub NAME : ..` in proofs/Pins.antt, and a row in docs/PROMISES.md.
-A pin has the call's name, with - or _ in it, and `_lem` after it where a definition has that name; its type's name may stand before it.
+A pin has the call's name, with - or _ in it, and `_lem` after it where a definition has that name. Where a call belongs to a type, the
+type's name or another word may stand before it, and of pins with such names its own is the one that names its promise.
 It is stated over its call's own promise, the generated `Post`, and by `OneOutcome` where the call is lent anything to write.
 The pin of a call that moves a frame in place names the generated `clauses` and what they ensure.
 Exits 1 if a call lacks its pin or its row, if the call of a pin or of a row is gone, or if a pin does not name its call's promise.
@@ -18,11 +19,11 @@ CALL = re.compile(r'^\s*pub (?:extern "C" )?fn (\w+)(.*?)(?=\n\s*(?:requires|ens
 PIN = re.compile(r"^\s*pub ([^\s:]+) :(.*?)(?=^\s*(?:unfolding\b|\1\s))", re.M | re.S)
 USE = re.compile(r"^use Rattle\.\w+\.(?:proofs|specs\.contracts)\.(\S+) as (\S+)$", re.M)
 ROW = re.compile(r"^\| `(\w+(?:::\w+)+)", re.M)
-IMPL = re.compile(r"^impl (\w+)", re.M)
+IMPL = re.compile(r"^impl(?:<[^>]*>)? (?:.* for )?(\w+)", re.M)
 # Lines of Pins.antt that are no call's pin: what tells two answers apart.
 TELLS = re.compile(r"[-_]tells$")
 # Calls that promise nothing of what they print or read: what is printed is no result, and no promise can say what a file holds.
-SILENT = ("packed::print_wrong", "packed::print_tally", "packed::read_file")
+SILENT = ("packed::print_wrong", "packed::print_tally", "packed::read_file", "packed::replay")
 # A static library, and the library whose calls it exports. An export has the parameters and the clauses of its call, so that call's pin and row are its own.
 EXPORTED = {"exports_c": "exports"}
 # What stands between a function's name and its body.
@@ -54,10 +55,14 @@ def pins(crate):
     return dict(PIN.findall(source)), {name: module for module, name in USE.findall(source)}
 
 
-def pin_of(call, held):
-    """The pin of a call among those that are held, or None."""
+def pin_of(call, held, named):
+    """The pin of a call among those that are held, or None. `named` tells whether a pin names the call's promise."""
     name, owned = call.split("::")[-1], call.lower().replace("::", "_")
-    return next((pin for wanted in (owned, name) for pin in held if pin.replace("-", "_") in (wanted, wanted + "_lem")), None)
+    plain = {pin: pin.replace("-", "_").removesuffix("_lem") for pin in held}
+    found = [pin for wanted in (owned, name) for pin in held if plain[pin] == wanted]
+    if "::" in call:
+        found += [pin for pin in held if plain[pin].endswith("_" + name) and pin not in found]
+    return next(filter(named, found), found[0] if found else None)
 
 
 def says(call, by_hand, stated, modules):
@@ -71,7 +76,9 @@ def faults_of(crate, name, rows):
     held, modules = pins(crate)
     found, used, faults = list(calls(crate)), set(), []
     for call, parameters in found:
-        full, pin = f"{name}::{call}", pin_of(call, held)
+        full = f"{name}::{call}"
+        by_hand = full in BY_CLAUSES
+        pin = pin_of(call, held, lambda pin: says(call, by_hand, held[pin], modules))
         used.add(pin)
         if full not in rows:
             faults.append(f"no row: {call}")
@@ -79,9 +86,9 @@ def faults_of(crate, name, rows):
             continue
         if pin is None:
             faults.append(f"no pin: {call}")
-        elif not says(call, full in BY_CLAUSES, held[pin], modules):
+        elif not says(call, by_hand, held[pin], modules):
             faults.append(f"pin that does not name its call's promise: {pin}")
-        elif "&mut" in parameters and full not in BY_CLAUSES and "OneOutcome" not in held[pin]:
+        elif "&mut" in parameters and not by_hand and "OneOutcome" not in held[pin]:
             faults.append(f"pin that leaves out what was lent to be written: {pin}")
     faults += [f"pin of no call: {pin}" for pin in sorted(set(held) - used) if not TELLS.search(pin)]
     return found, len(used - {None}), faults
