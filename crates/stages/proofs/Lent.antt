@@ -21,12 +21,12 @@ use Rattle.scope.specs.Hashes.{check_hashes}
 use Rattle.scope.specs.Run.{check_tables}
 use Rattle.scope.specs.Stages.{counted, record_rule, check_records, lent_tables, tables_lent, arrow_stage, hash_stage}
 use Rattle.common.specs.Checks.{both_passed, require_holds, each_holds, then_then, stops, passes}
+use Rattle.common.specs.Answers.{check_of}
 use Rattle.std.specs.Prelude.{Result, Ok, Err, IsErrAnd}
 use Rattle.std.proofs.lemmas.Result.{err_from_is_err_and}
 use Rattle.types.specs.Table.{without_count, counted_types, type_table}
 use Rattle.types.specs.declared.TypeTable.{TypeTable}
 use Rattle.types.proofs.Check.{answer_says}
-use Rattle.stages.specs.Answers.{verdict_of}
 use Rattle.table.specs.Lent.{lent_nodes}
 use Rattle.table.specs.Stage.{counted_records, counted_walk}
 use Rattle.table.proofs.AnyBits.{walk_any_bits}
@@ -37,9 +37,9 @@ use Rattle.hashes.specs.Hashes.{counted_hashes}
 use Rattle.hashes.proofs.Entries.{hashes_alike}
 
 -- a refusal that `?` hands on is the verdict
-pub verdict_stands : {m : Check (Unit {0})} {why : Refusal} (handed : Result TypeTable Refusal)
-    → refused why ≡ m → IsErrAnd handed (λ other. other ≡ why) → verdict_of handed ≡ m
-verdict_stands handed e said = let p = err_from_is_err_and handed said in ap verdict_of p.1 ∙ ap refused p.2 ∙ e
+pub verdict_stands : {m : Check (Unit {0})} {why : Refusal} (handed : Result (Unit {0}) Refusal)
+    → refused why ≡ m → IsErrAnd handed (λ other. other ≡ why) → check_of handed ≡ m
+verdict_stands handed e said = let p = err_from_is_err_and handed said in ap check_of p.1 ∙ ap refused p.2 ∙ e
 
 module _ (types nodes program hashes : List ℕ) where
   -- what is left of the checks from the types' rules on, from the program's length, from the records, from the types' count

@@ -1,5 +1,5 @@
 -- `analysis::bounds_stage` meets its contract: a refusal up to the arrows is the answer, and else what the pass judges is the program of the tables.
-use mathlib.Core.Path.{sym, ap, ◌∙◌}
+use mathlib.Core.Path.{refl, sym, ap, ◌∙◌}
 use Rattle.types.specs.Table.{type_table}
 use Rattle.types.specs.declared.TypeTable.{TypeTable}
 use Rattle.common.specs.Checks.{then_refuses}
@@ -11,7 +11,7 @@ use Rattle.analysis.proofs.bounds_stage.Goals as goal
 pub returns-in_err-table : goal.returns-in_err-table
 returns-in_err-table c =
     let args = c.args.tables.now in
-    ap bounded_of (handed_on c.from_residual.result c.in_err-table.was c.from_residual.ensures.1)
+    ap bounded_of (handed_on {X = TypeTable} c.from_residual.result refl c.from_residual.ensures.1)
     ∙ sym (then_refuses _ _ _ (sym c.in_err-table.ensures.verdict))
     ∙ stage_by args.types.now args.nodes.now args.arrows.now args.program.now args.hashes.now
 

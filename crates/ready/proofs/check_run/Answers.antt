@@ -1,8 +1,9 @@
 -- `ready::check_run` meets its contract: tables that are refused, and else what follows them.
-use mathlib.Core.Path.{sym, ap, ◌∙◌}
+use mathlib.Core.Path.{refl, sym, ap, ◌∙◌}
 use Rattle.common.specs.Answers.{handed_on}
 use Rattle.stages.specs.Answers.{verdict_of}
 use Rattle.types.specs.Table.{type_widths, type_next}
+use Rattle.types.specs.declared.TypeTable.{TypeTable}
 use Rattle.ready.proofs.Checked.{types_counted}
 use Rattle.ready.proofs.Answered.{tables-refused}
 use Rattle.ready.proofs.Shown.{types_shown, nodes_counted}
@@ -12,7 +13,7 @@ pub returns-in_err-checked : goal.returns-in_err-checked
 returns-in_err-checked c =
     let a = c.args in
     let t = a.tables.now in
-    handed_on c.from_residual.result c.in_err-checked.was c.from_residual.ensures.1
+    handed_on {X = TypeTable} c.from_residual.result refl c.from_residual.ensures.1
     ∙ tables-refused t.types.now t.nodes.now t.arrows.now t.program.now t.hashes.now a.given.now a.witness.now a.witness_bits
     a.input.now a.input_bits a.cells a.frames a.answer _
     (sym c.hash_tables.ensures.verdict ∙ ap verdict_of c.in_err-checked.was)
