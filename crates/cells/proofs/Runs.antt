@@ -1,4 +1,4 @@
--- Whole bytes in a run: the bits of a byte in its string, what a turn of the loop that copies bytes leaves, what bytes put at once leave,
+-- Whole bytes in a run: the bits of a byte in its string, what a turn of a loop that copies or puts bytes leaves, what bytes put at once leave,
 -- and what is left of the cells when all bytes that they fill are done.
 use mathlib.Core.Path.{◌≡◌, refl, ap, ap₂, sym, ◌∙◌}
 use mathlib.Core.List.{List, [], ◌∷◌, ◌++◌}
@@ -59,6 +59,14 @@ module _ (s : List ℕ) (b k i x : ℕ) (more : i < k) (inside : b + i < length 
       copy_step (bits_of s) (bits_of (set s (b + i) x)) (f + 8 * i) (8 * b + 8 * i) (8 * k - 8 * i) 8 (omega arith)
       (⊎_elim (λ h. inl (omega arith)) (λ h. inr (omega arith)) a) (stored ∙ ap (sets (bits_of s) (8 * b + 8 * i)) e)
       ∙ (λ j. copy_bits (bits_of (set s (b + i) x)) (next f j) (next (8 * b) j) (left j))
+
+  pub put_byte : (l : List ℕ) (p : ℕ) → byte_bits x ≡ bits_from l (p + 8 * i) 8
+      → sets (bits_of s) (8 * b + 8 * i) (bits_from l (p + 8 * i) (8 * k - 8 * i))
+      ≡ sets (bits_of (set s (b + i) x)) (8 * b + 8 * (i + 1)) (bits_from l (p + 8 * (i + 1)) (8 * k - 8 * (i + 1)))
+  put_byte l p e =
+      put_step (bits_of s) (bits_of (set s (b + i) x)) l (p + 8 * i) (8 * b + 8 * i) (8 * k - 8 * i) 8 (omega arith)
+      (stored ∙ ap (sets (bits_of s) (8 * b + 8 * i)) e)
+      ∙ (λ j. sets (bits_of (set s (b + i) x)) (next (8 * b) j) (bits_from l (next p j) (left j)))
 
 -- whole bytes put at once: the bits before them, theirs, and those behind them
 bits_front : (s : List ℕ) (b : ℕ) → b ≤ length s → take (8 * b) (bits_of s) ≡ bits_of (take b s)

@@ -92,7 +92,9 @@ fn put_bytes(source: &[u8], a: usize, k: usize, cells: &mut [u8], b: usize)
     requires { (a + k ≤ length source.now) × (b + k ≤ length cells.old) }
     ensures { bits_of cells.new ≡ sets (bits_of cells.old) (8 * b) (bits_from (bits_of source.now) (8 * a) (8 * k)) }
 {
-    cells[b..b + k].copy_from_slice(&source[a..a + k]);
+    for j in 0..k {
+        cells[b + j] = source[a + j];
+    }
 }
 
 // How many cells stand before the first byte that begins at p or behind it.

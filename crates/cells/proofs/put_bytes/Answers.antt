@@ -1,21 +1,27 @@
--- Whole bytes of a source put into the cells: the bits of a part of the source are a part of its bits.
-use mathlib.Core.Path.{◌≡◌, ap, ◌∙◌}
-use mathlib.Core.List.{List}
-use Prim.Native.Nat.{ℕ, ◌+◌, ◌*◌, ◌-◌}
-use native.Mathlib.Omega.{arith}
-use lib.ListN.{length, take, drop, length-drop}
-use lib.Seq.{sets, length-take-le}
+-- Whole bytes of a source put into the cells. The invariant: putting all k bytes into the old list is putting those left into the list as
+-- it is now, as bits.
+use Rattle.cells.proofs.Parts.{put_done}
+use Rattle.cells.proofs.Runs.{byte_bits_lem, put_byte}
+use Rattle.common.specs.Cells.{bits_from}
 use Rattle.report.specs.Bits.{bits_of}
-use Rattle.cells.proofs.Runs.{bytes_put, bits_of_part}
+use Prim.Native.Nat.{ℕ, ◌+◌, ◌*◌}
+use mathlib.Core.Path.{◌≡◌, ap, sym, ◌∙◌}
+use native.Mathlib.Omega.{arith}
 use Rattle.cells.proofs.put_bytes.Goals as goal
+
+pub loop-j-preserved : goal.loop-j-preserved
+loop-j-preserved c =
+    let a = c.args in
+    let l = c.loop-j in
+    let s = a.source.now in
+    let e : 8 * (a.a + l.j) ≡ 8 * a.a + 8 * l.j = omega arith in
+    l.invariant
+    ∙ put_byte l.cells a.b a.k l.j _ (omega arith) (omega arith) (bits_of s) (8 * a.a)
+    (byte_bits_lem s (a.a + l.j) ∙ ap (λ (q : ℕ). bits_from (bits_of s) q 8) e)
 
 pub returns : goal.returns
 returns c =
     let a = c.args in
-    let s = a.cells.now in
-    let from : List ℕ = take a.k (drop a.a a.source.now) in
-    let j : a.b + a.k - a.b ≡ a.k = omega arith in
-    let i : a.a + a.k - a.a ≡ a.k = omega arith in
-    let e = rw i at c.copy_from_slice.ensures.after in
-    let n : length from ≡ a.k = length-take-le a.k (drop a.a a.source.now) (omega (arith, length-drop a.a a.source.now)) in
-    rw (j, e) (bytes_put s from a.b a.k n (omega arith) ∙ ap (sets (bits_of s) (8 * a.b)) (bits_of_part a.source.now a.a a.k (omega arith)))
+    let l = c.loop-j in
+    let s = bits_of a.source.now in
+    sym (l.invariant ∙ put_done (bits_of l.cells) s (8 * a.a + 8 * l.j) (8 * a.b + 8 * l.j) (8 * a.k) (8 * l.j) (omega arith))
