@@ -54,7 +54,12 @@ fn answer<W: Write>(out: &mut W, dossier: &[u8]) -> io::Result<()> {
     );
     match said {
         Ok(count) => print_value(out, count, &answer),
-        Err(why) => writeln!(out, "refused {why}"),
+        Err(why) => writeln!(
+            out,
+            "refused {} {}",
+            refusal::number(why),
+            refusal::place(why)
+        ),
     }
 }
 
